@@ -1,0 +1,2 @@
+-- The three counts and how one becomes another.
+pub mod Counts

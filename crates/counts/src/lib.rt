@@ -1,0 +1,35 @@
+// Three counts that must not be mixed: a page number, a guest address and a descriptor number.
+// Each is a type of its own; only the functions here turn one into another.
+ghost use mathlib.Core.Path.{_≡_};
+ghost use Prim.Native.Nat.{_*_};
+ghost use Rattle.counts.specs.Counts.{addressOfPage, offsetOfDescriptor};
+
+// A page of 4,096 bytes of guest memory, as QUEUE_PFN names it.
+#[repr(C)]
+pub struct PageNumber(pub u32);
+
+// The place of a byte in guest memory.
+#[repr(C)]
+pub struct GuestAddress(pub u64);
+
+// The number of a descriptor in its table.
+#[repr(C)]
+pub struct DescriptorNumber(pub u16);
+
+impl PageNumber {
+    // The address of the page's first byte.
+    pub fn address(self) -> GuestAddress
+        ensures { λ r. ⌜ r ≡ addressOfPage self ⌝ }
+    {
+        GuestAddress(self.0 as u64 * 4096)
+    }
+}
+
+impl DescriptorNumber {
+    // How far the descriptor stands behind the start of its table.
+    pub fn offset(self) -> u64
+        ensures { λ r. ⌜ r ≡ offsetOfDescriptor self ⌝ }
+    {
+        self.0 as u64 * 16
+    }
+}

@@ -1,0 +1,2 @@
+-- Laws of numbers in memory.
+pub mod Laws

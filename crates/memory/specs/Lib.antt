@@ -1,0 +1,2 @@
+-- Guest memory as a list of bytes.
+pub mod Bytes

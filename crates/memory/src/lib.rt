@@ -1,0 +1,157 @@
+// Guest memory: a lent slice, address 0 first. Nothing here can be made to leave the slice: a byte
+// past its end reads as 0, and a write there changes nothing.
+ghost use mathlib.Core.Path.{_≡_};
+ghost use Prim.Native.Nat.{_+_, _≤_, _<_, _^_, min};
+ghost use lib.ListN.{length, getD};
+ghost use Rattle.memory.specs.Bytes.{le, put, insideOf};
+use counts::GuestAddress;
+
+// Whether `n` bytes at `at` lie inside `len` bytes of memory; no byte at all does at any address.
+pub fn inside(len: usize, at: GuestAddress, n: u64) -> bool
+    ensures { λ r. ⌜ r ≡ insideOf len (at .0) n ⌝ }
+{
+    let ram = len as u64;
+    let start = at.0;
+    if n == 0 {
+        return true;
+    }
+    if ram < n {
+        return false;
+    }
+    if start <= ram - n {
+        return true;
+    }
+    false
+}
+
+// The place in memory of the byte `offset` behind `base`, or the end where it lies past it.
+pub fn place(len: usize, base: GuestAddress, offset: u64) -> usize
+    ensures { λ r. ⌜ r ≡ min (base .0 + offset) len ⌝ }
+{
+    let ram = len as u64;
+    let start = base.0;
+    if ram <= start {
+        return len;
+    }
+    if ram - start <= offset {
+        return len;
+    }
+    (start + offset) as usize
+}
+
+fn wide(x: u8) -> u64
+    ensures { λ r. ⌜ (r ≡ x) × (r < 256) ⌝ }
+{
+    x as u64
+}
+
+// The byte `i` behind `at`.
+fn byte_behind(m: &[u8], at: usize, i: usize) -> u64
+    ensures { λ r. ⌜ (r ≡ getD (now (m .entry)) (at + i) 0) × (r < 256) ⌝ }
+{
+    if m.len() <= at {
+        return 0;
+    }
+    if m.len() - at <= i {
+        return 0;
+    }
+    wide(m[at + i])
+}
+
+// The number in `n` bytes at `at`, the lowest byte first.
+fn get(m: &[u8], at: usize, n: usize) -> u64
+    requires { ⌜ n ≤ 8 ⌝ }
+    ensures { λ r. ⌜ (r ≡ le n (now (m .entry)) at) × (r < 256 ^ n) ⌝ }
+{
+    let mut acc: u64 = 0;
+    let mut i = n;
+    while 0 < i {
+        i -= 1;
+        acc = byte_behind(m, at, i) + 256 * acc;
+    }
+    acc
+}
+
+// The lowest `n` bytes of `v`, stored at `at`, the lowest byte first.
+fn store(m: &mut [u8], at: usize, n: usize, v: u64)
+    ensures { λ r. ⌜ now (m .exit) ≡ put n (now (m .entry)) at v ⌝ }
+{
+    let mut a = at;
+    let mut left = n;
+    let mut x = v;
+    while 0 < left {
+        if m.len() <= a {
+            return;
+        }
+        m[a] = (x % 256) as u8;
+        a += 1;
+        x /= 256;
+        left -= 1;
+    }
+}
+
+// The same at `offset` behind `base`.
+fn get_behind(m: &[u8], base: GuestAddress, offset: u64, n: usize) -> u64
+    requires { ⌜ n ≤ 8 ⌝ }
+    ensures { λ r. ⌜ (r ≡ le n (now (m .entry)) (base .0 + offset)) × (r < 256 ^ n) ⌝ }
+{
+    let at = place(m.len(), base, offset);
+    get(m, at, n)
+}
+
+fn store_behind(m: &mut [u8], base: GuestAddress, offset: u64, n: usize, v: u64)
+    ensures { λ r. ⌜ now (m .exit) ≡ put n (now (m .entry)) (base .0 + offset) v ⌝ }
+{
+    let at = place(m.len(), base, offset);
+    store(m, at, n, v);
+}
+
+// The number of 1, 2, 4 or 8 bytes at `offset` behind `base`.
+pub fn get8(m: &[u8], base: GuestAddress, offset: u64) -> u8
+    ensures { λ r. ⌜ r ≡ le 1 (now (m .entry)) (base .0 + offset) ⌝ }
+{
+    get_behind(m, base, offset, 1) as u8
+}
+
+pub fn get16(m: &[u8], base: GuestAddress, offset: u64) -> u16
+    ensures { λ r. ⌜ r ≡ le 2 (now (m .entry)) (base .0 + offset) ⌝ }
+{
+    get_behind(m, base, offset, 2) as u16
+}
+
+pub fn get32(m: &[u8], base: GuestAddress, offset: u64) -> u32
+    ensures { λ r. ⌜ r ≡ le 4 (now (m .entry)) (base .0 + offset) ⌝ }
+{
+    get_behind(m, base, offset, 4) as u32
+}
+
+pub fn get64(m: &[u8], base: GuestAddress, offset: u64) -> u64
+    ensures { λ r. ⌜ r ≡ le 8 (now (m .entry)) (base .0 + offset) ⌝ }
+{
+    get_behind(m, base, offset, 8)
+}
+
+// `v`, stored in 1, 2, 4 or 8 bytes at `offset` behind `base`.
+pub fn put8(m: &mut [u8], base: GuestAddress, offset: u64, v: u8)
+    ensures { λ r. ⌜ now (m .exit) ≡ put 1 (now (m .entry)) (base .0 + offset) v ⌝ }
+{
+    store_behind(m, base, offset, 1, v as u64);
+}
+
+pub fn put16(m: &mut [u8], base: GuestAddress, offset: u64, v: u16)
+    ensures { λ r. ⌜ now (m .exit) ≡ put 2 (now (m .entry)) (base .0 + offset) v ⌝ }
+{
+    store_behind(m, base, offset, 2, v as u64);
+}
+
+pub fn put32(m: &mut [u8], base: GuestAddress, offset: u64, v: u32)
+    ensures { λ r. ⌜ now (m .exit) ≡ put 4 (now (m .entry)) (base .0 + offset) v ⌝ }
+{
+    store_behind(m, base, offset, 4, v as u64);
+}
+
+pub fn put64(m: &mut [u8], base: GuestAddress, offset: u64, v: u64)
+    ensures { λ r. ⌜ now (m .exit) ≡ put 8 (now (m .entry)) (base .0 + offset) v ⌝ }
+{
+    store_behind(m, base, offset, 8, v);
+}
