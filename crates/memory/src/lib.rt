@@ -90,6 +90,31 @@ fn store(m: &mut [u8], at: usize, n: usize, v: u64)
     }
 }
 
+// The number of 1, 2 or 4 bytes at `at` in a buffer, and one of 4 stored there.
+pub fn number8(s: &[u8], at: usize) -> u8
+    ensures { λ r. ⌜ r ≡ le 1 (now (s .entry)) at ⌝ }
+{
+    get(s, at, 1) as u8
+}
+
+pub fn number16(s: &[u8], at: usize) -> u16
+    ensures { λ r. ⌜ r ≡ le 2 (now (s .entry)) at ⌝ }
+{
+    get(s, at, 2) as u16
+}
+
+pub fn number32(s: &[u8], at: usize) -> u32
+    ensures { λ r. ⌜ r ≡ le 4 (now (s .entry)) at ⌝ }
+{
+    get(s, at, 4) as u32
+}
+
+pub fn set32(s: &mut [u8], at: usize, v: u32)
+    ensures { λ r. ⌜ now (s .exit) ≡ put 4 (now (s .entry)) at v ⌝ }
+{
+    store(s, at, 4, v as u64);
+}
+
 // The same at `offset` behind `base`.
 fn get_behind(m: &[u8], base: GuestAddress, offset: u64, n: usize) -> u64
     requires { ⌜ n ≤ 8 ⌝ }

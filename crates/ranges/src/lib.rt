@@ -27,7 +27,10 @@ impl Ranges {
         ensures { λ r. ⌜ r ≡ noRanges ⌝ }
     {
         Ranges {
-            list: [Range { at: GuestAddress(0), len: 0 }; 34],
+            list: [Range {
+                at: GuestAddress(0),
+                len: 0,
+            }; 34],
             count: 0,
             bytes: 0,
         }
