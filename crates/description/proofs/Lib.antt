@@ -1,0 +1,2 @@
+-- Laws of the judgement.
+pub mod Laws

@@ -1,0 +1,100 @@
+-- The tests stand in the definition's order; the counts are judged before the lists are gone through.
+use mathlib.Core.Path.{_∙_, sym}
+use Prim.Native.Nat.{_-_}
+use borrow.Author.Needs.{needs}
+use borrow.Author.Tests.{le-leb, lt-leb, eq-eqb, ne-eqb, not-true, not-false}
+use Rattle.description.specs.Lawful.{lawful, lawfulCounts}
+use Rattle.description.proofs.is_lawful.Statement.{statement}
+use Rattle.description.proofs.is_lawful.Tie as tie
+
+returns : tie.Need-returns
+unfolding lawful lawfulCounts
+returns c = rw (lt-leb _ _ (c .if1 .taken))
+
+returns-2 : tie.Need-returns-2
+unfolding lawful lawfulCounts
+returns-2 c = rw (le-leb _ _ (c .before .before .if1 .left), lt-leb _ _ (c .if2 .taken))
+
+returns-3 : tie.Need-returns-3
+unfolding lawful lawfulCounts
+returns-3 c = rw (le-leb _ _ (c .before .before .before .before .if1 .left), le-leb _ _ (c .before .before .if2 .left), ne-eqb _ _ (c .if3 .taken))
+
+returns-4 : tie.Need-returns-4
+unfolding lawful lawfulCounts
+returns-4 c = rw (le-leb _ _ (c .before .before .before .before .before .before .if1 .left), le-leb _ _ (c .before .before .before .before .if2 .left), eq-eqb _ _ (c .before .before .if3 .left), lt-leb _ _ (c .if4 .taken))
+
+cast-jacks-lawful : tie.Need-cast-jacks-lawful
+cast-jacks-lawful c = search needs
+
+jacks-lawful-requires : tie.Need-jacks-lawful-requires
+jacks-lawful-requires c κs = search needs
+
+returns-5 : tie.Need-returns-5
+unfolding lawful lawfulCounts
+returns-5 c =
+    rw (
+      le-leb _ _ (c .before .before .before .before .before .before .before .before .before .before .if1 .left),
+      le-leb _ _ (c .before .before .before .before .before .before .before .before .if2 .left),
+      eq-eqb _ _ (c .before .before .before .before .before .before .if3 .left),
+      le-leb _ _ (c .before .before .before .before .if4 .left),
+      sym (c .before .jacks-lawful .ensures) ∙ not-true _ (c .if5 .taken),
+    )
+
+cast-maps-lawful : tie.Need-cast-maps-lawful
+cast-maps-lawful c = search needs
+
+maps-lawful-requires : tie.Need-maps-lawful-requires
+maps-lawful-requires c κs = search needs
+
+returns-6 : tie.Need-returns-6
+unfolding lawful lawfulCounts
+returns-6 c =
+    rw (
+      le-leb _ _ (c .before .before .before .before .before .before .before .before .before .before .before .before .before .before .if1 .left),
+      le-leb _ _ (c .before .before .before .before .before .before .before .before .before .before .before .before .if2 .left),
+      eq-eqb _ _ (c .before .before .before .before .before .before .before .before .before .before .if3 .left),
+      le-leb _ _ (c .before .before .before .before .before .before .before .before .if4 .left),
+      sym (c .before .before .before .before .before .jacks-lawful .ensures) ∙ not-false _ (c .before .before .before .before .if5 .left),
+      sym (c .before .maps-lawful .ensures) ∙ not-true _ (c .if6 .taken),
+    )
+
+add-streams-lawful : tie.Need-add-streams-lawful
+add-streams-lawful c = search needs
+
+cast-streams-lawful : tie.Need-cast-streams-lawful
+cast-streams-lawful c = search needs
+
+streams-lawful-requires : tie.Need-streams-lawful-requires
+streams-lawful-requires c κs = search needs
+
+returns-7 : tie.Need-returns-7
+unfolding lawful lawfulCounts
+returns-7 c =
+    rw (
+      le-leb _ _ (c .before .before .before .before .before .before .before .before .before .before .before .before .before .before .before .before .before .if1 .left),
+      le-leb _ _ (c .before .before .before .before .before .before .before .before .before .before .before .before .before .before .before .if2 .left),
+      eq-eqb _ _ (c .before .before .before .before .before .before .before .before .before .before .before .before .before .if3 .left),
+      le-leb _ _ (c .before .before .before .before .before .before .before .before .before .before .before .if4 .left),
+      sym (c .before .before .before .before .before .before .before .before .jacks-lawful .ensures) ∙ not-false _ (c .before .before .before .before .before .before .before .if5 .left),
+      sym (c .before .before .before .before .maps-lawful .ensures) ∙ not-false _ (c .before .before .before .if6 .left),
+    )
+    (c .streams-lawful .ensures)
+
+pub is-lawful-spec : {M : Type 1} → statement M
+is-lawful-spec =
+    tie.close
+    (tie.spec
+    returns
+    returns-2
+    returns-3
+    returns-4
+    cast-jacks-lawful
+    jacks-lawful-requires
+    returns-5
+    cast-maps-lawful
+    maps-lawful-requires
+    returns-6
+    add-streams-lawful
+    cast-streams-lawful
+    streams-lawful-requires
+    returns-7)

@@ -1,0 +1,2 @@
+-- What a lawful description is.
+pub mod Lawful
