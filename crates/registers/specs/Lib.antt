@@ -2,3 +2,4 @@
 pub mod Answers
 pub mod Map
 pub mod Rules
+pub mod Fit

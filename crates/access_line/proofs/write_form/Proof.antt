@@ -1,0 +1,104 @@
+-- The fields are read one after the other, each where the one before it ended.
+use mathlib.Core.Path.{_≡_, _∙_, sym}
+use borrow.Author.Needs.{needs}
+use Rattle.access_line.specs.Line.{writeForm}
+use Rattle.access_line.specs.Places.{fieldAt}
+use Rattle.access_line.specs.declared.Number.the-variants.{Is}
+use Rattle.access_line.proofs.Laws.{field-is, field-none, ended-at, not-ended-at}
+use Rattle.access_line.proofs.write_form.Statement.{statement}
+use Rattle.access_line.proofs.write_form.Tie as tie
+
+-- what was found at each place
+offset : (c : tie.After-known-told) → let n = c .before .offset .given .0 in fieldAt (c .before .before .before .before .before .args .s .now) 1 ≡ Is (n .0) (n .1 .0)
+offset c = sym (c .before .before .before .field-at .ensures) ∙ c .before .offset .given .1
+
+width : (c : tie.After-known-told2)
+    → let n = c .before .width .given .0 in fieldAt (c .before .before .before .before .before .before .before .before .before .args .s .now) (c .before .before .before .before .before .offset .given .0 .1 .0) ≡ Is (n .0) (n .1 .0)
+width c = sym (c .before .before .before .field-at2 .ensures) ∙ c .before .width .given .1
+
+value : (c : tie.After-known-told3)
+    → let n = c .before .value .given .0 in fieldAt (c .before .before .before .before .before .before .before .before .before .before .before .before .before .args .s .now) (c .before .before .before .before .before .width .given .0 .1 .0) ≡ Is (n .0) (n .1 .0)
+value c = sym (c .before .before .before .field-at3 .ensures) ∙ c .before .value .given .1
+
+field-at-requires : tie.Need-field-at-requires
+field-at-requires c κs = search needs
+
+enum-known-offset : tie.Need-enum-known-offset
+enum-known-offset c = search needs
+
+enum-told : tie.Need-enum-told
+enum-told c = search needs
+
+returns : tie.Need-returns
+unfolding writeForm
+returns c = rw (field-none _ 1 _ (sym (c .before .before .field-at .ensures) ∙ c .enum-told .given .1))
+
+field-at-requires-2 : tie.Need-field-at-requires-2
+field-at-requires-2 c κs = search needs
+
+enum-known-width : tie.Need-enum-known-width
+enum-known-width c = search needs
+
+enum-told-2 : tie.Need-enum-told-2
+enum-told-2 c = search needs
+
+returns-2 : tie.Need-returns-2
+unfolding writeForm
+returns-2 c = rw (field-is _ 1 _ _ _ (offset (c .before .before .before)), field-none _ _ _ (sym (c .before .before .field-at2 .ensures) ∙ c .enum-told2 .given .1))
+
+field-at-requires-3 : tie.Need-field-at-requires-3
+field-at-requires-3 c κs = search needs
+
+enum-known-value : tie.Need-enum-known-value
+enum-known-value c = search needs
+
+enum-told-3 : tie.Need-enum-told-3
+enum-told-3 c = search needs
+
+returns-3 : tie.Need-returns-3
+unfolding writeForm
+returns-3 c =
+    rw (
+      field-is _ 1 _ _ _ (offset (c .before .before .before .before .before .before .before)),
+      field-is _ _ _ _ _ (width (c .before .before .before)),
+      field-none _ _ _ (sym (c .before .before .field-at3 .ensures) ∙ c .enum-told3 .given .1),
+    )
+
+returns-4 : tie.Need-returns-4
+unfolding writeForm
+returns-4 c =
+    rw (
+      field-is _ 1 _ _ _ (offset (c .before .before .before .before .before .before .before .before .before)),
+      field-is _ _ _ _ _ (width (c .before .before .before .before .before)),
+      field-is _ _ _ _ _ (value (c .before)),
+      not-ended-at _ _ _ (c .if1 .taken),
+    )
+
+returns-5 : tie.Need-returns-5
+unfolding writeForm
+returns-5 c =
+    rw (
+      field-is _ 1 _ _ _ (offset (c .before .before .before .before .before .before .before .before .before)),
+      field-is _ _ _ _ _ (width (c .before .before .before .before .before)),
+      field-is _ _ _ _ _ (value (c .before)),
+      ended-at _ _ _ (c .if1 .left),
+    )
+
+pub write-form-spec : {M : Type 1} → statement M
+write-form-spec =
+    tie.close
+    (tie.spec
+    field-at-requires
+    enum-known-offset
+    enum-told
+    returns
+    field-at-requires-2
+    enum-known-width
+    enum-told-2
+    returns-2
+    field-at-requires-3
+    enum-known-value
+    enum-told-3
+    returns-3
+    returns-4
+    returns-5)

@@ -1,0 +1,56 @@
+-- 01, The access program: a line, without its line feed, is "r OFF W" or "w OFF W VAL" in decimal, a number having
+-- 1 to 10 digits, with single spaces and nothing before or after; else it can't be read.
+-- Bytes: 48 to 57 are the digits, 32 the space, 114 'r', 119 'w'.
+use mathlib.Core.List.{List, [], _∷_, foldl}
+use mathlib.Core.Bool.{Bool, cond, _&&_}
+use Prim.Native.Nat.{ℕ, _+_, _-_, _*_}
+use lib.Dec.{eqb, leb}
+use lib.ListN.{length, drop}
+use Rattle.access_line.specs.declared.Line.{Line}
+use Rattle.access_line.specs.declared.Line.the-variants.{Read, Write, Unreadable}
+
+unfoldable pub isDigit : ℕ → Bool
+isDigit b = leb 48 b && leb b 57
+
+-- the digits that a text begins with
+unfoldable pub digits : List ℕ → List ℕ
+digits [] = []
+digits (b ∷ t) = cond (isDigit b) (b ∷ digits t) []
+
+-- what follows them
+abbrev pub rest : List ℕ → List ℕ
+rest t = drop (length (digits t)) t
+
+-- a number with one more digit written behind it
+abbrev pub oneMore : ℕ → ℕ → ℕ
+oneMore v b = 10 * v + (b - 48)
+
+-- the number that digits write in decimal
+abbrev pub value : List ℕ → ℕ
+value ds = foldl oneMore 0 ds
+
+-- "1 to 10 digits"
+abbrev pub isNumber : List ℕ → Bool
+isNumber ds = leb 1 (length ds) && leb (length ds) 10
+
+-- a single space and a number: `then` says what the line is by the number and the text behind it
+unfoldable pub field : List ℕ → (ℕ → List ℕ → Line) → Line
+field [] then = Unreadable
+field (b ∷ t) then = cond (eqb b 32 && isNumber (digits t)) (then (value (digits t)) (rest t)) Unreadable
+
+-- nothing more
+unfoldable pub ended : List ℕ → Line → Line
+ended [] line = line
+ended (b ∷ t) line = Unreadable
+
+-- " OFF W" and " OFF W VAL"
+unfoldable pub readForm : List ℕ → Line
+readForm t = field t (λ off t′. field t′ (λ w t″. ended t″ (Read off w)))
+
+unfoldable pub writeForm : List ℕ → Line
+writeForm t = field t (λ off t′. field t′ (λ w t″. field t″ (λ v t‴. ended t‴ (Write off w v))))
+
+-- the line
+unfoldable pub lineOf : List ℕ → Line
+lineOf [] = Unreadable
+lineOf (b ∷ t) = cond (eqb b 114) (readForm t) (cond (eqb b 119) (writeForm t) Unreadable)

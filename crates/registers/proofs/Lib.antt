@@ -1,0 +1,2 @@
+-- Laws of the register file.
+pub mod Keeps
