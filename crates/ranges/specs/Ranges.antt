@@ -3,7 +3,8 @@
 use mathlib.Core.Path.{_≡_}
 use mathlib.Core.List.{List, [], _∷_, _++_, map}
 use mathlib.Core.Bool.{Bool, true, false, cond, _&&_}
-use Prim.Native.Nat.{ℕ, zero, suc, _+_, _≤_}
+use Prim.Native.Nat.{ℕ, zero, suc, _+_, _^_, _≤_}
+use lib.Dec.{ltb}
 use lib.ListN.{length, getD, set, take, replicate}
 use Rattle.memory.specs.Bytes.{insideOf}
 use Rattle.counts.specs.declared.GuestAddress.{GuestAddress}
@@ -19,6 +20,13 @@ noRanges = record { list = replicate 34 noRange; count = 0; bytes = 0 }
 -- what the struct stands for
 abbrev pub rangesOf : Ranges → List Range
 rangesOf r = take (r .count) (r .list)
+
+-- one range more, where the list has a place for it and the sum still fits 32 bits
+unfoldable pub withRange : Ranges → Range → Ranges
+withRange r range =
+    cond (ltb (r .count) 34 && ltb (r .bytes + range .len) (2 ^ 32))
+    (record { list = set (r .list) (r .count) range; count = r .count + 1; bytes = r .bytes + range .len })
+    r
 
 -- the sum of the lengths
 unfoldable pub total : List Range → ℕ

@@ -1,0 +1,133 @@
+-- At each turn what is left to take of the ranges not yet passed, put at `d`, makes the whole; no more is taken than `dst`
+-- has room for. `t2` is the parameter `r`.
+use mathlib.Core.Path.{_≡_, refl}
+use Prim.Native.Nat.{_+_, _-_, _≤_}
+use native.Mathlib.Omega.{arith}
+use lib.ListN.{length, take, drop}
+use lib.Seq.{sets}
+use Rattle.ranges.specs.Ranges.{rangesOf, places, bytesAt}
+use Rattle.ranges.proofs.Laws.{sets-past, places-next, places-none, gather-next, gather-room, room-next}
+use Rattle.ranges.proofs.gather.Statement.{statement}
+use Rattle.ranges.proofs.gather.Tie as tie
+
+abbrev Inv-loop : tie.InvT-loop
+Inv-loop m offset dst₀ at n r count left₀ skip₀ d₀ i₀ dst left skip d i =
+    (d + left ≤ length dst) × (length dst ≡ length dst₀)
+    × (sets dst d (bytesAt m (take left (drop skip (places (drop i (rangesOf r))))))
+    ≡ sets dst₀ at (bytesAt m (take n (drop offset (places (rangesOf r))))))
+
+abbrev μ-loop : tie.MeasureT-loop
+μ-loop m offset dst₀ at n r count left₀ skip₀ d₀ i₀ dst left skip d i = count - i
+
+returns : tie.Need-returns Inv-loop μ-loop
+returns c = let past : length (c .before .before .before .args .dst .now) ≤ c .before .before .before .args .at = c .if1 .taken in rw sets-past
+
+held-requires : tie.Need-held-requires Inv-loop μ-loop
+held-requires c κs = omega arith
+
+sub-least : tie.Need-sub-least Inv-loop μ-loop
+sub-least c = omega arith
+
+least-requires : tie.Need-least-requires Inv-loop μ-loop
+least-requires c κs = omega arith
+
+loop-holds : tie.Need-loop-holds Inv-loop μ-loop
+loop-holds c =
+    let a = c .before .before .before .before .before .args in
+    (omega arith, refl, gather-room (a .m .now) (a .n) (c .least .result) _ (a .dst .now) (a .at) (c .least .ensures))
+
+same-length : tie.Need-same-length Inv-loop μ-loop
+same-length c = omega arith
+
+returns-2 : tie.Need-returns-2 Inv-loop μ-loop
+returns-2 c = rw (← (c .before .before .loop .inv .2), c .if2 .taken)
+
+mul-range : tie.Need-mul-range Inv-loop μ-loop
+mul-range c = omega arith
+
+element-copy-out-range : tie.Need-element-copy-out-range Inv-loop μ-loop
+element-copy-out-range c = omega arith
+
+cast-len : tie.Need-cast-len Inv-loop μ-loop
+cast-len c = omega arith
+
+least-requires-2 : tie.Need-least-requires-2 Inv-loop μ-loop
+least-requires-2 c κs = omega arith
+
+sub-least-2 : tie.Need-sub-least-2 Inv-loop μ-loop
+sub-least-2 c = omega arith
+
+least-requires-3 : tie.Need-least-requires-3 Inv-loop μ-loop
+least-requires-3 c κs = omega arith
+
+gather-run-requires : tie.Need-gather-run-requires Inv-loop μ-loop
+gather-run-requires c κs = omega arith
+
+sub-skip : tie.Need-sub-skip Inv-loop μ-loop
+sub-skip c = omega arith
+
+add-d : tie.Need-add-d Inv-loop μ-loop
+add-d c = omega arith
+
+sub-left : tie.Need-sub-left Inv-loop μ-loop
+sub-left c = omega arith
+
+add-i : tie.Need-add-i Inv-loop μ-loop
+add-i c = omega arith
+
+loop-less : tie.Need-loop-less Inv-loop μ-loop
+loop-less c = omega arith
+
+loop-again : tie.Need-loop-again Inv-loop μ-loop
+loop-again c =
+    let l = c .before .before .before .before .before .before .before .before .before .before .loop in
+    let a = c .before .before .before .before .before .before .before .before .before .before .before .before .before .before .before .before .args in
+    let gone = c .before .before .before .before .before .least2 in
+    let k = c .before .before .before .before .least3 in
+    let g = c .before .before .gather-run in (
+      rw (g .kept .1 .1 .1 .0) (room-next (l .d) (l .left) _ (k .result) (length (l .dst)) (l .inv .0) (k .ensures)),
+      omega arith,
+      rw (
+        g .ensures,
+        ← (gather-next (a .m .now) _ (k .result) _ (l .dst) (l .d)),
+        ← (places-next (a .t2) (l .i) (omega arith) (l .skip) (l .left) (gone .result) (k .result) (gone .ensures) (k .ensures)),
+      )
+          (l .inv .2),
+    )
+
+same-length-2 : tie.Need-same-length-2 Inv-loop μ-loop
+same-length-2 c = omega arith
+
+returns-3 : tie.Need-returns-3 Inv-loop μ-loop
+returns-3 c =
+    let l = c .before .loop in
+    rw (← (l .inv .2), places-none (c .before .before .before .before .before .before .before .args .t2) (l .i) (l .skip) (l .left) (omega arith))
+
+pub gather-spec : {M : Type 1} → statement M
+gather-spec =
+    tie.close
+    (tie.spec
+    Inv-loop
+    μ-loop
+    returns
+    held-requires
+    sub-least
+    least-requires
+    loop-holds
+    same-length
+    returns-2
+    mul-range
+    element-copy-out-range
+    cast-len
+    least-requires-2
+    sub-least-2
+    least-requires-3
+    gather-run-requires
+    sub-skip
+    add-d
+    sub-left
+    add-i
+    loop-less
+    loop-again
+    same-length-2
+    returns-3)
