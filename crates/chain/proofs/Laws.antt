@@ -1,0 +1,201 @@
+-- Laws of the walk: what a table holds, one turn in either table, and the bounds of a whole chain.
+use mathlib.Core.Path.{_≡_, _∙_, refl, sym}
+use mathlib.Core.List.{List, [], _∷_, _++_}
+use mathlib.Core.Bool.{Bool, true, false, cond}
+use Prim.Native.Nat.{ℕ, zero, suc, _+_, _*_, _/_, _^_, _≤_, _<_}
+use native.Mathlib.Numerals.{add-one}
+use native.Mathlib.Omega.{arith}
+use borrow.Author.Tests.{le-leb, lt-leb, leb-true}
+use lib.Dec.{eqb, leb}
+use lib.ListN.{length, getD, length-append}
+use lib.Seq.{length-take-le}
+use Rattle.ranges.specs.declared.Range.{Range}
+use Rattle.ranges.specs.declared.Ranges.{Ranges}
+use Rattle.ranges.specs.Ranges.{rangesOf, total, Sound, withRange}
+use Rattle.ranges.proofs.Laws.{total-append, rangesOf-with, sound-with, sound-none}
+use Rattle.chain.specs.declared.Fault.{Fault}
+use Rattle.chain.specs.declared.Fault.the-variants.{PastTable, TooMany, Nested}
+use Rattle.chain.specs.declared.End.{End}
+use Rattle.chain.specs.declared.End.the-variants.{Whole, Faulted}
+use Rattle.chain.specs.declared.Descriptor.{Descriptor}
+use Rattle.chain.specs.declared.Chain.{Chain}
+use Rattle.chain.specs.declared.Walked.{Walked}
+use Rattle.chain.specs.Walk.{descriptorAt, descriptors, noDescriptor, hasNext, isWritable, isIndirect, rangeOf, Outcome, whole, faulted, andThen, byEnd, joinedOf, enterOf, onward, inTable, direct, walkOf, outcomeOf, emptyChain, SoundChain, Joins}
+
+-- ---- tables
+
+pub length-descriptors : (m : List ℕ) (a n : ℕ) → length (descriptors m a n) ≡ n
+unfolding descriptors
+length-descriptors m a zero = refl
+length-descriptors m a (suc n) = rw (length-descriptors m (a + 16) n)
+
+pub getD-descriptors : (m : List ℕ) (a n i : ℕ) (d : Descriptor) → i < n → getD (descriptors m a n) i d ≡ descriptorAt m (a + 16 * i)
+unfolding descriptors
+getD-descriptors m a zero i d h = absurd (omega arith)
+getD-descriptors m a (suc n) zero d h = let e : a + 16 * 0 ≡ a = omega arith in rw e
+getD-descriptors m a (suc n) (suc i) d h =
+    let e : a + 16 + 16 * i ≡ a + 16 * suc i = omega arith in
+    rw (getD-descriptors m (a + 16) n i d (omega arith), e)
+
+-- ---- one turn in a table of memory
+
+module _ (m : List ℕ) (a size number : ℕ) where
+  past-size : size ≤ number → leb (length (descriptors m a size)) number ≡ true
+  past-size h = rw (length-descriptors m a size) (le-leb size number h)
+
+  module _ (there : number < size) where
+    in-size : leb (length (descriptors m a size)) number ≡ false
+    in-size = rw (length-descriptors m a size) (lt-leb size number there)
+
+    at-number : (d : Descriptor) → d ≡ descriptorAt m (a + number * 16) → getD (descriptors m a size) number noDescriptor ≡ d
+    at-number d e =
+        let i : a + 16 * number ≡ a + number * 16 = omega arith in
+        getD-descriptors m a size number noDescriptor there ∙ rw i (sym e)
+
+pub inTable-none : (n : ℕ) (table : List Descriptor) (number : ℕ) (rd wr : List Range) → n ≡ 0 → inTable n table number rd wr ≡ faulted TooMany
+unfolding inTable
+inTable-none n table number rd wr h = rw h
+
+pub direct-none : (m : List ℕ) (negotiated : Bool) (n : ℕ) (table : List Descriptor) (number : ℕ) (rd wr : List Range) → n ≡ 0
+    → direct m negotiated n table number rd wr ≡ faulted TooMany
+unfolding direct
+direct-none m negotiated n table number rd wr h = rw h
+
+-- what the walk makes of a descriptor, where k more may come after it
+abbrev pub inTableTurn : ℕ → List Descriptor → Descriptor → List Range → List Range → Outcome
+inTableTurn k table d rd wr = cond (isIndirect d) (faulted Nested) (onward d rd wr (inTable k table (d .next .0)))
+
+abbrev pub directTurn : List ℕ → Bool → ℕ → ℕ → List Descriptor → Descriptor → List Range → List Range → Outcome
+directTurn m negotiated n k table d rd wr =
+    cond (isIndirect d)
+    (byEnd (enterOf (length m) negotiated d) (inTable n (descriptors m (d .at .0) (d .len / 16)) 0 rd wr))
+    (onward d rd wr (direct m negotiated k table (d .next .0)))
+
+module _ (m : List ℕ) (a size n k number : ℕ) (rd wr : List Range) (fuel : n ≡ k + 1) where
+  pub inTable-past : size ≤ number → inTable n (descriptors m a size) number rd wr ≡ faulted PastTable
+  unfolding inTable
+  inTable-past h = rw (fuel, add-one, past-size m a size number h)
+
+  pub direct-past : (negotiated : Bool) → size ≤ number → direct m negotiated n (descriptors m a size) number rd wr ≡ faulted PastTable
+  unfolding direct
+  direct-past negotiated h = rw (fuel, add-one, past-size m a size number h)
+
+  module _ (d : Descriptor) (there : number < size) (e : d ≡ descriptorAt m (a + number * 16)) where
+    pub inTable-more : inTable n (descriptors m a size) number rd wr ≡ inTableTurn k (descriptors m a size) d rd wr
+    unfolding inTable
+    inTable-more = rw (fuel, add-one, in-size m a size number there, at-number m a size number there d e)
+
+    pub direct-more : (negotiated : Bool) → direct m negotiated n (descriptors m a size) number rd wr
+        ≡ directTurn m negotiated n k (descriptors m a size) d rd wr
+    unfolding direct
+    direct-more negotiated = rw (fuel, add-one, in-size m a size number there, at-number m a size number there d e)
+
+-- ---- one descriptor joined to a chain
+
+-- how the walk goes on after a descriptor that the code joined
+module _ {c : Chain} {d : Descriptor} {w : Walked} (j : Joins c d w) (go : List Range → List Range → Outcome) where
+  pub onward-fault : {f : Fault} → w .end ≡ Faulted f → onward d (rangesOf (c .request)) (rangesOf (c .reply)) go ≡ faulted f
+  onward-fault e = rw (← (j .outcome), e)
+
+  pub onward-last : w .end ≡ Whole → hasNext d ≡ false
+      → onward d (rangesOf (c .request)) (rangesOf (c .reply)) go ≡ whole (rangesOf (w .chain .request)) (rangesOf (w .chain .reply))
+  onward-last e h = rw (← (j .outcome), e, h)
+
+  pub onward-next : w .end ≡ Whole → hasNext d ≡ true
+      → onward d (rangesOf (c .request)) (rangesOf (c .reply)) go ≡ go (rangesOf (w .chain .request)) (rangesOf (w .chain .reply))
+  onward-next e h = rw (← (j .outcome), e, h)
+
+-- ---- no descriptor, and a side with one range more
+
+pub sound-empty : SoundChain emptyChain
+sound-empty = record { request = sound-none; reply = sound-none; few = omega arith; readable = omega arith; writable = omega arith }
+
+pub length-rangesOf : (r : Ranges) → Sound r → length (rangesOf r) ≡ r .count
+length-rangesOf r s = length-take-le (r .count) (r .list) (omega arith)
+
+total-snoc : (rs : List Range) (x : Range) → total (rs ++ (x ∷ [])) ≡ total rs + x .len
+unfolding total
+total-snoc rs x = rw total-append (omega arith)
+
+length-snoc : (rs : List Range) (x : Range) → length (rs ++ (x ∷ [])) ≡ length rs + 1
+length-snoc rs x = length-append rs (x ∷ [])
+
+-- `r′` is `r` with `x` at the end
+pub record Longer (r : Ranges) (x : Range) (r′ : Ranges) : Type 0 where
+  pub ranges : rangesOf r′ ≡ rangesOf r ++ (x ∷ [])
+  pub sound : Sound r′
+  pub count : r′ .count ≡ r .count + 1
+  pub bytes : r′ .bytes ≡ r .bytes + x .len
+
+pub longer : (r : Ranges) (x : Range) (r′ : Ranges) → Sound r → r .count < 34 → r .bytes + x .len < 2 ^ 32 → r′ ≡ withRange r x → Longer r x r′
+longer r x r′ s room fits e =
+    let ranges : rangesOf r′ ≡ rangesOf r ++ (x ∷ []) = rw e (rangesOf-with r x room fits s) in
+    let sound : Sound r′ = rw e (sound-with r x room fits s) in
+    record {
+      ranges = ranges;
+      sound = sound;
+      count = sym (length-rangesOf r′ sound) ∙ rw (ranges, length-snoc (rangesOf r) x, length-rangesOf r s);
+      bytes = sound .sum ∙ rw (ranges, total-snoc (rangesOf r) x, s .sum);
+    }
+
+-- ---- the bounds of a whole chain, by induction over the definition
+
+-- at most n ranges, and no side above 1,048,576 bytes, unless there was a fault
+Within : ℕ → Outcome → Type 0
+Within n (whole rd wr) = (length rd + length wr ≤ n) × (total rd ≤ 1048576) × (total wr ≤ 1048576)
+Within n (faulted f) = Unit {0}
+
+cond-within : (n : ℕ) (b : Bool) (x y : Outcome) → (b ≡ true → Within n x) → Within n y → Within n (cond b x y)
+cond-within n true x y f h = f refl
+cond-within n false x y f h = h
+
+joined-within : (n : ℕ) (d : Descriptor) (rd wr : List Range) → Within n (whole rd wr) → Within (n + 1) (joinedOf d rd wr)
+unfolding joinedOf Within
+joined-within n d rd wr h =
+    cond-within (n + 1) (isWritable d) _ _
+    (λ w. cond-within (n + 1) (leb (total wr + d .len) 1048576) _ _
+    (λ t. rw (length-snoc wr (rangeOf d), total-snoc wr (rangeOf d)) (omega arith, h .1, leb-true _ _ t)) tt)
+    (cond-within (n + 1) (eqb (length wr) 0) _ _
+    (λ w. cond-within (n + 1) (leb (total rd + d .len) 1048576) _ _
+    (λ t. rw (length-snoc rd (rangeOf d), total-snoc rd (rangeOf d)) (omega arith, leb-true _ _ t, h .2)) tt)
+    tt)
+
+-- after n ranges one more, then what follows
+onward-within : (n : ℕ) (d : Descriptor) (rd wr : List Range) (go : List Range → List Range → Outcome) → n < 34 → Within n (whole rd wr)
+    → ((rd′ wr′ : List Range) → Within (n + 1) (whole rd′ wr′) → Within 34 (go rd′ wr′)) → Within 34 (onward d rd wr go)
+unfolding Within
+onward-within n d rd wr go room h then = by (joinedOf d rd wr) (joined-within n d rd wr h) where
+  by : (o : Outcome) → Within (n + 1) o → Within 34 (andThen o (λ rd′ wr′. cond (hasNext d) (go rd′ wr′) (whole rd′ wr′)))
+  by (whole rd′ wr′) w = cond-within 34 (hasNext d) _ _ (λ e. then rd′ wr′ w) (omega arith, w .1, w .2)
+  by (faulted f) w = tt
+
+inTable-within : (k : ℕ) (table : List Descriptor) (number n : ℕ) (rd wr : List Range) → n + k ≤ 34 → Within n (whole rd wr)
+    → Within 34 (inTable k table number rd wr)
+unfolding inTable Within
+inTable-within zero table number n rd wr b h = tt
+inTable-within (suc k) table number n rd wr b h =
+    let d = getD table number noDescriptor in
+    cond-within 34 (leb (length table) number) _ _ (λ e. tt)
+    (cond-within 34 (isIndirect d) _ _ (λ e. tt)
+    (onward-within n d rd wr _ (omega arith) h (λ rd′ wr′ h′. inTable-within k table (d .next .0) (n + 1) rd′ wr′ (omega arith) h′)))
+
+direct-within : (m : List ℕ) (negotiated : Bool) (k : ℕ) (table : List Descriptor) (number n : ℕ) (rd wr : List Range) → n + k ≤ 34
+    → Within n (whole rd wr) → Within 34 (direct m negotiated k table number rd wr)
+unfolding direct Within
+direct-within m negotiated zero table number n rd wr b h = tt
+direct-within m negotiated (suc k) table number n rd wr b h =
+    let d = getD table number noDescriptor in
+    cond-within 34 (leb (length table) number) _ _ (λ e. tt)
+    (cond-within 34 (isIndirect d) _ _
+    (λ e. end-within (enterOf (length m) negotiated d) _ (inTable-within (suc k) (descriptors m (d .at .0) (d .len / 16)) 0 n rd wr b h))
+    (onward-within n d rd wr _ (omega arith) h (λ rd′ wr′ h′. direct-within m negotiated k table (d .next .0) (n + 1) rd′ wr′ (omega arith) h′)))
+  where
+    end-within : (e : End) (o : Outcome) → Within 34 o → Within 34 (byEnd e o)
+    end-within Whole o w = w
+    end-within (Faulted f) o w = tt
+
+pub walk-bounds : (m : List ℕ) (table size head : ℕ) (negotiated : Bool) (rd wr : List Range) → walkOf m table size head negotiated ≡ whole rd wr
+    → (length rd + length wr ≤ 34) × (total rd ≤ 1048576) × (total wr ≤ 1048576)
+unfolding Within total
+walk-bounds m table size head negotiated rd wr e =
+    rw e at (direct-within m negotiated 34 (descriptors m table size) head 0 [] [] (omega arith) (omega arith))

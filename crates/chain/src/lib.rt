@@ -1,0 +1,256 @@
+// The walk of a descriptor chain of a split virtqueue: the ranges that its descriptors name, or the
+// fault that ends it. It ends whatever memory holds; a byte past the end of memory reads as 0.
+ghost use mathlib.Core.Path.{_≡_};
+ghost use Prim.Native.Nat.{_+_, _*_, _<_};
+ghost use Rattle.chain.specs.declared.End.the-variants.{Faulted};
+ghost use Rattle.chain.specs.Walk.{descriptorAt, hasNext, isWritable, isIndirect, rangeOf, enterOf, SoundChain, emptyChain, Joins, Walks};
+use counts::DescriptorNumber;
+use counts::GuestAddress;
+use memory::get16;
+use memory::get32;
+use memory::get64;
+use memory::inside;
+use ranges::Range;
+use ranges::Ranges;
+
+// 01, Rings and chains: the most descriptors of a chain, those naming an indirect table not counted.
+const MOST_DESCRIPTORS: u32 = 34;
+
+// The most bytes of a chain's readable side, and of its writable side.
+const MOST_BYTES: u32 = 1048576;
+
+// Why a chain can't be walked, in the words of 01, Rings and chains, "Walk faults".
+pub enum Fault {
+    // "a descriptor number past its table"
+    PastTable,
+    // "more than 34 descriptors, those naming an indirect table not counted"
+    TooMany,
+    // "a readable one after a writable one"
+    Order,
+    // "readable or writable lengths adding above 1,048,576"
+    TooLong,
+    // "an indirect one without bit 28 negotiated"
+    NotNegotiated,
+    // an indirect one "with NEXT"
+    WithNext,
+    // an indirect one "inside an indirect table"
+    Nested,
+    // an indirect one "of length 0 or not a multiple of 16"
+    TableLength,
+    // an indirect one "with its table outside RAM"
+    TableOutside,
+}
+
+// How a walk ends.
+pub enum End {
+    Whole,
+    Faulted(Fault),
+}
+
+// An entry of a descriptor table: 002, 2.2.
+pub struct Descriptor {
+    pub at: GuestAddress,
+    pub len: u32,
+    pub flags: u16,
+    pub next: DescriptorNumber,
+}
+
+// A message: the readable ranges are its request, the writable ones its reply.
+#[repr(C)]
+pub struct Chain {
+    pub request: Ranges,
+    pub reply: Ranges,
+}
+
+// What a walk gives; after a fault the chain is what was read so far.
+pub struct Walked {
+    pub end: End,
+    pub chain: Chain,
+}
+
+impl Descriptor {
+    // The descriptor with this number in the table at `table`.
+    fn read(m: &[u8], table: GuestAddress, number: DescriptorNumber) -> Descriptor
+        ensures { λ r. ⌜ r ≡ descriptorAt (now (m .entry)) (table .0 + number .0 * 16) ⌝ }
+    {
+        let start = number.offset();
+        let at = get64(m, table, start);
+        let len = get32(m, table, start + 8);
+        let flags = get16(m, table, start + 12);
+        let next = get16(m, table, start + 14);
+        Descriptor {
+            at: GuestAddress(at),
+            len,
+            flags,
+            next: DescriptorNumber(next),
+        }
+    }
+
+    // What it names of memory.
+    fn range(self) -> Range
+        ensures { λ r. ⌜ r ≡ rangeOf self ⌝ }
+    {
+        let at = self.at;
+        let len = self.len;
+        Range { at, len }
+    }
+
+    // 002, 2.3: NEXT is 1, WRITE 2, INDIRECT 4.
+    fn has_next(self) -> bool
+        ensures { λ r. ⌜ r ≡ hasNext self ⌝ }
+    {
+        self.flags % 2 == 1
+    }
+
+    fn is_writable(self) -> bool
+        ensures { λ r. ⌜ r ≡ isWritable self ⌝ }
+    {
+        self.flags / 2 % 2 == 1
+    }
+
+    fn is_indirect(self) -> bool
+        ensures { λ r. ⌜ r ≡ isIndirect self ⌝ }
+    {
+        self.flags / 4 % 2 == 1
+    }
+}
+
+impl Chain {
+    // No descriptor yet.
+    fn empty() -> Chain
+        ensures { λ r. ⌜ r ≡ emptyChain ⌝ }
+    {
+        let request = Ranges::none();
+        let reply = Ranges::none();
+        Chain { request, reply }
+    }
+
+    // The chain as it is, where a fault ends the walk.
+    fn stopped(self, fault: Fault) -> Walked
+        ensures { λ r. ⌜ r ≡ record { end = Faulted fault; chain = self } ⌝ }
+    {
+        Walked {
+            end: End::Faulted(fault),
+            chain: self,
+        }
+    }
+}
+
+// The chain with one descriptor more at the end of its side; or as it was, with the fault.
+fn joined(chain: Chain, d: Descriptor) -> Walked
+    requires { ⌜ SoundChain chain × (chain .request .count + chain .reply .count < 34) ⌝ }
+    ensures { λ r. ⌜ Joins chain d r ⌝ }
+{
+    let mut next = chain;
+    let request = chain.request;
+    let reply = chain.reply;
+    let range = d.range();
+    if d.is_writable() {
+        if MOST_BYTES - reply.bytes < d.len {
+            return chain.stopped(Fault::TooLong);
+        }
+        next.reply = reply.with(range);
+        return Walked {
+            end: End::Whole,
+            chain: next,
+        };
+    }
+    if 0 < reply.count {
+        return chain.stopped(Fault::Order);
+    }
+    if MOST_BYTES - request.bytes < d.len {
+        return chain.stopped(Fault::TooLong);
+    }
+    next.request = request.with(range);
+    Walked {
+        end: End::Whole,
+        chain: next,
+    }
+}
+
+// Whether the walk may go on in the table that the indirect descriptor `d` names.
+fn enter(ram: usize, negotiated: bool, d: Descriptor) -> End
+    ensures { λ r. ⌜ r ≡ enterOf ram negotiated d ⌝ }
+{
+    if !negotiated {
+        return End::Faulted(Fault::NotNegotiated);
+    }
+    if d.has_next() {
+        return End::Faulted(Fault::WithNext);
+    }
+    if d.len == 0 || d.len % 16 != 0 {
+        return End::Faulted(Fault::TableLength);
+    }
+    if !inside(ram, d.at, d.len as u64) {
+        return End::Faulted(Fault::TableOutside);
+    }
+    End::Whole
+}
+
+// The chain that begins at `head` in the table of `size` descriptors at `table`; `indirect` says
+// that bit 28 is negotiated.
+pub fn walk(
+    m: &[u8],
+    table: GuestAddress,
+    size: u16,
+    head: DescriptorNumber,
+    indirect: bool,
+) -> Walked
+    ensures { λ r. ⌜ Walks (now (m .entry)) (table .0) size (head .0) indirect r ⌝ }
+{
+    let mut chain = Chain::empty();
+    let mut number = head;
+    let mut left = MOST_DESCRIPTORS;
+    let end = 'walk: loop {
+        // One that names an indirect table is not counted, but after 34 it is a fault as well: its
+        // table has at least one more.
+        if left == 0 {
+            break 'walk End::Faulted(Fault::TooMany);
+        }
+        if size <= number.0 {
+            break 'walk End::Faulted(Fault::PastTable);
+        }
+        let d = Descriptor::read(m, table, number);
+        if d.is_indirect() {
+            if let End::Faulted(fault) = enter(m.len(), indirect, d) {
+                break 'walk End::Faulted(fault);
+            }
+            number = DescriptorNumber(0);
+            loop {
+                if left == 0 {
+                    break 'walk End::Faulted(Fault::TooMany);
+                }
+                if d.len / 16 <= number.0 as u32 {
+                    break 'walk End::Faulted(Fault::PastTable);
+                }
+                let entry = Descriptor::read(m, d.at, number);
+                if entry.is_indirect() {
+                    break 'walk End::Faulted(Fault::Nested);
+                }
+                let step = joined(chain, entry);
+                chain = step.chain;
+                let stop = step.end;
+                if let End::Faulted(fault) = stop {
+                    break 'walk End::Faulted(fault);
+                }
+                left -= 1;
+                if !entry.has_next() {
+                    break 'walk End::Whole;
+                }
+                number = entry.next;
+            }
+        }
+        let step = joined(chain, d);
+        chain = step.chain;
+        let stop = step.end;
+        if let End::Faulted(fault) = stop {
+            break 'walk End::Faulted(fault);
+        }
+        left -= 1;
+        if !d.has_next() {
+            break 'walk End::Whole;
+        }
+        number = d.next;
+    };
+    Walked { end, chain }
+}
