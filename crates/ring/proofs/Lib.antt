@@ -1,0 +1,2 @@
+-- Laws of the rings.
+pub mod Laws
