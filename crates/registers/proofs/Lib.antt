@@ -1,2 +1,3 @@
 -- Laws of the register file.
 pub mod Keeps
+pub mod Queues

@@ -1,0 +1,157 @@
+-- Power-up and the register entries return fit cards.
+use mathlib.Core.Path.{_≡_, refl, _∙_}
+use mathlib.Core.List.{List, map}
+use mathlib.Core.Bool.{Bool, true, false, cond, _&&_, and-eq-true-iff}
+use Prim.Native.Nat.{ℕ, _≤_}
+use native.Mathlib.Omega.{arith}
+use borrow.Author.Tests.{leb-true, eqb-true}
+use lib.Dec.{eqb, leb}
+use lib.ListN.{length, getD, replicate, length-set, length-map, List·getD-map}
+use Rattle.description.specs.Lawful.{lawful, lawfulCounts}
+use Rattle.description.specs.declared.Description.{Description}
+use Rattle.ranges.specs.Ranges.{allInside}
+use Rattle.ranges.proofs.Laws.{sound-none}
+use Rattle.registers.specs.Fit.{FitRegisters}
+use Rattle.registers.specs.Rules.{writeOf}
+use Rattle.registers.specs.declared.Registers.{Registers}
+use Rattle.registers.specs.declared.Effect.{Effect}
+use Rattle.registers.specs.declared.Effect.the-variants.{Nothing, Reset, Based, Rung}
+use Rattle.registers.proofs.Keeps.{power-on-fit, read-fit, write-fit}
+use Rattle.card.specs.Card.{cardOf, partsAtPower, noParts, noMessage, noCounters, noStream, freshStream, jackAtPower, withRegisters, configOf}
+use Rattle.card.specs.Fit.{Fit, FitParts, FitMessage}
+use Rattle.card.specs.Rules.{readCard, writeCard, affected, rungOf, resetCard, basedCard, jackReset, streamReset, partsReset}
+use Rattle.card.specs.declared.Card.{Card}
+use Rattle.card.specs.declared.Message.{Message}
+use Rattle.card.specs.declared.Parts.{Parts}
+use Rattle.card.specs.declared.Stream.{Stream}
+use Rattle.card.specs.declared.WriteAnswer.{WriteAnswer}
+
+pub no-message-fit : (len : ℕ) → FitMessage len noMessage
+unfolding allInside
+no-message-fit len =
+    record {
+      one = omega arith;
+      request = sound-none;
+      reply = sound-none;
+      few = omega arith;
+      short-request = omega arith;
+      short-reply = omega arith;
+      moved = omega arith;
+      request-inside = refl;
+      reply-inside = refl;
+    }
+
+-- ---- parts
+
+-- streams that a function makes Fresh
+fresh-states : {A : Type 0} (f : A → Stream) (d : A) → f d ≡ noStream → ((a : A) → f a .state ≡ 0) → (l : List A) (i : ℕ)
+    → getD (map f l) i noStream .state ≤ 5
+fresh-states f d e z l i = rw (← e, List·getD-map f l i d, z (getD l i d)) (omega arith)
+
+pub no-parts-fit : FitParts noParts
+no-parts-fit =
+    record {
+      jacks = omega arith;
+      maps = omega arith;
+      streams = omega arith;
+      four-jacks = refl;
+      four-maps = refl;
+      two-streams = refl;
+      states = fresh-states freshStream (noStream .info) refl (λ a. refl) (replicate 2 (noStream .info));
+    }
+
+pub parts-at-power-fit : (d : Description) → lawful d ≡ true → length (d .jacks) ≡ 4 → length (d .maps) ≡ 4 → length (d .streams) ≡ 2
+    → FitParts (partsAtPower d)
+unfolding lawful lawfulCounts
+parts-at-power-fit d h j m s =
+    let counts = and-eq-true-iff _ _ .0 (and-eq-true-iff _ _ .0 (and-eq-true-iff _ _ .0 h .0) .0) .0 in
+    let c = and-eq-true-iff (leb (d .«jack_count») 4 && leb (d .«map_count») 4 && eqb (d .«output_count») 1) (leb (d .«input_count») 1) .0 counts in
+    let b = and-eq-true-iff (leb (d .«jack_count») 4 && leb (d .«map_count») 4) (eqb (d .«output_count») 1) .0 (c .0) in
+    let a = and-eq-true-iff (leb (d .«jack_count») 4) (leb (d .«map_count») 4) .0 (b .0) in
+    record {
+      jacks = leb-true _ _ (a .0);
+      maps = leb-true _ _ (a .1);
+      streams = omega (arith, eqb-true (d .«output_count») 1 (b .1), leb-true (d .«input_count») 1 (c .1));
+      four-jacks = length-map (d .jacks) jackAtPower ∙ j;
+      four-maps = m;
+      two-streams = length-map (d .streams) freshStream ∙ s;
+      states = fresh-states freshStream (noStream .info) refl (λ a. refl) (d .streams);
+    }
+
+parts-reset-fit : (p : Parts) → FitParts p → FitParts (partsReset p)
+parts-reset-fit p f =
+    record {
+      jacks = f .jacks;
+      maps = f .maps;
+      streams = f .streams;
+      four-jacks = length-map (p .jacks) jackReset ∙ f .four-jacks;
+      four-maps = f .four-maps;
+      two-streams = length-map (p .streams) streamReset ∙ f .two-streams;
+      states = fresh-states streamReset noStream refl (λ a. refl) (p .streams);
+    }
+
+-- ---- cards
+
+pub card-of-fit : (p : Parts) (len : ℕ) → FitParts p → Fit (cardOf p len)
+card-of-fit p len f =
+    record { registers = power-on-fit; parts = f; four = refl; play = no-message-fit len; capture = no-message-fit len }
+
+module _ (c : Card) (f : Fit c) where
+  with-registers-fit : (r : Registers) → FitRegisters r → Fit (withRegisters c r)
+  with-registers-fit r g = record { registers = g; parts = f .parts; four = f .four; play = f .play; capture = f .capture }
+
+  pub read-card-fit : (offset width : ℕ) → Fit (readCard c offset width .card)
+  unfolding readCard
+  read-card-fit offset width = with-registers-fit _ (read-fit (c .registers) (f .registers) (configOf c) offset width)
+
+  reset-card-fit : Fit (resetCard c)
+  unfolding resetCard
+  reset-card-fit =
+      record {
+        registers = f .registers;
+        parts = parts-reset-fit (c .parts) (f .parts);
+        four = refl;
+        play = no-message-fit (c .«ram_len»);
+        capture = no-message-fit (c .«ram_len»);
+      }
+
+  dropped-fit : (b : Bool) (m : Message) → FitMessage (c .«ram_len») m → FitMessage (c .«ram_len») (cond b noMessage m)
+  dropped-fit true m g = no-message-fit (c .«ram_len»)
+  dropped-fit false m g = g
+
+  based-card-fit : (q : ℕ) → Fit (basedCard q c)
+  unfolding basedCard
+  based-card-fit q =
+      record {
+        registers = f .registers;
+        parts = f .parts;
+        four = length-set (c .queues) q noCounters ∙ f .four;
+        play = dropped-fit (eqb q 2) (c .play) (f .play);
+        capture = dropped-fit (eqb q 3) (c .capture) (f .capture);
+      }
+
+affected-fit : (e : Effect) (c : Card) → Fit c → Fit (affected e c)
+affected-fit Nothing c f = f
+affected-fit Reset c f = reset-card-fit c f
+affected-fit (Based q) c f = based-card-fit c f q
+affected-fit (Rung q) c f = f
+
+pub write-card-fit : (c : Card) → Fit c → (offset width v : ℕ) → Fit (writeCard c offset width v .card)
+unfolding writeCard
+write-card-fit c f offset width v =
+    affected-fit (writeOf (c .registers) offset width v .effect) (withRegisters c (writeOf (c .registers) offset width v .registers))
+    (with-registers-fit c f _ (write-fit (c .registers) (f .registers) offset width v))
+
+-- the outcome of a write whose effect is known, and that its card is fit
+pub write-by-effect : (c : Card) → Fit c → (offset width v : ℕ) (e : Effect) → writeOf (c .registers) offset width v .effect ≡ e
+    → (_≡_
+    {A = WriteAnswer}
+    (record {
+      answer = writeOf (c .registers) offset width v .answer;
+      rung = rungOf e;
+      card = affected e (withRegisters c (writeOf (c .registers) offset width v .registers));
+    })
+    (writeCard c offset width v))
+    × Fit (affected e (withRegisters c (writeOf (c .registers) offset width v .registers)))
+unfolding writeCard
+write-by-effect c f offset width v e h = rw (← h) (refl, write-card-fit c f offset width v)

@@ -1,0 +1,3 @@
+-- Laws of the card.
+pub mod Lists
+pub mod Keeps

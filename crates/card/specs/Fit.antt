@@ -1,0 +1,40 @@
+-- What holds of every card that power-up or an entry returned: all that an entry may require of the card given in.
+use mathlib.Core.Path.{_≡_}
+use mathlib.Core.Bool.{true}
+use Prim.Native.Nat.{ℕ, _+_, _≤_}
+use lib.ListN.{length, getD}
+use Rattle.ranges.specs.Ranges.{Sound, rangesOf, allInside}
+use Rattle.registers.specs.Fit.{FitRegisters}
+use Rattle.card.specs.Card.{noStream}
+use Rattle.card.specs.declared.Card.{Card}
+use Rattle.card.specs.declared.Message.{Message}
+use Rattle.card.specs.declared.Parts.{Parts}
+
+-- a message in work: at most one, its ranges remembered as the walk found them, inside RAM
+pub record FitMessage (len : ℕ) (m : Message) : Type 0 where
+  pub one : m .count ≤ 1
+  pub request : Sound (m .request)
+  pub reply : Sound (m .reply)
+  pub few : m .request .count + m .reply .count ≤ 34
+  pub short-request : m .request .bytes ≤ 1048576
+  pub short-reply : m .reply .bytes ≤ 1048576
+  pub moved : m .done ≤ 1048576
+  pub request-inside : allInside len (rangesOf (m .request)) ≡ true
+  pub reply-inside : allInside len (rangesOf (m .reply)) ≡ true
+
+-- no more parts than there is room for, each stream in one of the six states
+pub record FitParts (p : Parts) : Type 0 where
+  pub jacks : p .«jack_count» ≤ 4
+  pub maps : p .«map_count» ≤ 4
+  pub streams : p .«stream_count» ≤ 2
+  pub four-jacks : length (p .jacks) ≡ 4
+  pub four-maps : length (p .maps) ≡ 4
+  pub two-streams : length (p .streams) ≡ 2
+  pub states : (i : ℕ) → getD (p .streams) i noStream .state ≤ 5
+
+pub record Fit (c : Card) : Type 0 where
+  pub registers : FitRegisters (c .registers)
+  pub parts : FitParts (c .parts)
+  pub four : length (c .queues) ≡ 4
+  pub play : FitMessage (c .«ram_len») (c .play)
+  pub capture : FitMessage (c .«ram_len») (c .capture)

@@ -1,0 +1,406 @@
+// The card: its state as one struct by value, power-up, and the register entries. The state holds
+// numbers, arrays and structs only, so that it can cross to C.
+ghost use mathlib.Core.Path.{_≡_};
+ghost use mathlib.Core.List.{map};
+ghost use Rattle.card.specs.Card.{noMessage, freshStream, jackAtPower, partsAtPower, noParts, cardOf};
+ghost use Rattle.card.specs.Rules.{poweredOf, readCard, writeCard, resetCard, basedCard, jackReset, streamReset, partsReset};
+ghost use Rattle.card.specs.Fit.{Fit, FitParts};
+ghost use Rattle.description.specs.Lawful.{lawful};
+ghost use mathlib.Core.Bool.{true};
+ghost use Prim.Native.Nat.{_<_};
+ghost use Rattle.registers.specs.Rules.{raised};
+use counts::DescriptorNumber;
+use description::Description;
+use description::JackInfo;
+use description::MapInfo;
+use description::StreamInfo;
+use ranges::Ranges;
+use registers::Config;
+use registers::Effect;
+use registers::Registers;
+
+// What a WriteAnswer rings where no queue was rung.
+pub const NO_QUEUE: u8 = 255;
+
+// The states of a stream.
+pub const FRESH: u8 = 0;
+
+pub const SET: u8 = 1;
+
+pub const PREPARED: u8 = 2;
+
+pub const RUNNING: u8 = 3;
+
+pub const STOPPED: u8 = 4;
+
+pub const RELEASED: u8 = 5;
+
+// A jack: as it was described, with the configuration default and the connection as they are now.
+#[repr(C)]
+pub struct Jack {
+    pub info: JackInfo,
+    pub defconf: u32,
+    pub connected: u8,
+}
+
+// What SET_PARAMS accepted last.
+#[repr(C)]
+pub struct Params {
+    pub buffer_bytes: u32,
+    pub period_bytes: u32,
+    pub features: u32,
+    pub channels: u8,
+    pub format: u8,
+    pub rate: u8,
+}
+
+#[repr(C)]
+pub struct Stream {
+    pub info: StreamInfo,
+    pub state: u8,
+    pub params: Params,
+}
+
+// How many entries of a queue were taken and completed, modulo 65,536.
+#[repr(C)]
+pub struct Counters {
+    pub taken: u16,
+    pub completed: u16,
+}
+
+// The message in work of a stream's queue: `count` is how many there are (0 or 1), `done` how many
+// bytes of its payload were moved.
+#[repr(C)]
+pub struct Message {
+    pub count: u16,
+    pub head: DescriptorNumber,
+    pub done: u32,
+    pub request: Ranges,
+    pub reply: Ranges,
+}
+
+// The parts that were described: the first so many of each list.
+#[repr(C)]
+pub struct Parts {
+    pub jack_count: usize,
+    pub map_count: usize,
+    pub stream_count: usize,
+    pub jacks: [Jack; 4],
+    pub maps: [MapInfo; 4],
+    pub streams: [Stream; 2],
+}
+
+// The queues' counters by their number, the messages in work of the play and the capture queue.
+#[repr(C)]
+pub struct Card {
+    pub ram_len: usize,
+    pub registers: Registers,
+    pub parts: Parts,
+    pub queues: [Counters; 4],
+    pub play: Message,
+    pub capture: Message,
+}
+
+#[repr(C)]
+pub struct Powered {
+    pub answer: u8,
+    pub card: Card,
+}
+
+#[repr(C)]
+pub struct ReadAnswer {
+    pub answer: u8,
+    pub value: u32,
+    pub card: Card,
+}
+
+#[repr(C)]
+pub struct WriteAnswer {
+    pub answer: u8,
+    pub rung: u8,
+    pub card: Card,
+}
+
+fn no_message() -> Message
+    ensures { λ r. ⌜ r ≡ noMessage ⌝ }
+{
+    Message {
+        count: 0,
+        head: DescriptorNumber(0),
+        done: 0,
+        request: Ranges::none(),
+        reply: Ranges::none(),
+    }
+}
+
+// A stream in its first state.
+fn fresh(info: StreamInfo) -> Stream
+    ensures { λ r. ⌜ r ≡ freshStream info ⌝ }
+{
+    Stream {
+        info: info,
+        state: FRESH,
+        params: Params {
+            buffer_bytes: 0,
+            period_bytes: 0,
+            features: 0,
+            channels: 0,
+            format: 0,
+            rate: 0,
+        },
+    }
+}
+
+fn jack_at_power(info: JackInfo) -> Jack
+    ensures { λ r. ⌜ r ≡ jackAtPower info ⌝ }
+{
+    Jack {
+        info: info,
+        defconf: info.defconf,
+        connected: info.connected,
+    }
+}
+
+fn jack_reset(jack: Jack) -> Jack
+    ensures { λ r. ⌜ r ≡ jackReset jack ⌝ }
+{
+    let info = jack.info;
+    Jack {
+        info: info,
+        defconf: info.defconf,
+        connected: jack.connected,
+    }
+}
+
+fn jacks_at_power(infos: [JackInfo; 4]) -> [Jack; 4]
+    ensures { λ r. ⌜ r ≡ map jackAtPower infos ⌝ }
+{
+    [
+        jack_at_power(infos[0]),
+        jack_at_power(infos[1]),
+        jack_at_power(infos[2]),
+        jack_at_power(infos[3]),
+    ]
+}
+
+fn jacks_reset(jacks: [Jack; 4]) -> [Jack; 4]
+    ensures { λ r. ⌜ r ≡ map jackReset jacks ⌝ }
+{
+    [
+        jack_reset(jacks[0]),
+        jack_reset(jacks[1]),
+        jack_reset(jacks[2]),
+        jack_reset(jacks[3]),
+    ]
+}
+
+fn streams_at_power(infos: [StreamInfo; 2]) -> [Stream; 2]
+    ensures { λ r. ⌜ r ≡ map freshStream infos ⌝ }
+{
+    [fresh(infos[0]), fresh(infos[1])]
+}
+
+fn streams_reset(streams: [Stream; 2]) -> [Stream; 2]
+    ensures { λ r. ⌜ r ≡ map streamReset streams ⌝ }
+{
+    let first = streams[0];
+    let second = streams[1];
+    [fresh(first.info), fresh(second.info)]
+}
+
+fn parts_at_power(d: Description) -> Parts
+    requires { ⌜ lawful d ≡ true ⌝ }
+    ensures { λ r. ⌜ (r ≡ partsAtPower d) × FitParts r ⌝ }
+{
+    let jacks = d.jacks;
+    let maps = d.maps;
+    let streams = d.streams;
+    Parts {
+        jack_count: d.jack_count as usize,
+        map_count: d.map_count as usize,
+        stream_count: d.output_count as usize + d.input_count as usize,
+        jacks: jacks_at_power(jacks),
+        maps: maps,
+        streams: streams_at_power(streams),
+    }
+}
+
+fn parts_reset(parts: Parts) -> Parts
+    ensures { λ r. ⌜ r ≡ partsReset parts ⌝ }
+{
+    let jacks = parts.jacks;
+    let streams = parts.streams;
+    let after = jacks_reset(jacks);
+    let fresh = streams_reset(streams);
+    let mut next = parts;
+    next.jacks = after;
+    next.streams = fresh;
+    next
+}
+
+fn no_parts() -> Parts
+    ensures { λ r. ⌜ r ≡ noParts ⌝ }
+{
+    let jack = JackInfo {
+        nid: 0,
+        features: 0,
+        defconf: 0,
+        caps: 0,
+        connected: 0,
+    };
+    let map = MapInfo {
+        nid: 0,
+        direction: 0,
+        channels: 0,
+        positions: [0; 18],
+    };
+    let stream = StreamInfo {
+        nid: 0,
+        features: 0,
+        formats: 0,
+        rates: 0,
+        channels_min: 0,
+        channels_max: 0,
+    };
+    Parts {
+        jack_count: 0,
+        map_count: 0,
+        stream_count: 0,
+        jacks: [jack_at_power(jack); 4],
+        maps: [map; 4],
+        streams: [fresh(stream); 2],
+    }
+}
+
+// A card of these parts, as at power-up.
+fn card_of(parts: Parts, ram_len: usize) -> Card
+    ensures { λ r. ⌜ r ≡ cardOf parts «ram_len» ⌝ }
+{
+    Card {
+        ram_len: ram_len,
+        registers: Registers::power_on(),
+        parts: parts,
+        queues: [Counters {
+            taken: 0,
+            completed: 0,
+        }; 4],
+        play: no_message(),
+        capture: no_message(),
+    }
+}
+
+// Power-up: a card with `ram_len` bytes of memory, or answer 10.
+pub fn power_up(d: Description, ram_len: usize) -> Powered
+    ensures { λ r. ⌜ (r ≡ poweredOf d «ram_len») × Fit (r .card) ⌝ }
+{
+    if !description::is_lawful(d) {
+        return Powered {
+            answer: registers::BAD_DESCRIPTION,
+            card: card_of(no_parts(), 0),
+        };
+    }
+    Powered {
+        answer: registers::DONE,
+        card: card_of(parts_at_power(d), ram_len),
+    }
+}
+
+// A read of `width` bytes of the registers at `offset`.
+pub fn read_register(card: Card, offset: u64, width: u64) -> ReadAnswer
+    requires { ⌜ Fit card ⌝ }
+    ensures { λ r. ⌜ (r ≡ readCard card offset width) × Fit (r .card) ⌝ }
+{
+    let registers = card.registers;
+    let parts = card.parts;
+    let config = Config {
+        jacks: parts.jack_count as u32,
+        streams: parts.stream_count as u32,
+        chmaps: parts.map_count as u32,
+    };
+    let read = registers.read(config, offset, width);
+    let mut next = card;
+    let after = read.registers;
+    next.registers = after;
+    ReadAnswer {
+        answer: read.answer,
+        value: read.value,
+        card: next,
+    }
+}
+
+// The card after a reset, but for its registers.
+fn reset(card: Card) -> Card
+    ensures { λ r. ⌜ r ≡ resetCard card ⌝ }
+{
+    let parts = card.parts;
+    let mut next = card_of(parts_reset(parts), card.ram_len);
+    let registers = card.registers;
+    next.registers = registers;
+    next
+}
+
+// The card after a base write of `queue`, but for its registers.
+fn based(card: Card, queue: u16) -> Card
+    requires { ⌜ queue < 4 ⌝ }
+    ensures { λ r. ⌜ r ≡ basedCard queue card ⌝ }
+{
+    let mut next = card;
+    let at = queue as usize;
+    next.queues[at] = Counters {
+        taken: 0,
+        completed: 0,
+    };
+    if queue == 2 {
+        next.play = no_message();
+        return next;
+    }
+    if queue == 3 {
+        next.capture = no_message();
+        return next;
+    }
+    next
+}
+
+// A write of `value`, `width` bytes wide, to the registers at `offset`.
+pub fn write_register(card: Card, offset: u64, width: u64, value: u64) -> WriteAnswer
+    requires { ⌜ Fit card ⌝ }
+    ensures { λ r. ⌜ (r ≡ writeCard card offset width value) × Fit (r .card) ⌝ }
+{
+    let registers = card.registers;
+    let written = registers.write(offset, width, value);
+    let answer = written.answer;
+    let effect = written.effect;
+    let mut next = card;
+    let after = written.registers;
+    next.registers = after;
+    match effect {
+        Effect::Nothing => WriteAnswer {
+            answer: answer,
+            rung: NO_QUEUE,
+            card: next,
+        },
+        Effect::Reset => WriteAnswer {
+            answer: answer,
+            rung: NO_QUEUE,
+            card: reset(next),
+        },
+        Effect::Based(queue) => WriteAnswer {
+            answer: answer,
+            rung: NO_QUEUE,
+            card: based(next, queue),
+        },
+        Effect::Rung(queue) => WriteAnswer {
+            answer: answer,
+            rung: queue as u8,
+            card: next,
+        },
+    }
+}
+
+// Whether the interrupt line is raised.
+pub fn interrupt_line(card: Card) -> bool
+    ensures { λ r. ⌜ r ≡ raised (card .registers) ⌝ }
+{
+    let registers = card.registers;
+    registers.line()
+}
