@@ -1,0 +1,86 @@
+-- The walk's outcome is the rule's; a whole chain is judged, one that can't be walked has no ranges.
+use mathlib.Core.Path.{_≡_, _∙_, sym, ap}
+use Prim.Native.Nat.{_-_}
+use borrow.Author.Needs.{needs}
+use Rattle.chain.specs.Walk.{walkOf, faulted, whole, outcomeOf}
+use Rattle.ranges.specs.Ranges.{rangesOf}
+use Rattle.registers.specs.Map.{sizeOf}
+use Rattle.ring.specs.Rules.{baseOf}
+use Rattle.rules.specs.Device as rules
+use Rattle.message.specs.Message.{directionOf, formIn}
+use Rattle.message.proofs.Laws.{taken-by, no-ranges-fit, request-inside, reply-inside}
+use Rattle.message.proofs.take_chain.Statement.{statement}
+use Rattle.message.proofs.take_chain.Tie as tie
+
+address-requires : tie.Need-address-requires
+address-requires c κs = search needs
+
+queue-size-requires : tie.Need-queue-size-requires
+queue-size-requires c κs = search needs
+
+walk-requires : tie.Need-walk-requires
+walk-requires c κs = search needs
+
+enum-told : tie.Need-enum-told
+enum-told c = search needs
+
+enum-told-2 : tie.Need-enum-told-2
+enum-told-2 c = search needs
+
+none-requires : tie.Need-none-requires
+none-requires c κs = search needs
+
+none-requires-2 : tie.Need-none-requires-2
+none-requires-2 c κs = search needs
+
+returns : tie.Need-returns
+returns c =
+    let w = c .before .before .before .before .walk in
+    let a = c .before .before .before .before .before .before .before .before .args in
+    let o : outcomeOf (w .result) ≡ walkOf (a .m .now) (baseOf (a .q .page)) (sizeOf (rules.queueNumber (directionOf (a .q .direction)))) (a .head .0) (a .q .indirect) =
+    rw (c .before .before .before .before .before .before .address .ensures, c .before .before .before .before .before .queue-size .ensures) at (w .ensures .outcome) in (
+      rw (c .none2 .ensures, c .before .none .ensures)
+          (taken-by (directionOf (a .q .direction)) (a .m .now) (a .q .page) (a .q .indirect) (a .head .0) (faulted (c .before .before .enum-told2 .given .0 .0))
+          (sym (rw (c .before .before .enum-told2 .given .1)) ∙ o)),
+      rw (c .none2 .ensures, c .before .none .ensures) (no-ranges-fit _ _),
+    )
+
+form-of-requires : tie.Need-form-of-requires
+form-of-requires c κs = let w = c .before .before .before .before .before .walk in (w .ensures .sound .request, w .ensures .sound .reply)
+
+returns-2 : tie.Need-returns-2
+returns-2 c =
+    let w = c .before .before .before .before .before .before .walk in
+    let a = c .before .before .before .before .before .before .before .before .before .before .args in
+    let o : outcomeOf (w .result) ≡ walkOf (a .m .now) (baseOf (a .q .page)) (sizeOf (rules.queueNumber (directionOf (a .q .direction)))) (a .head .0) (a .q .indirect) =
+    rw (c .before .before .before .before .before .before .before .before .address .ensures, c .before .before .before .before .before .before .before .queue-size .ensures) at (w .ensures .outcome) in
+    let request = rangesOf (w .result .chain .request) in
+    let reply = rangesOf (w .result .chain .reply) in (
+      rw (c .form-of .ensures)
+          (taken-by (directionOf (a .q .direction)) (a .m .now) (a .q .page) (a .q .indirect) (a .head .0) (whole request reply)
+          (sym (rw (c .before .before .before .before .enum-told .given .1)) ∙ o)),
+      record {
+        request = w .ensures .sound .request;
+        reply = w .ensures .sound .reply;
+        few = w .ensures .sound .few;
+        short-request = w .ensures .sound .readable;
+        short-reply = w .ensures .sound .writable;
+        request-inside = λ e. request-inside (directionOf (a .q .direction)) (a .m .now) request reply (sym (c .form-of .ensures) ∙ ap formIn e);
+        reply-inside = λ e. reply-inside (directionOf (a .q .direction)) (a .m .now) request reply (sym (c .form-of .ensures) ∙ ap formIn e);
+      },
+    )
+
+pub take-chain-spec : {M : Type 1} → statement M
+take-chain-spec =
+    tie.close
+    (tie.spec
+    address-requires
+    queue-size-requires
+    walk-requires
+    enum-told
+    enum-told-2
+    none-requires
+    none-requires-2
+    returns
+    form-of-requires
+    returns-2)

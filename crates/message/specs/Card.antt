@@ -1,0 +1,44 @@
+-- What a card stands for in the rules: its queues with counters and message in work, and all the rest.
+use mathlib.Core.Bool.{cond}
+use mathlib.Core.Option.{Option, none, some}
+use Prim.Native.Nat.{ℕ}
+use lib.Dec.{eqb}
+use lib.ListN.{take, getD}
+use Rattle.ranges.specs.Ranges.{rangesOf}
+use Rattle.card.specs.Card.{noCounters}
+use Rattle.card.specs.declared.Card.{Card}
+use Rattle.card.specs.declared.Counters.{Counters}
+use Rattle.card.specs.declared.Message.{Message}
+use Rattle.rules.specs.Device as rules
+
+-- the message in work as it was taken
+abbrev pub takingIn : Message → rules.Taking
+takingIn m = record { head = m .head .0; request = rangesOf (m .request); reply = rangesOf (m .reply); form = rules.wellFormed }
+
+abbrev pub messageOf : Message → Option rules.Message
+messageOf m = cond (eqb (m .count) 0) none (some (record { taking = takingIn m; done = m .done }))
+
+abbrev pub queueOf : Counters → Message → rules.Queue
+queueOf c m = record { taken = c .taken; completed = c .completed; work = messageOf m }
+
+-- the counters of a queue
+abbrev pub countersAt : Card → ℕ → Counters
+countersAt c q = getD (c .queues) q noCounters
+
+-- all but the play queue
+unfoldable pub restOf : Card → rules.Rest
+restOf c =
+    record {
+      ram = c .«ram_len»;
+      registers = c .registers;
+      jacks = take (c .parts .«jack_count») (c .parts .jacks);
+      maps = take (c .parts .«map_count») (c .parts .maps);
+      streams = take (c .parts .«stream_count») (c .parts .streams);
+      control = countersAt c 0;
+      event = countersAt c 1;
+      capture = queueOf (countersAt c 3) (c .capture);
+    }
+
+-- the whole card
+unfoldable pub deviceOf : Card → rules.Device rules.Queue
+deviceOf c = record { rest = restOf c; play = queueOf (countersAt c 2) (c .play) }

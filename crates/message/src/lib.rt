@@ -1,0 +1,224 @@
+// Messages of a stream's queue (01, "Play, capture, events"): a chain taken and judged, and the
+// completion that answers it.
+ghost use mathlib.Core.Path.{_≡_};
+ghost use Prim.Native.Nat.{_-_, _≤_};
+ghost use lib.ListN.{length};
+ghost use Rattle.ranges.specs.Ranges.{rangesOf, Sound};
+ghost use Rattle.registers.specs.Map.{sizeOf};
+ghost use Rattle.ring.specs.Rules.{completion};
+ghost use Rattle.rules.specs.Device.{streamNumber, queueNumber};
+ghost use Rattle.rules.specs.Transfer.{idOf, sized, formOf, takingOf, statusBytes};
+ghost use Rattle.message.specs.Message.{directionOf, formIn, statusIn, takingIn, FitTaken, answeredOf, answeredLength};
+use counts::DescriptorNumber;
+use counts::PageNumber;
+use ranges::Ranges;
+use ring::Posted;
+
+// The status codes of an I/O message.
+pub const OK: u32 = 32768;
+
+pub const IO_ERR: u32 = 32771;
+
+// Output stream 0 on the play queue, input stream 1 on the capture queue.
+pub enum Direction {
+    Output,
+    Input,
+}
+
+// What a chain is when it is taken: well-formed; or ill-formed, answered IO_ERR, or with length 0
+// and nothing written.
+pub enum Form {
+    WellFormed,
+    Refused,
+    Silent,
+}
+
+// The status of a completion, where one is written.
+pub enum Status {
+    Nothing,
+    Code(u32),
+}
+
+// A stream's queue as its guest laid it out; `indirect`: bit 28 was negotiated.
+pub struct Virtqueue {
+    pub direction: Direction,
+    pub page: PageNumber,
+    pub indirect: bool,
+}
+
+// A chain as it was taken.
+pub struct Taken {
+    pub form: Form,
+    pub head: DescriptorNumber,
+    pub request: Ranges,
+    pub reply: Ranges,
+}
+
+// How many descriptors the queue of a direction has.
+pub fn queue_size(d: Direction) -> u16
+    ensures { λ r. ⌜ r ≡ sizeOf (queueNumber (directionOf d)) ⌝ }
+{
+    match d {
+        Direction::Output => registers::queue_size(2),
+        Direction::Input => registers::queue_size(3),
+    }
+}
+
+fn stream_number(d: Direction) -> u32
+    ensures { λ r. ⌜ r ≡ streamNumber (directionOf d) ⌝ }
+{
+    match d {
+        Direction::Output => 0,
+        Direction::Input => 1,
+    }
+}
+
+// The request's first four bytes, zeros where it has fewer.
+fn stream_id(m: &[u8], request: Ranges) -> u32
+    ensures { λ r. ⌜ r ≡ idOf (now (m .entry)) (rangesOf request) ⌝ }
+{
+    let mut bytes = [0u8; 4];
+    ranges::gather(m, request, 0, &mut bytes, 0, 4);
+    memory::number32(&bytes, 0)
+}
+
+// Whether both sides have the lengths that the direction asks.
+fn is_sized(d: Direction, request: u32, reply: u32) -> bool
+    ensures { λ r. ⌜ r ≡ sized (directionOf d) request reply ⌝ }
+{
+    match d {
+        Direction::Output => {
+            if request < 4 {
+                return false;
+            }
+            if reply == 8 {
+                return true;
+            }
+            false
+        }
+        Direction::Input => {
+            if request == 4 {
+                return true;
+            }
+            false
+        }
+    }
+}
+
+// The form of a chain that was walked whole.
+fn form_of(m: &[u8], d: Direction, request: Ranges, reply: Ranges) -> Form
+    requires { ⌜ Sound request × Sound reply ⌝ }
+    ensures { λ r. ⌜ formIn r ≡ formOf (directionOf d) (now (m .entry)) (rangesOf request) (rangesOf reply) ⌝ }
+{
+    if !ranges::all_inside(m.len(), reply) {
+        return Form::Silent;
+    }
+    if reply.bytes < 8 {
+        return Form::Silent;
+    }
+    if !ranges::all_inside(m.len(), request) {
+        return Form::Refused;
+    }
+    if stream_id(m, request) != stream_number(d) {
+        return Form::Refused;
+    }
+    if is_sized(d, request.bytes, reply.bytes) {
+        return Form::WellFormed;
+    }
+    Form::Refused
+}
+
+// The chain at `head`, judged as memory shows it now.
+pub fn take_chain(m: &[u8], q: Virtqueue, head: DescriptorNumber) -> Taken
+    ensures { λ r. ⌜ (takingIn r ≡ takingOf (directionOf (q .direction)) (now (m .entry)) (q .page) (q .indirect) (head .0))
+        × FitTaken (length (now (m .entry))) r ⌝ }
+{
+    let direction = q.direction;
+    let walked = chain::walk(m, q.page.address(), queue_size(direction), head, q.indirect);
+    let end = walked.end;
+    let chain::End::Whole = end else {
+        return Taken {
+            form: Form::Silent,
+            head: head,
+            request: Ranges::none(),
+            reply: Ranges::none(),
+        };
+    };
+    let chain = walked.chain;
+    let request = chain.request;
+    let reply = chain.reply;
+    Taken {
+        form: form_of(m, direction, request, reply),
+        head: head,
+        request: request,
+        reply: reply,
+    }
+}
+
+// The eight bytes of a status, with latency 0.
+fn status_bytes(code: u32) -> [u8; 8]
+    ensures { λ r. ⌜ r ≡ statusBytes code ⌝ }
+{
+    let mut bytes = [0u8; 8];
+    memory::set32(&mut bytes, 0, code);
+    bytes
+}
+
+// The length of a used entry whose status is written.
+fn used_length(d: Direction, recorded: u32) -> u32
+    requires { ⌜ recorded ≤ 1048576 ⌝ }
+    ensures { λ r. ⌜ r ≡ answeredLength (directionOf d) recorded ⌝ }
+{
+    match d {
+        Direction::Output => 8,
+        Direction::Input => 8 + recorded,
+    }
+}
+
+// A chain answered: its status in the last eight bytes of the reply, then the used entry.
+pub fn answer(
+    m: &mut [u8],
+    q: Virtqueue,
+    completed: u16,
+    head: DescriptorNumber,
+    reply: Ranges,
+    status: Status,
+    recorded: u32,
+) -> Posted
+    requires { ⌜ Sound reply × (recorded ≤ 1048576) ⌝ }
+    ensures { λ r. ⌜ completion (now (m .exit)) r
+        ≡ answeredOf (directionOf (q .direction)) (now (m .entry)) (q .page) completed (head .0) (rangesOf reply) (statusIn status) recorded ⌝ }
+{
+    let direction = q.direction;
+    let size = queue_size(direction);
+    match status {
+        Status::Nothing => ring::post(m, q.page, size, completed, head, 0),
+        Status::Code(code) => {
+            let bytes = status_bytes(code);
+            let offset = last_eight(reply.bytes);
+            let len = used_length(direction, recorded);
+            ring::complete(
+                m,
+                q.page,
+                size,
+                completed,
+                head,
+                len,
+                reply,
+                offset,
+                &bytes,
+                8,
+            )
+        }
+    }
+}
+
+// Where the last eight of so many bytes begin.
+fn last_eight(bytes: u32) -> usize
+    ensures { λ r. ⌜ r ≡ bytes - 8 ⌝ }
+{
+    if bytes < 8 {
+        return 0;
+    }
+    (bytes - 8) as usize
+}

@@ -1,0 +1,25 @@
+-- Cases of a Bool test, each with what the test then tells. (`by-cond`, for one choice, is the registers'.)
+use mathlib.Core.Path.{_≡_, refl}
+use mathlib.Core.Bool.{Bool, true, false, cond}
+
+-- a choice is shown as another where each of its two ways is
+pub map-cond :
+    {A B : Type 0} (f : A → B) (b : Bool) {x y : A} {u v : B}
+    → (b ≡ true → u ≡ f x)
+    → (b ≡ false → v ≡ f y)
+    → cond b u v ≡ f (cond b x y)
+map-cond f true h k = h refl
+map-cond f false h k = k refl
+
+-- two choices by one test
+pub by-cond₂ :
+    {A B : Type 0} (R : A → B → Type 0) (b : Bool) {x y : A} {u v : B}
+    → (b ≡ true → R x u)
+    → (b ≡ false → R y v)
+    → R (cond b x y) (cond b u v)
+by-cond₂ R true h k = h refl
+by-cond₂ R false h k = k refl
+
+pub cond-same : {A : Type 0} (b : Bool) (x : A) → cond b x x ≡ x
+cond-same true x = refl
+cond-same false x = refl

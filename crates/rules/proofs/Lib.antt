@@ -1,0 +1,13 @@
+-- Demand 3: cases and lists; what each change of a history keeps; that the rules, and with them the calls, run alike over any two ways
+-- of keeping the play queue; that histories and counters are two such; the theorem; and what follows from it, and from the account
+-- alone, in a reader's words.
+pub mod Cases
+pub mod Lists
+pub mod Keeps
+pub mod Natural
+pub mod Calls
+pub mod Histories
+pub mod Theorem
+pub mod Reading
+pub mod Release
+pub mod Drained

@@ -1,0 +1,80 @@
+-- Facts about lists, of positions and of a history's notes and losses.
+use mathlib.Core.Path.{_≡_, refl, sym, ap}
+use mathlib.Core.Bool.{Bool, true, cond}
+use mathlib.Core.List.{List, [], _∷_, _++_, map, append-assoc}
+use Prim.Native.Nat.{ℕ, zero, suc, _+_, _-_, _≤_}
+use native.Mathlib.Omega.{arith}
+use borrow.Author.Tests.{eq-eqb, ne-eqb}
+use lib.Dec.{eqb}
+use lib.ListN.{length, take, getD, length-append}
+use Rattle.ranges.specs.Ranges.{upFrom, bytesAt}
+use Rattle.ranges.proofs.Laws.{length-upFrom, upFrom-add}
+use Rattle.rules.specs.Transfer.{isNil}
+use Rattle.rules.specs.Histories.{Note, only, handedOf, readOf, lostOf, notesOf, lossesOf}
+use Rattle.rules.proofs.Cases.{map-cond}
+
+-- ---- lists
+
+pub nil-true : (l : List ℕ) → isNil l ≡ true → l ≡ []
+nil-true [] e = refl
+nil-true (x ∷ l) e = let z : _≡_ {A = ℕ} 0 1 = ap (λ (b : Bool). cond b 1 0) e in absurd (omega arith)
+
+pub nil-left : {A : Type 0} (xs ys : List A) → xs ++ ys ≡ [] → xs ≡ []
+nil-left [] ys h = refl
+nil-left (x ∷ xs) ys h = absurd (omega (arith, ap length h))
+
+pub take-self : (k : ℕ) (l : List ℕ) → take (length (take k l)) l ≡ take k l
+take-self zero l = refl
+take-self (suc k) [] = refl
+take-self (suc k) (x ∷ l) = rw (take-self k l)
+
+pub getD-snoc-other : {A : Type 0} (l : List A) (x : A) (i : ℕ) (d : A) → (i ≡ length l → ⊥) → getD (l ++ x ∷ []) i d ≡ getD l i d
+getD-snoc-other [] x zero d h = absurd (h refl)
+getD-snoc-other [] x (suc i) d h = refl
+getD-snoc-other (y ∷ l) x zero d h = refl
+getD-snoc-other (y ∷ l) x (suc i) d h = getD-snoc-other l x i d (λ e. h (ap suc e))
+
+-- ---- the elements with a key
+
+pub only-append : {A : Type 0} (key val : A → ℕ) (t : ℕ) (xs ys : List A) → only key val t (xs ++ ys) ≡ only key val t xs ++ only key val t ys
+only-append key val t [] ys = refl
+only-append key val t (x ∷ xs) ys =
+    rw (only-append key val t xs ys) (map-cond (λ (l : List ℕ). l ++ only key val t ys) (eqb (key x) t) (λ e. refl) (λ e. refl))
+
+pub handedOf-same : (t p : ℕ) (m xs : List ℕ) → handedOf t (notesOf t p m xs) ≡ upFrom p (length xs)
+unfolding upFrom
+handedOf-same t p m [] = refl
+handedOf-same t p m (x ∷ xs) = rw (eq-eqb t t refl, handedOf-same t (p + 1) m xs)
+
+pub readOf-same : (t p : ℕ) (m xs : List ℕ) → readOf t (notesOf t p m xs) ≡ xs
+readOf-same t p m [] = refl
+readOf-same t p m (x ∷ xs) = rw (eq-eqb t t refl, readOf-same t (p + 1) m xs)
+
+-- the notes of another taking are none of t's
+pub notesOf-other : (val : Note → ℕ) (t s p : ℕ) (m xs : List ℕ) → (t ≡ s → ⊥) → only (λ (n : Note). n .of) val t (notesOf s p m xs) ≡ []
+notesOf-other val t s p m [] h = refl
+notesOf-other val t s p m (x ∷ xs) h = rw (ne-eqb s t (λ e. h (sym e)), notesOf-other val t s (p + 1) m xs h)
+
+pub bytes-notesOf : (t p : ℕ) (m xs : List ℕ) → map (λ (n : Note). n .byte) (notesOf t p m xs) ≡ bytesAt m xs
+bytes-notesOf t p m [] = refl
+bytes-notesOf t p m (x ∷ xs) = rw (bytes-notesOf t (p + 1) m xs)
+
+pub lostOf-same : (t : ℕ) (ps : List ℕ) → lostOf t (lossesOf t ps) ≡ ps
+lostOf-same t [] = refl
+lostOf-same t (p ∷ ps) = rw (eq-eqb t t refl, lostOf-same t ps)
+
+pub lostOf-other : (t s : ℕ) (ps : List ℕ) → (t ≡ s → ⊥) → lostOf t (lossesOf s ps) ≡ []
+lostOf-other t s [] h = refl
+lostOf-other t s (p ∷ ps) h = rw (ne-eqb s t (λ e. h (sym e)), lostOf-other t s ps h)
+
+-- ---- positions
+
+-- positions handed on move from those that wait to those handed
+pub hand-on :
+    (h : List ℕ) (k n : ℕ)
+    → length h + k ≤ n
+    → h ++ upFrom (length h) (n - length h) ≡ upFrom 0 n
+    → h ++ upFrom (length h) k ++ upFrom (length (h ++ upFrom (length h) k)) (n - length (h ++ upFrom (length h) k)) ≡ upFrom 0 n
+hand-on h k n f e =
+    let r : n - length h ≡ k + (n - (length h + k)) = omega arith in
+    rw (length-append, length-upFrom, append-assoc, ← upFrom-add, ← r) e

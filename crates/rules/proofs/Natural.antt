@@ -1,0 +1,388 @@
+-- The rules run alike over two ways of keeping a stream's queue, where each operation does: nothing here knows counters or
+-- histories, and nothing opens the rest of the card.
+use mathlib.Core.Path.{_≡_, refl, ap, _∙_}
+use mathlib.Core.Bool.{Bool, true, false, cond, _&&_, not, and-eq-true-iff}
+use mathlib.Core.List.{List, [], _++_, append-nil, append-assoc}
+use Prim.Native.Nat.{ℕ, zero, suc}
+use borrow.Author.Tests.{not-true}
+use lib.Dec.{ltb}
+use lib.ListN.{take}
+use Rattle.counts.specs.declared.PageNumber.{PageNumber}
+use Rattle.registers.specs.Map.{sizeOf}
+use Rattle.registers.specs.declared.Registers.{Registers}
+use Rattle.registers.proofs.Keeps.{by-cond}
+use Rattle.ring.specs.Rules.{headAt, indexOf}
+use Rattle.ring.specs.declared.Check.{Check}
+use Rattle.ring.specs.declared.Head.{Head}
+use Rattle.rules.specs.Calls.{Emptied, emptiedBy, emptiedFound, emptied, Transferred, transferredBy}
+use Rattle.rules.specs.Device.{Direction, output, input, queueNumber, Taking, Ending, finished, released, illFormed}
+use Rattle.rules.specs.Loop.{loop}
+use Rattle.rules.specs.Transfer.{Ops, Run, isWell, isNil, payloadOf, takingOf, begun, completed, memoryMoved, bytesMoved, moved, settled, worked, givenUp, taking, entered, met, next, transferMore, releaseMore, transferRun, releaseRun, found}
+use Rattle.rules.proofs.Cases.{map-cond}
+use Rattle.rules.proofs.Lists.{nil-true}
+
+-- ---- two loops that run alike: `f` shows one state as the other, where `P` holds
+
+module _
+    {A D : Type 0}
+    (f : A → D)
+    (P : A → Type 0)
+    (wA : A → A)
+    (mA : A → Bool)
+    (nA : A → A)
+    (wD : D → D)
+    (mD : D → Bool)
+    (nD : D → D)
+    (w-same : (s : A) → P s → wD (f s) ≡ f (wA s))
+    (w-keeps : (s : A) → P s → P (wA s))
+    (m-same : (s : A) → P s → mD (f s) ≡ mA s)
+    (n-same : (s : A) → P s → mA s ≡ true → nD (f s) ≡ f (nA s))
+    (n-keeps : (s : A) → P s → mA s ≡ true → P (nA s)) where
+  pub loop-alike : (k : ℕ) (s : A) → P s → (loop wD mD nD k (f s) ≡ f (loop wA mA nA k s)) × P (loop wA mA nA k s)
+  unfolding loop
+  loop-alike zero s p = (w-same s p, w-keeps s p)
+  loop-alike (suc k) s p = rw (w-same s p, m-same (wA s) (w-keeps s p)) (go (mA (wA s)) refl (loop-alike k (nA (wA s))))
+    where
+      go :
+          (b : Bool)
+          → mA (wA s) ≡ b
+          → (P (nA (wA s)) → (loop wD mD nD k (f (nA (wA s))) ≡ f (loop wA mA nA k (nA (wA s)))) × P (loop wA mA nA k (nA (wA s))))
+          → (cond b (loop wD mD nD k (nD (f (wA s)))) (f (wA s)) ≡ f (cond b (loop wA mA nA k (nA (wA s))) (wA s)))
+          × P (cond b (loop wA mA nA k (nA (wA s))) (wA s))
+      go true e ih = rw (n-same (wA s) (w-keeps s p) e) (ih (n-keeps (wA s) (w-keeps s p) e))
+      go false e ih = (refl, w-keeps s p)
+
+-- ---- two ways of keeping a queue that are alike
+
+-- `f` shows a queue kept one way as one kept the other, where `I` holds; `I` tells of the bytes moved so far
+pub record Alike {H Q : Type 0} (A : Ops H) (D : Ops Q) (d : Direction) (f : H → Q) (I : List ℕ → H → Type 0) : Type 0 where
+  pub empty-same : D .empty ≡ f (A .empty)
+  pub empty-keeps : I [] (A .empty)
+  pub new-same : (h : H) (i : ℕ) → D .new (f h) i ≡ A .new h i
+  pub place-same : (h : H) → D .place (f h) ≡ A .place h
+  pub usedPlace-same : (h : H) → D .usedPlace (f h) ≡ A .usedPlace h
+  pub usedIndex-same : (h : H) → D .usedIndex (f h) ≡ A .usedIndex h
+  pub idle-same : (h : H) → D .idle (f h) ≡ A .idle h
+  pub work-same : (h : H) → A .idle h ≡ false → D .work (f h) ≡ A .work h
+  pub done-same : (h : H) → A .idle h ≡ false → D .done (f h) ≡ A .done h
+  pub left-same : (h : H) → A .idle h ≡ false → D .left (f h) ≡ A .left h
+  pub take-same : (w : List ℕ) (h : H) (t : Taking) → I w h → A .idle h ≡ true → D .take t (f h) ≡ f (A .take t h)
+  pub take-keeps : (w : List ℕ) (h : H) (t : Taking) → I w h → A .idle h ≡ true → I w (A .take t h)
+  pub take-busy : (w : List ℕ) (h : H) (t : Taking) → I w h → A .idle h ≡ true → A .idle (A .take t h) ≡ false
+  pub take-left : (w : List ℕ) (h : H) (t : Taking) → I w h → A .idle h ≡ true → A .left (A .take t h) ≡ payloadOf d t
+  pub hand-same : (h : H) (m xs : List ℕ) → A .idle h ≡ false → D .hand m xs (f h) ≡ f (A .hand m xs h)
+  pub hand-keeps :
+      (page : PageNumber) (negotiated : Bool) (w : List ℕ) (h : H) (m host : List ℕ) (room : ℕ)
+      → I w h
+      → I (w ++ bytesMoved A d page negotiated d (take room (A .left h)) host m) (A .hand m (take room (A .left h)) h)
+  pub hand-busy : (h : H) (m xs : List ℕ) → A .idle (A .hand m xs h) ≡ A .idle h
+  pub complete-same : (w : List ℕ) (h : H) (e : Ending) → I w h → A .idle h ≡ false → D .complete e (f h) ≡ f (A .complete e h)
+  pub complete-keeps :
+      (w : List ℕ) (h : H) (e : Ending) → I w h → A .idle h ≡ false → ((e ≡ released → ⊥) → A .left h ≡ []) → I w (A .complete e h)
+
+-- an ill-formed message has no payload
+ill-formed-none : (d : Direction) (t : Taking) → isWell (t .form) ≡ false → payloadOf d t ≡ []
+unfolding payloadOf
+ill-formed-none d t e = rw e
+
+-- what is moved does not ask how the queue is kept
+module _ {H Q : Type 0} (A : Ops H) (D : Ops Q) (page : PageNumber) (negotiated : Bool) (xs host m : List ℕ) where
+  memory-same : (d : Direction) → memoryMoved D d page negotiated d xs host m ≡ memoryMoved A d page negotiated d xs host m
+  memory-same output = refl
+  memory-same input = refl
+
+  bytes-same : (d : Direction) → bytesMoved D d page negotiated d xs host m ≡ bytesMoved A d page negotiated d xs host m
+  bytes-same output = refl
+  bytes-same input = refl
+
+-- what a call made of a queue, shown
+unfoldable pub lowEmptied : {H Q : Type 0} → (H → Q) → Emptied H → Emptied Q
+lowEmptied f e = record { queue = f (e .queue); mem = e .mem; sound = e .sound; signal = e .signal }
+
+unfoldable pub lowTransferred : {H Q : Type 0} → (H → Q) → Transferred H → Transferred Q
+lowTransferred f t =
+    record { queue = f (t .queue); registers = t .registers; answer = t .answer; bytes = t .bytes; mem = t .mem }
+
+-- ---- the rules over two such
+
+module _
+    {H Q : Type 0}
+    (A : Ops H)
+    (D : Ops Q)
+    (d : Direction)
+    (f : H → Q)
+    (I : List ℕ → H → Type 0)
+    (L : Alike A D d f I)
+    (page : PageNumber)
+    (negotiated : Bool) where
+  unfoldable lower : Run H → Run Q
+  lower r =
+      record {
+        queue = f (r .queue);
+        mem = r .mem;
+        bytes = r .bytes;
+        host = r .host;
+        room = r .room;
+        sound = r .sound;
+        signal = r .signal;
+      }
+
+  idle-same : (s : Run H) → D .idle (lower s .queue) ≡ A .idle (s .queue)
+  unfolding lower
+  idle-same s = L .idle-same (s .queue)
+
+  left-same : (s : Run H) → A .idle (s .queue) ≡ false → D .left (lower s .queue) ≡ A .left (s .queue)
+  unfolding lower
+  left-same s busy = L .left-same (s .queue) busy
+
+  completed-same :
+      (w : List ℕ) (e : Ending) (s : Run H)
+      → I w (s .queue)
+      → A .idle (s .queue) ≡ false
+      → completed D d page negotiated e (lower s) ≡ lower (completed A d page negotiated e s)
+  unfolding lower completed
+  completed-same w e s i busy =
+      rw (
+        L .complete-same w (s .queue) e i busy,
+        L .usedPlace-same (s .queue),
+        L .usedIndex-same (s .queue),
+        L .work-same (s .queue) busy,
+        L .done-same (s .queue) busy,
+      )
+
+  moved-same : (s : Run H) → A .idle (s .queue) ≡ false → moved D d page negotiated (lower s) ≡ lower (moved A d page negotiated s)
+  unfolding lower moved
+  moved-same s busy =
+      let xs : List ℕ = take (s .room) (A .left (s .queue)) in
+      rw (
+        L .left-same (s .queue) busy,
+        L .hand-same (s .queue) (s .mem) xs busy,
+        memory-same A D page negotiated xs (s .host) (s .mem) d,
+        bytes-same A D page negotiated xs (s .host) (s .mem) d,
+      )
+
+  taking-same :
+      (w : List ℕ) (t : Taking) (s : Run H)
+      → I w (s .queue)
+      → A .idle (s .queue) ≡ true
+      → taking D d page negotiated t (lower s) ≡ lower (taking A d page negotiated t s)
+  unfolding lower
+  taking-same w t s i free = rw (L .take-same w (s .queue) t i free)
+
+  -- what a loop keeps: `I`, of the bytes before this call and perhaps those of this call
+  module _ (g : List ℕ → List ℕ) where
+    abbrev Fine : Run H → Type 0
+    Fine s = I (g (s .bytes)) (s .queue)
+
+    completed-keeps :
+        (e : Ending) (s : Run H)
+        → Fine s
+        → A .idle (s .queue) ≡ false
+        → ((e ≡ released → ⊥) → A .left (s .queue) ≡ [])
+        → Fine (completed A d page negotiated e s)
+    unfolding completed
+    completed-keeps e s i busy all = L .complete-keeps (g (s .bytes)) (s .queue) e i busy all
+
+    pub give-keeps : (s : Run H) → Fine s → Fine (givenUp A d page negotiated s)
+    give-keeps s i = by-cond Fine (A .idle (s .queue)) (λ e. i) (λ e. completed-keeps released s i e (λ n. absurd (n refl)))
+
+    give-same : (s : Run H) → Fine s → givenUp D d page negotiated (lower s) ≡ lower (givenUp A d page negotiated s)
+    give-same s i =
+        rw (idle-same s) (map-cond lower (A .idle (s .queue)) (λ e. refl) (λ e. completed-same (g (s .bytes)) released s i e))
+
+    taking-keeps : (t : Taking) (s : Run H) → Fine s → A .idle (s .queue) ≡ true → Fine (taking A d page negotiated t s)
+    taking-keeps t s i free = L .take-keeps (g (s .bytes)) (s .queue) t i free
+
+    entered-keeps : (t : Taking) (s : Run H) → Fine s → A .idle (s .queue) ≡ true → Fine (entered A d page negotiated t s)
+    unfolding entered
+    entered-keeps t s i free =
+        let u : Run H = taking A d page negotiated t s in
+        by-cond Fine (isWell (t .form)) (λ e. taking-keeps t s i free)
+        (λ e.
+        completed-keeps illFormed u (taking-keeps t s i free) (L .take-busy (g (s .bytes)) (s .queue) t i free)
+        (λ n. L .take-left (g (s .bytes)) (s .queue) t i free ∙ ill-formed-none d t e))
+
+    entered-same :
+        (t : Taking) (s : Run H)
+        → Fine s
+        → A .idle (s .queue) ≡ true
+        → entered D d page negotiated t (lower s) ≡ lower (entered A d page negotiated t s)
+    unfolding entered
+    entered-same t s i free =
+        let u : Run H = taking A d page negotiated t s in
+        map-cond lower (isWell (t .form)) (λ e. taking-same (g (s .bytes)) t s i free)
+        (λ e.
+        ap (completed D d page negotiated illFormed) (taking-same (g (s .bytes)) t s i free)
+        ∙ completed-same (g (s .bytes)) illFormed u (taking-keeps t s i free) (L .take-busy (g (s .bytes)) (s .queue) t i free))
+
+    met-keeps : (n : Head) (s : Run H) → Fine s → A .idle (s .queue) ≡ true → Fine (met A d page negotiated n s)
+    met-keeps (Head.At n) s i free = entered-keeps (takingOf d (s .mem) page negotiated (n .0)) s i free
+    met-keeps (Head.Broken cause) s i free = i
+
+    met-same :
+        (n : Head) (s : Run H)
+        → Fine s
+        → A .idle (s .queue) ≡ true
+        → met D d page negotiated n (lower s) ≡ lower (met A d page negotiated n s)
+    unfolding lower
+    met-same (Head.At n) s i free = entered-same (takingOf d (s .mem) page negotiated (n .0)) s i free
+    met-same (Head.Broken cause) s i free = refl
+
+    pub next-keeps : (s : Run H) → Fine s → A .idle (s .queue) ≡ true → Fine (next A d page negotiated s)
+    unfolding next
+    next-keeps s i free = met-keeps (headAt (s .mem) page (sizeOf (queueNumber d)) (A .place (s .queue))) s i free
+
+    next-same :
+        (s : Run H) → Fine s → A .idle (s .queue) ≡ true → next D d page negotiated (lower s) ≡ lower (next A d page negotiated s)
+    unfolding next lower
+    next-same s i free =
+        rw (L .place-same (s .queue)) (met-same (headAt (s .mem) page (sizeOf (queueNumber d)) (A .place (s .queue))) s i free)
+
+  -- ---- a transfer
+
+  module _ (w : List ℕ) where
+    abbrev Moved : Run H → Type 0
+    Moved s = I (w ++ s .bytes) (s .queue)
+
+    moved-keeps : (s : Run H) → Moved s → Moved (moved A d page negotiated s)
+    unfolding moved
+    moved-keeps s i = rw (← append-assoc) (L .hand-keeps page negotiated (w ++ s .bytes) (s .queue) (s .mem) (s .host) (s .room) i)
+
+    moved-busy : (s : Run H) → A .idle (s .queue) ≡ false → A .idle (moved A d page negotiated s .queue) ≡ false
+    unfolding moved
+    moved-busy s busy = L .hand-busy (s .queue) (s .mem) (take (s .room) (A .left (s .queue))) ∙ busy
+
+    settled-keeps : (s : Run H) → Moved s → A .idle (s .queue) ≡ false → Moved (settled A d page negotiated s)
+    settled-keeps s i busy =
+        by-cond Moved (isNil (A .left (s .queue)))
+        (λ e. completed-keeps (λ o. w ++ o) finished s i busy (λ n. nil-true (A .left (s .queue)) e)) (λ e. i)
+
+    settled-same :
+        (s : Run H)
+        → Moved s
+        → A .idle (s .queue) ≡ false
+        → settled D d page negotiated (lower s) ≡ lower (settled A d page negotiated s)
+    settled-same s i busy =
+        rw (left-same s busy)
+        (map-cond lower (isNil (A .left (s .queue))) (λ e. completed-same (w ++ s .bytes) finished s i busy) (λ e. refl))
+
+    -- with room left, a message in work is worked
+    abbrev works : Run H → Bool
+    works s = ltb 0 (s .room) && not (A .idle (s .queue))
+
+    works-same : (s : Run H) → ltb 0 (lower s .room) && not (D .idle (lower s .queue)) ≡ works s
+    unfolding lower
+    works-same s = rw (L .idle-same (s .queue))
+
+    works-busy : (s : Run H) → works s ≡ true → A .idle (s .queue) ≡ false
+    works-busy s e = not-true (A .idle (s .queue)) (and-eq-true-iff (ltb 0 (s .room)) (not (A .idle (s .queue))) .0 e .1)
+
+    pub worked-keeps : (s : Run H) → Moved s → Moved (worked A d page negotiated s)
+    worked-keeps s i =
+        by-cond Moved (works s)
+        (λ e. settled-keeps (moved A d page negotiated s) (moved-keeps s i) (moved-busy s (works-busy s e))) (λ e. i)
+
+    worked-same : (s : Run H) → Moved s → worked D d page negotiated (lower s) ≡ lower (worked A d page negotiated s)
+    worked-same s i =
+        rw (works-same s)
+        (map-cond lower (works s)
+        (λ e.
+        ap (settled D d page negotiated) (moved-same s (works-busy s e))
+        ∙ settled-same (moved A d page negotiated s) (moved-keeps s i) (moved-busy s (works-busy s e)))
+        (λ e. refl))
+
+    pub transfer-free : (s : Run H) → transferMore A d page negotiated s ≡ true → A .idle (s .queue) ≡ true
+    transfer-free s e = and-eq-true-iff (s .sound && ltb 0 (s .room)) (A .idle (s .queue)) .0 e .1
+
+    transferMore-same : (s : Run H) → transferMore D d page negotiated (lower s) ≡ transferMore A d page negotiated s
+    unfolding lower
+    transferMore-same s = rw (L .idle-same (s .queue))
+
+    transferRun-alike :
+        (k : ℕ) (s : Run H)
+        → Moved s
+        → (transferRun D d page negotiated k (lower s) ≡ lower (transferRun A d page negotiated k s))
+        × Moved (transferRun A d page negotiated k s)
+    unfolding transferRun
+    transferRun-alike =
+        loop-alike lower Moved (worked A d page negotiated) (transferMore A d page negotiated) (next A d page negotiated)
+        (worked D d page negotiated) (transferMore D d page negotiated) (next D d page negotiated)
+        worked-same worked-keeps (λ s i. transferMore-same s)
+        (λ s i e. next-same (λ o. w ++ o) s i (transfer-free s e)) (λ s i e. next-keeps (λ o. w ++ o) s i (transfer-free s e))
+
+    -- ---- a Release
+
+    abbrev Kept : Run H → Type 0
+    Kept s = I w (s .queue)
+
+    pub release-free : (s : Run H) → releaseMore A d page negotiated s ≡ true → A .idle (s .queue) ≡ true
+    release-free s e = and-eq-true-iff (s .sound) (A .idle (s .queue)) .0 e .1
+
+    releaseMore-same : (s : Run H) → releaseMore D d page negotiated (lower s) ≡ releaseMore A d page negotiated s
+    unfolding lower
+    releaseMore-same s = rw (L .idle-same (s .queue))
+
+    releaseRun-alike :
+        (k : ℕ) (s : Run H)
+        → Kept s
+        → (releaseRun D d page negotiated k (lower s) ≡ lower (releaseRun A d page negotiated k s))
+        × Kept (releaseRun A d page negotiated k s)
+    unfolding releaseRun
+    releaseRun-alike =
+        loop-alike lower Kept (givenUp A d page negotiated) (releaseMore A d page negotiated) (next A d page negotiated)
+        (givenUp D d page negotiated) (releaseMore D d page negotiated) (next D d page negotiated)
+        (give-same (λ o. w)) (give-keeps (λ o. w)) (λ s i. releaseMore-same s)
+        (λ s i e. next-same (λ o. w) s i (release-free s e)) (λ s i e. next-keeps (λ o. w) s i (release-free s e))
+
+    -- ---- what a call finds of the queue, and what it makes of it
+
+    begun-same : (q : H) (m host : List ℕ) → begun (f q) m host ≡ lower (begun q m host)
+    unfolding lower
+    begun-same q m host = refl
+
+    pub found-same : (q : H) (m : List ℕ) → found D d page negotiated (f q) m ≡ found A d page negotiated q m
+    found-same q m = rw (L .new-same q (indexOf m page (sizeOf (queueNumber d))), L .idle-same q)
+
+    transferredBy-low : (g : Registers) (s : Run H) → transferredBy g (lower s) ≡ lowTransferred f (transferredBy g s)
+    unfolding lower lowTransferred
+    transferredBy-low g s = refl
+
+    pub transferredBy-same :
+        (g : Registers) (k : ℕ) (q : H) (m host : List ℕ)
+        → I w q
+        → transferredBy g (transferRun D d page negotiated k (begun (f q) m host))
+        ≡ lowTransferred f (transferredBy g (transferRun A d page negotiated k (begun q m host)))
+    transferredBy-same g k q m host i =
+        rw (begun-same q m host, transferRun-alike k (begun q m host) (rw append-nil i) .0)
+        (transferredBy-low g (transferRun A d page negotiated k (begun q m host)))
+
+    pub transfer-keeps : (k : ℕ) (q : H) (m host : List ℕ) → I w q → Moved (transferRun A d page negotiated k (begun q m host))
+    transfer-keeps k q m host i = transferRun-alike k (begun q m host) (rw append-nil i) .1
+
+    emptiedBy-low : (s : Run H) → emptiedBy (lower s) ≡ lowEmptied f (emptiedBy s)
+    unfolding lower lowEmptied
+    emptiedBy-low s = refl
+
+    emptiedFound-same :
+        (q : H) (m : List ℕ) (c : Check)
+        → I w q
+        → emptiedFound D d page negotiated (f q) m c ≡ lowEmptied f (emptiedFound A d page negotiated q m c)
+    unfolding lowEmptied
+    emptiedFound-same q m Check.Idle i = refl
+    emptiedFound-same q m (Check.Broken cause) i = refl
+    emptiedFound-same q m (Check.New n) i =
+        rw (begun-same q m [], releaseRun-alike n (begun q m []) i .0) (emptiedBy-low (releaseRun A d page negotiated n (begun q m [])))
+
+    pub emptied-same :
+        (q : H) (m : List ℕ) → I w q → emptied D d page negotiated (f q) m ≡ lowEmptied f (emptied A d page negotiated q m)
+    unfolding emptied
+    emptied-same q m i = rw (found-same q m) (emptiedFound-same q m (found A d page negotiated q m) i)
+
+    emptiedFound-keeps : (q : H) (m : List ℕ) (c : Check) → I w q → I w (emptiedFound A d page negotiated q m c .queue)
+    emptiedFound-keeps q m Check.Idle i = i
+    emptiedFound-keeps q m (Check.Broken cause) i = i
+    emptiedFound-keeps q m (Check.New n) i = releaseRun-alike n (begun q m []) i .1
+
+    pub emptied-keeps : (q : H) (m : List ℕ) → I w q → I w (emptied A d page negotiated q m .queue)
+    unfolding emptied
+    emptied-keeps q m i = emptiedFound-keeps q m (found A d page negotiated q m) i

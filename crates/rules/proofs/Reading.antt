@@ -1,0 +1,93 @@
+-- The claim in a reader's words: each position of each payload stands in exactly one place; only a Release gives positions up, and it
+-- answers IO_ERR; a message answered otherwise was handed on whole, byte by byte from its own addresses.
+use mathlib.Core.Path.{_≡_, refl, ap}
+use mathlib.Core.Bool.{cond}
+use mathlib.Core.List.{List, [], _∷_, _++_, append-nil}
+use mathlib.Core.Option.{some}
+use Prim.Native.Nat.{ℕ, zero, suc, _+_, _≤_, _<_}
+use native.Mathlib.Omega.{arith}
+use native.Mathlib.Decide.{ℕ-discrete}
+use borrow.Author.Tests.{eq-eqb, ne-eqb}
+use lib.Dec.{eqb}
+use lib.ListN.{length, getD}
+use lib.Seq.{take-length}
+use Rattle.description.specs.declared.Description.{Description}
+use Rattle.ranges.specs.Ranges.{upFrom}
+use Rattle.ranges.proofs.Laws.{length-upFrom}
+use Rattle.rules.specs.Calls.{Call}
+use Rattle.rules.specs.Claim.{start, after, Good, waitingOf, payloadAt, account}
+use Rattle.rules.specs.Device.{output, Form, Ending, finished, released, illFormed}
+use Rattle.rules.specs.Histories.{History, unanswered, handedOf, readOf, lostOf, number}
+use Rattle.rules.specs.Numbers.{sIoErr}
+use Rattle.rules.specs.Transfer.{statusOf}
+use Rattle.rules.proofs.Theorem.{demand-3}
+
+-- ---- how often p stands in a list
+
+abbrev pub occurs : ℕ → List ℕ → ℕ
+occurs p [] = 0
+occurs p (x ∷ xs) = cond (eqb x p) 1 0 + occurs p xs
+
+occurs-append : (p : ℕ) (xs ys : List ℕ) → occurs p (xs ++ ys) ≡ occurs p xs + occurs p ys
+occurs-append p [] ys = omega arith
+occurs-append p (x ∷ xs) ys = rw (occurs-append p xs ys) (omega arith)
+
+occurs-above : (p a k : ℕ) → p < a → occurs p (upFrom a k) ≡ 0
+unfolding upFrom
+occurs-above p a zero h = refl
+occurs-above p a (suc k) h = rw (ne-eqb a p (λ e. omega arith), occurs-above p (a + 1) k (omega arith))
+
+occurs-upFrom : (p a k : ℕ) → a ≤ p → p < a + k → occurs p (upFrom a k) ≡ 1
+unfolding upFrom
+occurs-upFrom p a zero l h = absurd (omega arith)
+occurs-upFrom p a (suc k) l h = go (ℕ-discrete a p) (λ n. occurs-upFrom p (a + 1) k (omega arith) (omega arith))
+  where
+    go : Dec (a ≡ p) → ((a ≡ p → ⊥) → occurs p (upFrom (a + 1) k) ≡ 1) → cond (eqb a p) 1 0 + occurs p (upFrom (a + 1) k) ≡ 1
+    go (yes e) ih = rw (eq-eqb a p e, occurs-above p (a + 1) k (omega arith))
+    go (no n) ih = rw (ne-eqb a p n, ih n)
+
+-- ---- of a good history
+
+module _ (w : List ℕ) (h : History) (g : Good w h) (t : ℕ) where
+  -- "each payload position of each message taken is in exactly one place: handed on, given up or waiting"
+  pub in-one-place :
+      (p : ℕ)
+      → p < length (payloadAt t h)
+      → occurs p (handedOf t (h .notes)) + (occurs p (lostOf t (h .losses)) + occurs p (waitingOf t h)) ≡ 1
+  in-one-place p l =
+      rw (
+        ← (occurs-append p (lostOf t (h .losses)) (waitingOf t h)),
+        ← (occurs-append p (handedOf t (h .notes)) (lostOf t (h .losses) ++ waitingOf t h)),
+        g .once t,
+      ) (occurs-upFrom p 0 (length (payloadAt t h)) (omega arith) (omega arith))
+
+  -- where positions are given up, the entry is a Release's
+  pub lost-by-release : 0 < length (lostOf t (h .losses)) → getD (h .entries) t unanswered .ending ≡ released
+  lost-by-release l = go (getD (h .entries) t unanswered .ending) refl
+    where
+      go : (e : Ending) → getD (h .entries) t unanswered .ending ≡ e → getD (h .entries) t unanswered .ending ≡ released
+      go released q = q
+      go finished q = absurd (omega (arith, ap length (g .blamed t (λ r. let z : _≡_ {A = ℕ} 0 1 = cc in omega arith))))
+      go illFormed q = absurd (omega (arith, ap length (g .blamed t (λ r. let z : _≡_ {A = ℕ} 0 1 = cc in omega arith))))
+
+  -- ".. an IO_ERR entry; positions not handed are given up"
+  pub lost-answered : (f : Form) → 0 < length (lostOf t (h .losses)) → statusOf output (getD (h .entries) t unanswered .ending) f ≡ some sIoErr
+  lost-answered f l = rw (lost-by-release l)
+
+  -- a message that was completed, and not by a Release, was handed on whole, from the payload's own addresses
+  module _ (l : t < number h) (n : getD (h .entries) t unanswered .ending ≡ released → ⊥) where
+    pub whole : handedOf t (h .notes) ≡ upFrom 0 (length (payloadAt t h))
+    whole = rw (ne-eqb t (number h) (λ e. omega arith), g .blamed t n, append-nil) at (g .once t)
+
+    pub whole-read : readOf t (h .notes) ≡ payloadAt t h
+    whole-read = rw (g .read t, whole, length-upFrom, take-length)
+
+-- ---- of the account after any calls
+
+pub each-in-one-place :
+    (d : Description) (len : ℕ) (cs : List Call) (t p : ℕ)
+    → p < length (payloadAt t (after account (start account d len) cs .play))
+    → occurs p (handedOf t (after account (start account d len) cs .play .notes))
+    + (occurs p (lostOf t (after account (start account d len) cs .play .losses))
+    + occurs p (waitingOf t (after account (start account d len) cs .play))) ≡ 1
+each-in-one-place d len cs t p l = in-one-place _ (after account (start account d len) cs .play) (demand-3 d len cs .good) t p l

@@ -1,0 +1,433 @@
+-- The five kinds of call, each from the state, its arguments and the memory lent to it to the answer, the count, the next
+-- state and memory; for any way `Q` of keeping the play queue. At counters they are the card's, at histories the account's.
+use mathlib.Core.Bool.{Bool, true, false, cond, _&&_, _||_, not}
+use mathlib.Core.List.{List, [], _∷_, _++_, map}
+use mathlib.Core.Option.{Option, none, some}
+use Prim.Native.Nat.{ℕ, zero, suc, _+_}
+use lib.Dec.{eqb, leb, ltb}
+use lib.ListN.{length, getD, set, take, drop}
+use lib.Seq.{sets}
+use Rattle.chain.specs.Walk.{Outcome, whole, faulted, walkOf}
+use Rattle.counts.specs.declared.PageNumber.{PageNumber}
+use Rattle.memory.specs.Bytes.{le}
+use Rattle.ranges.specs.Ranges.{total, places, bytesAt, putAt, allInside}
+use Rattle.ranges.specs.declared.Range.{Range}
+use Rattle.registers.specs.Answers.{done, lengthDiffers, notLive, notRunning, eventNotAllowed, noEventBuffer, queueBroken}
+use Rattle.registers.specs.Map.{sizeOf}
+use Rattle.registers.specs.Rules.{readOf, writeOf, live, broken, hasBit}
+use Rattle.registers.specs.declared.Config.{Config}
+use Rattle.registers.specs.declared.Effect.{Effect}
+use Rattle.registers.specs.declared.Effect.the-variants.{Nothing, Reset, Based, Rung}
+use Rattle.registers.specs.declared.Read.{Read}
+use Rattle.registers.specs.declared.Registers.{Registers}
+use Rattle.registers.specs.declared.Written.{Written}
+use Rattle.ring.specs.Rules.{baseOf, checkOf, headOf, postedOf, interrupts}
+use Rattle.ring.specs.declared.Check.{Check}
+use Rattle.ring.specs.declared.Head.{Head}
+use Rattle.card.specs.Card.{noCounters, runningState, releasedState}
+use Rattle.card.specs.Rules.{jackReset, streamReset, rungOf}
+use Rattle.card.specs.declared.Counters.{Counters}
+use Rattle.card.specs.declared.Jack.{Jack}
+use Rattle.card.specs.declared.Stream.{Stream}
+use Rattle.rules.specs.Control.{Served, Reply, Release, served, status, noJack, withState, withStream}
+use Rattle.rules.specs.Device.{Direction, output, input, streamNumber, queueNumber, Queue, emptyQueue, Rest, Device, withRegisters, withJacks, withControl, withEvent, withCapture, pageOf, streamAt, signalledIf, oneTaken, oneCompleted, bytesOf}
+use Rattle.rules.specs.Numbers.{controlQueue, eventQueue, jackConnected, jackDisconnected, pcmXrun, sOk, sBadMsg}
+use Rattle.rules.specs.Counters.{countersOf}
+use Rattle.rules.specs.Transfer.{Ops, Run, begun, transferRun, releaseRun, found}
+
+-- ---- calls, and what their callers are told
+
+-- the play call lends its host buffer, the capture call its host bytes
+pub data Request : Type 0 where
+  ReadRegister : ℕ → ℕ → Request
+  WriteRegister : ℕ → ℕ → ℕ → Request
+  Control : Request
+  Play : List ℕ → Request
+  Capture : List ℕ → Request
+  Event : ℕ → ℕ → Request
+
+-- a call: what is asked, and the memory lent to it
+pub record Call : Type 0 where
+  pub asked : Request
+  pub lent : List ℕ
+
+-- "count": messages completed for control, bytes for play and capture; "bytes" are those a play handed on; "host" is the host
+-- buffer after a play
+pub record Told : Type 0 where
+  pub answer : ℕ
+  pub value : ℕ
+  pub rung : ℕ
+  pub count : ℕ
+  pub bytes : List ℕ
+  pub host : List ℕ
+  pub memory : List ℕ
+
+pub record Step (S : Type 0) : Type 0 where
+  pub state : S
+  pub told : Told
+
+-- what a call does to all but the play queue
+pub record Result : Type 0 where
+  pub rest : Rest
+  pub answer : ℕ
+  pub count : ℕ
+  pub mem : List ℕ
+
+-- "nothing changed"
+abbrev pub refused : ℕ → Rest → List ℕ → Result
+refused answer r m = record { rest = r; answer = answer; count = 0; mem = m }
+
+-- answer 9: "NEEDS_RESET and ISR bit 1 set"
+abbrev pub broke : Rest → List ℕ → Result
+broke r m = record { rest = withRegisters (broken (r .registers)) r; answer = queueBroken; count = 0; mem = m }
+
+-- "1 RAM length differs from power-up", "5 device not live"
+abbrev pub admitted : {A : Type 0} → Rest → List ℕ → (ℕ → A) → A → A
+admitted r m refuse go = cond (eqb (length m) (r .ram)) (cond (live (r .registers)) go (refuse notLive)) (refuse lengthDiffers)
+
+-- bit 28 "as the guest features have it"
+abbrev pub indirect : Rest → Bool
+indirect r = hasBit (r .registers .features) 28
+
+-- ---- registers
+
+abbrev pub configOf : Rest → Config
+configOf r = record { jacks = length (r .jacks); streams = length (r .streams); chmaps = length (r .maps) }
+
+-- a reset and a base write, but for the play queue and the registers
+abbrev pub resetRest : Rest → Rest
+resetRest r =
+    record {
+      ram = r .ram;
+      registers = r .registers;
+      jacks = map jackReset (r .jacks);
+      maps = r .maps;
+      streams = map streamReset (r .streams);
+      control = noCounters;
+      event = noCounters;
+      capture = emptyQueue;
+    }
+
+abbrev pub basedRest : ℕ → Rest → Rest
+basedRest q r =
+    record {
+      ram = r .ram;
+      registers = r .registers;
+      jacks = r .jacks;
+      maps = r .maps;
+      streams = r .streams;
+      control = cond (eqb q 0) noCounters (r .control);
+      event = cond (eqb q 1) noCounters (r .event);
+      capture = cond (eqb q 3) emptyQueue (r .capture);
+    }
+
+abbrev pub affectedRest : Effect → Rest → Rest
+affectedRest Nothing r = r
+affectedRest Reset r = resetRest r
+affectedRest (Based q) r = basedRest q r
+affectedRest (Rung q) r = r
+
+-- "anew at each reset and at each base write of queue 2"
+abbrev pub clearsPlay : Effect → Bool
+clearsPlay Nothing = false
+clearsPlay Reset = true
+clearsPlay (Based q) = eqb q 2
+clearsPlay (Rung q) = false
+
+-- ---- control: "One per call"
+
+-- a control message taken: what is left to do is its reply
+pub record Pending : Type 0 where
+  pub rest : Rest
+  pub head : ℕ
+  pub reply : List Range
+
+pub data Order : Type 0 where
+  Done : Result → Order
+  ReleaseFirst : ℕ → Pending → Order
+
+-- the reply is written, the message completed; the answer counts it
+unfoldable pub replied : Pending → List ℕ → List ℕ → Result
+replied p bytes m =
+    let base = baseOf (pageOf (p .rest) controlQueue) in
+    let after = postedOf (putAt m (places (p .reply)) bytes) base (sizeOf controlQueue) (p .rest .control .completed) (p .head) (length bytes) in
+    record {
+      rest =
+          withRegisters (signalledIf (interrupts after base (sizeOf controlQueue)) (p .rest .registers))
+          (withControl (oneCompleted (p .rest .control)) (p .rest));
+      answer = done;
+      count = 1;
+      mem = after;
+    }
+
+abbrev pub withRest : Rest → Pending → Pending
+withRest r p = record { rest = r; head = p .head; reply = p .reply }
+
+abbrev pub acted : Served → Pending → List ℕ → Order
+acted (Reply r bytes) p m = Done (replied (withRest r p) bytes m)
+acted (Release id) p m = ReleaseFirst id p
+
+-- "Walk fault, writable range outside RAM, or reply under 4 bytes: length 0, nothing written. Then readable outside RAM or
+-- request under 4: BAD_MSG."
+abbrev pub readMessage : Rest → List ℕ → ℕ → Outcome → Order
+readMessage r m head (faulted f) = Done (replied (record { rest = r; head = head; reply = [] }) [] m)
+readMessage r m head (whole request reply) =
+    let p : Pending = record { rest = r; head = head; reply = reply } in
+    cond (allInside (length m) reply && leb 4 (total reply))
+    (cond (allInside (length m) request && leb 4 (total request))
+    (acted (served r (bytesAt m (places request)) (total reply)) p m)
+    (Done (replied p (status sBadMsg) m)))
+    (Done (replied p [] m))
+
+abbrev pub controlHead : Rest → List ℕ → Head → Order
+controlHead r m (Head.At n) =
+    readMessage (withControl (oneTaken (r .control)) r) m (n .0)
+    (walkOf m (baseOf (pageOf r controlQueue)) (sizeOf controlQueue) (n .0) (indirect r))
+controlHead r m (Head.Broken cause) = Done (broke r m)
+
+abbrev pub controlFound : Rest → List ℕ → Check → Order
+controlFound r m Check.Idle = Done (refused done r m)
+controlFound r m (Check.Broken cause) = Done (broke r m)
+controlFound r m (Check.New zero) = Done (refused done r m)
+controlFound r m (Check.New (suc n)) = controlHead r m (headOf m (pageOf r controlQueue) (sizeOf controlQueue) (r .control .taken))
+
+unfoldable pub orderOf : Rest → List ℕ → Order
+orderOf r m =
+    admitted r m (λ answer. Done (refused answer r m))
+    (controlFound r m (checkOf m (pageOf r controlQueue) (sizeOf controlQueue) (r .control .taken) 0))
+
+-- ---- a Release, past its checks: the stream's queue, then the reply
+
+-- what a Release made of a queue
+pub record Emptied (Q : Type 0) : Type 0 where
+  pub queue : Q
+  pub mem : List ℕ
+  pub sound : Bool
+  pub signal : Bool
+
+abbrev pub emptiedBy : {Q : Type 0} → Run Q → Emptied Q
+emptiedBy r = record { queue = r .queue; mem = r .mem; sound = r .sound; signal = r .signal }
+
+module _ {Q : Type 0} (ops : Ops Q) (d : Direction) (page : PageNumber) (negotiated : Bool) where
+  abbrev pub emptiedFound : Q → List ℕ → Check → Emptied Q
+  emptiedFound q m Check.Idle = record { queue = q; mem = m; sound = true; signal = false }
+  emptiedFound q m (Check.Broken cause) = record { queue = q; mem = m; sound = false; signal = false }
+  emptiedFound q m (Check.New n) = emptiedBy (releaseRun ops d page negotiated n (begun q m []))
+
+  -- "RELEASE checks that stream's queue (idle: nothing pending), completes its message in work, then takes and completes all
+  -- entries there"
+  unfoldable pub emptied : Q → List ℕ → Emptied Q
+  emptied q m = emptiedFound q m (found ops d page negotiated q m)
+
+-- ".. then replies." "If the queue breaks, the control message stays taken, uncompleted, and the stream keeps its state."
+unfoldable pub releasedOf : ℕ → Pending → List ℕ → Bool → Bool → Result
+releasedOf id p m sound signal =
+    let r : Rest = withRegisters (signalledIf signal (p .rest .registers)) (p .rest) in
+    cond sound (replied (withRest (withStream r id (withState releasedState (streamAt r id))) p) (status sOk) m) (broke r m)
+
+-- a Release of the input, whose queue is in the rest
+unfoldable pub releasedInput : ℕ → Pending → List ℕ → Result
+releasedInput id p m =
+    let e : Emptied Queue = emptied (countersOf input) input (pageOf (p .rest) (queueNumber input)) (indirect (p .rest)) (p .rest .capture) m in
+    releasedOf id (withRest (withCapture (e .queue) (p .rest)) p) (e .mem) (e .sound) (e .signal)
+
+-- ---- play and capture
+
+-- what a transfer made of a queue and the registers
+pub record Transferred (Q : Type 0) : Type 0 where
+  pub queue : Q
+  pub registers : Registers
+  pub answer : ℕ
+  pub bytes : List ℕ
+  pub mem : List ℕ
+
+abbrev pub brokenUnless : Bool → Registers → Registers
+brokenUnless sound r = cond sound r (broken r)
+
+abbrev pub transferredBy : {Q : Type 0} → Registers → Run Q → Transferred Q
+transferredBy g r =
+    record {
+      queue = r .queue;
+      registers = brokenUnless (r .sound) (signalledIf (r .signal) g);
+      answer = cond (r .sound) done queueBroken;
+      bytes = r .bytes;
+      mem = r .mem;
+    }
+
+abbrev pub untouched : {Q : Type 0} → ℕ → Registers → Q → List ℕ → Transferred Q
+untouched answer g q m = record { queue = q; registers = g; answer = answer; bytes = []; mem = m }
+
+-- "stream absent or not Running"
+abbrev pub isRunning : Rest → ℕ → Bool
+isRunning r id = ltb id (length (r .streams)) && eqb (streamAt r id .state) runningState
+
+module _ {Q : Type 0} (ops : Ops Q) (d : Direction) where
+  abbrev pub transferFound : Rest → Q → List ℕ → List ℕ → Check → Transferred Q
+  transferFound r q m host Check.Idle = untouched done (r .registers) q m
+  transferFound r q m host (Check.Broken cause) = untouched queueBroken (broken (r .registers)) q m
+  transferFound r q m host (Check.New n) =
+      transferredBy (r .registers) (transferRun ops d (pageOf r (queueNumber d)) (indirect r) n (begun q m host))
+
+  -- "Play and capture: 1, 5, 6, 9."
+  unfoldable pub transferred : Rest → Q → List ℕ → List ℕ → Transferred Q
+  transferred r q m host =
+      admitted r m (λ answer. untouched answer (r .registers) q m)
+      (cond (isRunning r (streamNumber d))
+      (transferFound r q m host (found ops d (pageOf r (queueNumber d)) (indirect r) q m))
+      (untouched notRunning (r .registers) q m))
+
+-- ---- events
+
+-- "Jack ones need the jack ..; XRUN needs the stream Running with that feature selected; other kinds are answer 7."
+unfoldable pub eventAllowed : Rest → ℕ → ℕ → Bool
+eventAllowed r code data′ =
+    cond (eqb code jackConnected || eqb code jackDisconnected) (ltb data′ (length (r .jacks)))
+    (eqb code pcmXrun && isRunning r data′ && hasBit (streamAt r data′ .params .features) 4)
+
+abbrev pub withConnected : ℕ → Jack → Jack
+withConnected v j = record { info = j .info; defconf = j .defconf; connected = v }
+
+-- ".. and record its state unless 1, 5 or 7 is answered"
+unfoldable pub recorded : Rest → ℕ → ℕ → Rest
+recorded r code data′ =
+    cond (eqb code jackConnected) (withJacks (set (r .jacks) data′ (withConnected 1 (getD (r .jacks) data′ noJack))) r)
+    (cond (eqb code jackDisconnected) (withJacks (set (r .jacks) data′ (withConnected 0 (getD (r .jacks) data′ noJack))) r) r)
+
+-- "its code and data, two le32"
+abbrev pub eventBytes : ℕ → ℕ → List ℕ
+eventBytes code data′ = bytesOf 4 code ++ bytesOf 4 data′
+
+-- a chain of the event queue completed with these bytes in its reply
+unfoldable pub eventPosted : Rest → List ℕ → ℕ → List Range → List ℕ → Result
+eventPosted r m head reply bytes =
+    let base = baseOf (pageOf r eventQueue) in
+    let after = postedOf (putAt m (places reply) bytes) base (sizeOf eventQueue) (r .event .completed) head (length bytes) in
+    record {
+      rest =
+          withRegisters (signalledIf (interrupts after base (sizeOf eventQueue)) (r .registers))
+          (withEvent (oneCompleted (oneTaken (r .event))) r);
+      answer = done;
+      count = 0;
+      mem = after;
+    }
+
+-- "A chain with readable bytes, a walk fault, a range outside RAM or reply under 8"
+abbrev pub eventRoom : List ℕ → Outcome → Option (List Range)
+eventRoom m (faulted f) = none
+eventRoom m (whole request reply) =
+    cond (eqb (total request) 0 && allInside (length m) request && allInside (length m) reply && leb 8 (total reply)) (some reply) none
+
+-- one entry tried: the event is delivered or can't be, or the next entry is tried
+pub data Tried : Type 0 where
+  Ended : Result → Tried
+  Further : Result → Tried
+
+module _ (code data′ : ℕ) where
+  -- ".. completes with length 0 and the next is tried"
+  abbrev pub eventChain : Rest → List ℕ → ℕ → Option (List Range) → Tried
+  eventChain r m head (some reply) = Ended (eventPosted r m head reply (eventBytes code data′))
+  eventChain r m head none = Further (eventPosted r m head [] [])
+
+  abbrev pub eventHead : Rest → List ℕ → Head → Tried
+  eventHead r m (Head.Broken cause) = Ended (broke r m)
+  eventHead r m (Head.At n) =
+      eventChain r m (n .0) (eventRoom m (walkOf m (baseOf (pageOf r eventQueue)) (sizeOf eventQueue) (n .0) (indirect r)))
+
+  unfoldable pub tried : Rest → List ℕ → Tried
+  tried r m = eventHead r m (headOf m (pageOf r eventQueue) (sizeOf eventQueue) (r .event .taken))
+
+  abbrev pub onward : Tried → (Rest → List ℕ → Result) → Result
+  onward (Ended o) go = o
+  onward (Further o) go = go (o .rest) (o .mem)
+
+  unfoldable pub eventRun : ℕ → Rest → List ℕ → Result
+  eventRun zero r m = refused noEventBuffer r m
+  eventRun (suc k) r m = onward (tried r m) (eventRun k)
+
+-- "An idle queue is answer 8."
+abbrev pub eventFound : ℕ → ℕ → Rest → List ℕ → Check → Result
+eventFound code data′ r m Check.Idle = refused noEventBuffer r m
+eventFound code data′ r m (Check.Broken cause) = broke r m
+eventFound code data′ r m (Check.New n) = eventRun code data′ n r m
+
+-- "Event: 1, 5, 7, then 8 or 9."
+unfoldable pub eventOf : Rest → ℕ → ℕ → List ℕ → Result
+eventOf r code data′ m =
+    admitted r m (λ answer. refused answer r m)
+    (cond (eventAllowed r code data′)
+    (eventFound code data′ (recorded r code data′) m
+    (checkOf m (pageOf r eventQueue) (sizeOf eventQueue) (r .event .taken) 0))
+    (refused eventNotAllowed r m))
+
+-- ---- a call
+
+abbrev pub toldAll : ℕ → ℕ → ℕ → ℕ → List ℕ → List ℕ → List ℕ → Told
+toldAll answer value rung count bytes host mem =
+    record { answer = answer; value = value; rung = rung; count = count; bytes = bytes; host = host; memory = mem }
+
+-- nothing rung
+abbrev pub nothingRung : ℕ
+nothingRung = 255
+
+module _ {Q : Type 0} (ops : Ops Q) where
+  -- a result that leaves the play queue as this
+  abbrev pub ended : Result → Q → Step (Device Q)
+  ended o q =
+      record {
+        state = record { rest = o .rest; play = q };
+        told = toldAll (o .answer) 0 nothingRung (o .count) [] [] (o .mem);
+      }
+
+  unfoldable pub readStep : ℕ → ℕ → Device Q → List ℕ → Step (Device Q)
+  readStep offset width b m =
+      let r : Read = readOf (b .rest .registers) (configOf (b .rest)) offset width in
+      record {
+        state = record { rest = withRegisters (r .registers) (b .rest); play = b .play };
+        told = toldAll (r .answer) (r .value) nothingRung 0 [] [] m;
+      }
+
+  unfoldable pub writeStep : ℕ → ℕ → ℕ → Device Q → List ℕ → Step (Device Q)
+  writeStep offset width v b m =
+      let w : Written = writeOf (b .rest .registers) offset width v in
+      record {
+        state =
+            record {
+              rest = affectedRest (w .effect) (withRegisters (w .registers) (b .rest));
+              play = cond (clearsPlay (w .effect)) (ops .empty) (b .play);
+            };
+        told = toldAll (w .answer) 0 (rungOf (w .effect)) 0 [] [] m;
+      }
+
+  -- a Release of the output, whose queue is the play queue
+  unfoldable pub releaseStep : ℕ → Pending → Device Q → Emptied Q → Step (Device Q)
+  releaseStep id p b e = ended (releasedOf id p (e .mem) (e .sound) (e .signal)) (e .queue)
+
+  abbrev pub ordered : Order → Device Q → List ℕ → Step (Device Q)
+  ordered (Done o) b m = ended o (b .play)
+  ordered (ReleaseFirst id p) b m =
+      cond (eqb id 0)
+      (releaseStep id p b (emptied ops output (pageOf (p .rest) (queueNumber output)) (indirect (p .rest)) (b .play) m))
+      (ended (releasedInput id p m) (b .play))
+
+  -- "Host bytes past the count keep their value."
+  unfoldable pub playStep : List ℕ → Device Q → Transferred Q → Step (Device Q)
+  playStep host b t =
+      record {
+        state = record { rest = withRegisters (t .registers) (b .rest); play = t .queue };
+        told = toldAll (t .answer) 0 nothingRung (length (t .bytes)) (t .bytes) (sets host 0 (t .bytes)) (t .mem);
+      }
+
+  unfoldable pub captured : Rest → Transferred Queue → Result
+  captured r t =
+      record { rest = withRegisters (t .registers) (withCapture (t .queue) r); answer = t .answer; count = length (t .bytes); mem = t .mem }
+
+  abbrev pub asked : Request → Device Q → List ℕ → Step (Device Q)
+  asked (ReadRegister offset width) b m = readStep offset width b m
+  asked (WriteRegister offset width v) b m = writeStep offset width v b m
+  asked Control b m = ordered (orderOf (b .rest) m) b m
+  asked (Play host) b m = playStep host b (transferred ops output (b .rest) (b .play) m host)
+  asked (Capture host) b m = ended (captured (b .rest) (transferred (countersOf input) input (b .rest) (b .rest .capture) m host)) (b .play)
+  asked (Event code data′) b m = ended (eventOf (b .rest) code data′ m) (b .play)
+
+  abbrev pub step : Device Q → Call → Step (Device Q)
+  step b c = asked (c .asked) b (c .lent)

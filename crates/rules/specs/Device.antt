@@ -1,0 +1,184 @@
+-- The card as the rules see it: lists, no arrays. The play queue is kept apart from all the rest, so that the rules can
+-- run over counters (the card) and over histories (the account) alike.
+use mathlib.Core.Bool.{Bool, true, false, cond}
+use mathlib.Core.List.{List, [], _∷_, _++_, map}
+use mathlib.Core.Option.{Option, none, some}
+use Prim.Native.Nat.{ℕ, zero, suc, _+_, _/_, _%_}
+use lib.ListN.{length, getD, set}
+use Rattle.counts.specs.declared.PageNumber.{PageNumber}
+use Rattle.description.specs.declared.MapInfo.{MapInfo}
+use Rattle.ranges.specs.declared.Range.{Range}
+use Rattle.registers.specs.Map.{sizeOf}
+use Rattle.registers.specs.Rules.{signalled}
+use Rattle.registers.specs.declared.Registers.{Registers}
+use Rattle.card.specs.Card.{noStream}
+use Rattle.card.specs.declared.Counters.{Counters}
+use Rattle.card.specs.declared.Jack.{Jack}
+use Rattle.card.specs.declared.Stream.{Stream}
+
+-- ---- directions: output stream 0 on the play queue, input stream 1 on the capture queue
+
+pub data Direction : Type 0 where
+  output input : Direction
+
+abbrev pub streamNumber : Direction → ℕ
+streamNumber output = 0
+streamNumber input = 1
+
+abbrev pub queueNumber : Direction → ℕ
+queueNumber output = 2
+queueNumber input = 3
+
+-- ---- messages of the stream queues
+
+-- what a chain is when it is taken (01, Play, capture, events): well-formed; or ill-formed, answered IO_ERR, or silently,
+-- with length 0
+pub data Form : Type 0 where
+  wellFormed refused silent : Form
+
+-- "A taking notes head, ranges and faults as memory then shows them."
+pub record Taking : Type 0 where
+  pub head : ℕ
+  pub request : List Range
+  pub reply : List Range
+  pub form : Form
+
+abbrev pub nobody : Taking
+nobody = record { head = 0; request = []; reply = []; form = silent }
+
+-- why a message is completed: its payload was moved, a Release ended it, or it is ill-formed
+pub data Ending : Type 0 where
+  finished released illFormed : Ending
+
+-- a message in work, and how many bytes of its payload were moved
+pub record Message : Type 0 where
+  pub taking : Taking
+  pub done : ℕ
+
+-- a stream's queue with counters modulo 65,536
+pub record Queue : Type 0 where
+  pub taken : ℕ
+  pub completed : ℕ
+  pub work : Option Message
+
+abbrev pub emptyQueue : Queue
+emptyQueue = record { taken = 0; completed = 0; work = none }
+
+-- ---- all but the play queue
+
+pub record Rest : Type 0 where
+  pub ram : ℕ
+  pub registers : Registers
+  pub jacks : List Jack
+  pub maps : List MapInfo
+  pub streams : List Stream
+  pub control : Counters
+  pub event : Counters
+  pub capture : Queue
+
+abbrev pub withRegisters : Registers → Rest → Rest
+withRegisters v r =
+    record {
+      ram = r .ram;
+      registers = v;
+      jacks = r .jacks;
+      maps = r .maps;
+      streams = r .streams;
+      control = r .control;
+      event = r .event;
+      capture = r .capture;
+    }
+
+abbrev pub withJacks : List Jack → Rest → Rest
+withJacks v r =
+    record {
+      ram = r .ram;
+      registers = r .registers;
+      jacks = v;
+      maps = r .maps;
+      streams = r .streams;
+      control = r .control;
+      event = r .event;
+      capture = r .capture;
+    }
+
+abbrev pub withStreams : List Stream → Rest → Rest
+withStreams v r =
+    record {
+      ram = r .ram;
+      registers = r .registers;
+      jacks = r .jacks;
+      maps = r .maps;
+      streams = v;
+      control = r .control;
+      event = r .event;
+      capture = r .capture;
+    }
+
+abbrev pub withControl : Counters → Rest → Rest
+withControl v r =
+    record {
+      ram = r .ram;
+      registers = r .registers;
+      jacks = r .jacks;
+      maps = r .maps;
+      streams = r .streams;
+      control = v;
+      event = r .event;
+      capture = r .capture;
+    }
+
+abbrev pub withEvent : Counters → Rest → Rest
+withEvent v r =
+    record {
+      ram = r .ram;
+      registers = r .registers;
+      jacks = r .jacks;
+      maps = r .maps;
+      streams = r .streams;
+      control = r .control;
+      event = v;
+      capture = r .capture;
+    }
+
+abbrev pub withCapture : Queue → Rest → Rest
+withCapture v r =
+    record {
+      ram = r .ram;
+      registers = r .registers;
+      jacks = r .jacks;
+      maps = r .maps;
+      streams = r .streams;
+      control = r .control;
+      event = r .event;
+      capture = v;
+    }
+
+-- the base of a queue
+abbrev pub pageOf : Rest → ℕ → PageNumber
+pageOf r q = getD (r .registers .pages) q (record { 0 = 0 })
+
+abbrev pub streamAt : Rest → ℕ → Stream
+streamAt r i = getD (r .streams) i noStream
+
+-- ISR bit 0, where a completion asked for it
+abbrev pub signalledIf : Bool → Registers → Registers
+signalledIf b r = cond b (signalled r) r
+
+abbrev pub oneTaken : Counters → Counters
+oneTaken c = record { taken = (c .taken + 1) % 65536; completed = c .completed }
+
+abbrev pub oneCompleted : Counters → Counters
+oneCompleted c = record { taken = c .taken; completed = (c .completed + 1) % 65536 }
+
+-- ---- bytes
+
+-- a number in n bytes, the lowest first
+unfoldable pub bytesOf : ℕ → ℕ → List ℕ
+bytesOf zero v = []
+bytesOf (suc n) v = v % 256 ∷ bytesOf n (v / 256)
+
+-- the whole device
+pub record Device (Q : Type 0) : Type 0 where
+  pub rest : Rest
+  pub play : Q

@@ -1,0 +1,10 @@
+-- Document 01 as definitions: the rules of each call, the account, and the claim about any list of calls.
+pub mod Numbers
+pub mod Device
+pub mod Loop
+pub mod Transfer
+pub mod Control
+pub mod Counters
+pub mod Calls
+pub mod Histories
+pub mod Claim
