@@ -1,0 +1,4 @@
+// The access program, on lines of every kind.
+fn main() {
+    access_run::run();
+}

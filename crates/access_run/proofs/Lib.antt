@@ -1,0 +1,2 @@
+-- Laws of the access program.
+pub mod Laws
