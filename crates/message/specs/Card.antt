@@ -1,5 +1,6 @@
 -- What a card stands for in the rules: its queues with counters and message in work, and all the rest.
 use mathlib.Core.Bool.{cond}
+use mathlib.Core.List.{List}
 use mathlib.Core.Option.{Option, none, some}
 use Prim.Native.Nat.{ℕ}
 use lib.Dec.{eqb}
@@ -9,6 +10,8 @@ use Rattle.card.specs.Card.{noCounters}
 use Rattle.card.specs.declared.Card.{Card}
 use Rattle.card.specs.declared.Counters.{Counters}
 use Rattle.card.specs.declared.Message.{Message}
+use Rattle.rules.specs.Calls.{Request, Step, step, toldAll, nothingRung}
+use Rattle.rules.specs.Counters.{countersOf}
 use Rattle.rules.specs.Device as rules
 
 -- the message in work as it was taken
@@ -42,3 +45,13 @@ restOf c =
 -- the whole card
 unfoldable pub deviceOf : Card → rules.Device rules.Queue
 deviceOf c = record { rest = restOf c; play = queueOf (countersAt c 2) (c .play) }
+
+-- ---- entries of the card
+
+-- the rules' step for a call on this card, with this memory lent
+abbrev pub stepOf : Card → Request → List ℕ → Step (rules.Device rules.Queue)
+stepOf c q m = step (countersOf rules.output) (deviceOf c) (record { asked = q; lent = m })
+
+-- what an entry leaves and tells: the card, the answer, the count, the bytes handed on, the host buffer and memory
+abbrev pub leaves : Card → ℕ → ℕ → List ℕ → List ℕ → List ℕ → Step (rules.Device rules.Queue)
+leaves c answer count bytes host m = record { state = deviceOf c; told = toldAll answer 0 nothingRung count bytes host m }
