@@ -1,0 +1,4 @@
+-- Laws of flows.
+pub mod Laws
+pub mod Whiles
+pub mod Rest

@@ -1,0 +1,41 @@
+-- The message in work first, then the new entries.
+use mathlib.Core.Path.{_∙_}
+use Prim.Native.Nat.{_-_}
+use borrow.Author.Needs.{needs}
+use Rattle.rules.specs.Transfer.{transferRun}
+use Rattle.transfer.proofs.Laws.{fresh-fit}
+use Rattle.transfer.proofs.Whiles.{loop-whiles}
+use Rattle.transfer.proofs.capture.Statement.{statement}
+use Rattle.transfer.proofs.capture.Tie as tie
+
+begun-flow-requires : tie.Need-begun-flow-requires
+begun-flow-requires c κs = search needs
+
+work-capture-requires : tie.Need-work-capture-requires
+work-capture-requires c κs = let s = c .before .before .before .before in (s .pre .0, rw (c .begun-flow .ensures) (fresh-fit _ _ _ _ (s .pre .1)))
+
+capture-rest-requires : tie.Need-capture-rest-requires
+capture-rest-requires c κs =
+    let s = c .before .before .before .before .before .before .before .before in
+    let w = c .before .before .before .work-capture .ensures in
+    (s .pre .0, rw (w .long) (w .fit))
+
+same-length : tie.Need-same-length
+same-length c = search needs
+
+returns : tie.Need-returns
+unfolding transferRun
+returns c =
+    let w = rw (c .before .before .before .before .before .before .before .begun-flow .ensures) at (c .before .before .before .before .before .before .work-capture .ensures) in
+    let t = c .before .before .capture-rest .ensures in
+    record {
+      run = t .run ∙ rw (w .run, loop-whiles);
+      fit = rw (w .long) at (t .fit);
+      long = t .long ∙ w .long;
+      host-long = t .host-long ∙ w .host-long;
+    }
+
+pub capture-spec : {M : Type 1} → statement M
+capture-spec =
+    tie.close
+    (tie.spec begun-flow-requires work-capture-requires capture-rest-requires same-length returns)

@@ -1,0 +1,107 @@
+-- What is left of the loop, run on the state now, is the whole loop run on the first state.
+use mathlib.Core.Path.{_≡_, _∙_, sym, refl}
+use Prim.Native.Nat.{_-_}
+use native.Mathlib.Omega.{arith}
+use borrow.Author.Tests.{not-true, not-false}
+use lib.ListN.{length}
+use Rattle.rules.specs.Device as rules
+use Rattle.transfer.specs.Flow.{runOf, FitFlow}
+use Rattle.transfer.specs.Whiles.{restRun}
+use Rattle.transfer.proofs.Laws.{goes-idle}
+use Rattle.transfer.proofs.Rest.{rest-none, rest-stop, rest-more}
+use Rattle.transfer.proofs.capture_rest.Statement.{statement}
+use Rattle.transfer.proofs.capture_rest.Tie as tie
+
+abbrev Inv-loop : tie.InvT-loop
+Inv-loop m₀ host q new g₀ left₀ m g left =
+    (restRun rules.input (q .page) (q .indirect) left (runOf g m host) ≡ restRun rules.input (q .page) (q .indirect) new (runOf g₀ m₀ host))
+    × FitFlow (length m₀) (length host) g
+    × (length m ≡ length m₀)
+    × (length host ≡ length host)
+
+abbrev μ-loop : tie.MeasureT-loop
+μ-loop m₀ host q new g₀ left₀ m g left = left
+
+loop-holds : tie.Need-loop-holds Inv-loop μ-loop
+loop-holds c = (refl, c .before .before .pre .1, refl, refl)
+
+transfer-more-requires : tie.Need-transfer-more-requires Inv-loop μ-loop
+transfer-more-requires c κs = omega arith
+
+same-length : tie.Need-same-length Inv-loop μ-loop
+same-length c = omega arith
+
+returns : tie.Need-returns Inv-loop μ-loop
+returns c =
+    let a = c .before .before .before .before .before .before .args in
+    let l = c .before .before .before .loop in
+    record {
+      run = sym (rest-stop rules.input (a .q .page) (a .q .indirect) (l .m) (a .host .now) (l .g) (l .left) (sym (c .before .transfer-more .ensures) ∙ not-true _ (c .if1 .taken))) ∙ l .inv .0;
+      fit = l .inv .1;
+      long = l .inv .2;
+      host-long = l .inv .3;
+    }
+
+capture-turn-requires : tie.Need-capture-turn-requires Inv-loop μ-loop
+capture-turn-requires c κs =
+    let s = c .before .before .before .before .before .before .before in
+    let l = c .before .before .before .before .loop in
+    let a = s .args in (
+      s .pre .0,
+      goes-idle (l .g) (length (a .host .now)) (sym (c .before .before .transfer-more .ensures) ∙ not-false _ (c .before .if1 .left)),
+      rw (l .inv .2) (l .inv .1),
+    )
+
+sub-left : tie.Need-sub-left Inv-loop μ-loop
+sub-left c = omega arith
+
+loop-less : tie.Need-loop-less Inv-loop μ-loop
+loop-less c = omega arith
+
+loop-again : tie.Need-loop-again Inv-loop μ-loop
+loop-again c =
+    let s = c .before .before .before .before .before .before .before .before .before .before in
+    let a = s .args in
+    let l = c .before .before .before .before .before .before .before .loop in
+    let t = c .before .before .capture-turn .ensures in (
+      rw (
+        t .run,
+        ← (rest-more rules.input (a .q .page) (a .q .indirect) (l .m) (a .host .now) (l .g) (l .left) (l .left - 1) (omega (arith, c .before .before .before .before .before .before .loop-test .taken))
+            (sym (c .before .before .before .before .before .transfer-more .ensures) ∙ not-false _ (c .before .before .before .before .if1 .left))),
+      )
+          (l .inv .0),
+      rw (l .inv .2) at (t .fit),
+      t .long ∙ l .inv .2,
+      t .host-long ∙ l .inv .3,
+    )
+
+same-length-2 : tie.Need-same-length-2 Inv-loop μ-loop
+same-length-2 c = omega arith
+
+returns-2 : tie.Need-returns-2 Inv-loop μ-loop
+returns-2 c =
+    let a = c .before .before .before .before .args in
+    let l = c .before .loop in
+    record {
+      run = sym (rest-none rules.input (a .q .page) (a .q .indirect) (l .m) (a .host .now) (l .g) (l .left) (omega arith)) ∙ l .inv .0;
+      fit = l .inv .1;
+      long = l .inv .2;
+      host-long = l .inv .3;
+    }
+
+pub capture-rest-spec : {M : Type 1} → statement M
+capture-rest-spec =
+    tie.close
+    (tie.spec
+    Inv-loop
+    μ-loop
+    loop-holds
+    transfer-more-requires
+    same-length
+    returns
+    capture-turn-requires
+    sub-left
+    loop-less
+    loop-again
+    same-length-2
+    returns-2)

@@ -1,0 +1,35 @@
+-- The next entry, then work on it.
+use mathlib.Core.Path.{_∙_}
+use Prim.Native.Nat.{_-_}
+use borrow.Author.Needs.{needs}
+use Rattle.transfer.proofs.Laws.{fit-beside}
+use Rattle.transfer.proofs.capture_turn.Statement.{statement}
+use Rattle.transfer.proofs.capture_turn.Tie as tie
+
+meet-requires : tie.Need-meet-requires
+meet-requires c κs = search needs
+
+work-capture-requires : tie.Need-work-capture-requires
+work-capture-requires c κs =
+    let s = c .before .before .before .before .before .before .before in
+    let n = c .before .before .before .meet .ensures in
+    (s .pre .0, fit-beside _ _ _ (c .before .before .before .meet .result) (rw (n .long) (n .message)) (n .moved) (s .pre .2 .inside))
+
+same-length : tie.Need-same-length
+same-length c = search needs
+
+returns : tie.Need-returns
+returns c =
+    let s = c .before .before .before .before .before .before .before .before .before .before in
+    let a = s .args in
+    let n = c .before .before .before .before .before .before .meet .ensures in
+    let w = c .before .before .work-capture .ensures in
+    record {
+      run = w .run ∙ rw (rw (s .pre .0) at (n .run (a .host .now)));
+      fit = rw (n .long) at (w .fit);
+      long = w .long ∙ n .long;
+      host-long = w .host-long;
+    }
+
+pub capture-turn-spec : {M : Type 1} → statement M
+capture-turn-spec = tie.close (tie.spec meet-requires work-capture-requires same-length returns)

@@ -1,0 +1,37 @@
+-- The message in work first, then the new entries.
+use mathlib.Core.Path.{_∙_}
+use Prim.Native.Nat.{_-_}
+use borrow.Author.Needs.{needs}
+use Rattle.rules.specs.Transfer.{releaseRun}
+use Rattle.transfer.proofs.Whiles.{loop-whiles}
+use Rattle.transfer.proofs.release.Statement.{statement}
+use Rattle.transfer.proofs.release.Tie as tie
+
+begun-flow-requires : tie.Need-begun-flow-requires
+begun-flow-requires c κs = search needs
+
+give-up-requires : tie.Need-give-up-requires
+give-up-requires c κs = rw (c .begun-flow .ensures) (c .before .before .before .pre)
+
+release-rest-requires : tie.Need-release-rest-requires
+release-rest-requires c κs = let w = c .before .before .before .give-up .ensures in rw (w .long) (w .message)
+
+same-length : tie.Need-same-length
+same-length c = search needs
+
+returns : tie.Need-returns
+unfolding releaseRun
+returns c =
+    let w = rw (c .before .before .before .before .before .before .before .begun-flow .ensures) at (c .before .before .before .before .before .before .give-up .ensures) in
+    let t = c .before .before .release-rest .ensures in
+    record {
+      run = λ host. t .run host ∙ rw (w .run host, loop-whiles);
+      message = rw (w .long) at (t .message);
+      moved = t .moved ∙ w .moved;
+      long = t .long ∙ w .long;
+    }
+
+pub release-spec : {M : Type 1} → statement M
+release-spec =
+    tie.close
+    (tie.spec begun-flow-requires give-up-requires release-rest-requires same-length returns)

@@ -1,0 +1,104 @@
+-- What is left of the loop, run on the state now, is the whole loop run on the first state.
+use mathlib.Core.Path.{_≡_, _∙_, sym, refl}
+use Prim.Native.Nat.{ℕ, _-_}
+use native.Mathlib.Omega.{arith}
+use borrow.Author.Tests.{not-true, not-false}
+use lib.ListN.{length}
+use mathlib.Core.List.{List}
+use Rattle.card.specs.Fit.{FitMessage}
+use Rattle.message.specs.Message.{directionOf}
+use Rattle.transfer.specs.Flow.{runOf}
+use Rattle.transfer.specs.Whiles.{releaseRest}
+use Rattle.transfer.proofs.Laws.{release-goes-idle}
+use Rattle.transfer.proofs.Rest.{release-none, release-stop, release-more}
+use Rattle.transfer.proofs.release_rest.Statement.{statement}
+use Rattle.transfer.proofs.release_rest.Tie as tie
+
+abbrev Inv-loop : tie.InvT-loop
+Inv-loop m₀ q new g₀ left₀ m g left =
+    ((host : List ℕ) → releaseRest (directionOf (q .direction)) (q .page) (q .indirect) left (runOf g m host)
+    ≡ releaseRest (directionOf (q .direction)) (q .page) (q .indirect) new (runOf g₀ m₀ host))
+    × FitMessage (length m₀) (g .message)
+    × (length m ≡ length m₀)
+    × (g .moved ≡ g₀ .moved)
+
+abbrev μ-loop : tie.MeasureT-loop
+μ-loop m₀ q new g₀ left₀ m g left = left
+
+loop-holds : tie.Need-loop-holds Inv-loop μ-loop
+loop-holds c = (λ host. refl, c .before .pre, refl, refl)
+
+release-more-requires : tie.Need-release-more-requires Inv-loop μ-loop
+release-more-requires c κs = omega arith
+
+same-length : tie.Need-same-length Inv-loop μ-loop
+same-length c = omega arith
+
+returns : tie.Need-returns Inv-loop μ-loop
+returns c =
+    let a = c .before .before .before .before .before .args in
+    let l = c .before .before .before .loop in
+    record {
+      run = λ host. sym (release-stop (directionOf (a .q .direction)) (a .q .page) (a .q .indirect) (l .m) host (l .g) (l .left) (sym (c .before .release-more .ensures) ∙ not-true _ (c .if1 .taken))) ∙ l .inv .0 host;
+      message = l .inv .1;
+      moved = l .inv .3;
+      long = l .inv .2;
+    }
+
+release-turn-requires : tie.Need-release-turn-requires Inv-loop μ-loop
+release-turn-requires c κs =
+    let l = c .before .before .before .before .loop in
+    (release-goes-idle (l .g) (sym (c .before .before .release-more .ensures) ∙ not-false _ (c .before .if1 .left)), rw (l .inv .2) (l .inv .1))
+
+sub-left : tie.Need-sub-left Inv-loop μ-loop
+sub-left c = omega arith
+
+loop-less : tie.Need-loop-less Inv-loop μ-loop
+loop-less c = omega arith
+
+loop-again : tie.Need-loop-again Inv-loop μ-loop
+loop-again c =
+    let a = c .before .before .before .before .before .before .before .before .before .args in
+    let l = c .before .before .before .before .before .before .before .loop in
+    let t = c .before .before .release-turn .ensures in (
+      λ host. rw (
+        t .run host,
+        ← (release-more (directionOf (a .q .direction)) (a .q .page) (a .q .indirect) (l .m) host (l .g) (l .left) (l .left - 1) (omega (arith, c .before .before .before .before .before .before .loop-test .taken))
+            (sym (c .before .before .before .before .before .release-more .ensures) ∙ not-false _ (c .before .before .before .before .if1 .left))),
+      )
+          (l .inv .0 host),
+      rw (l .inv .2) at (t .message),
+      t .long ∙ l .inv .2,
+      t .moved ∙ l .inv .3,
+    )
+
+same-length-2 : tie.Need-same-length-2 Inv-loop μ-loop
+same-length-2 c = omega arith
+
+returns-2 : tie.Need-returns-2 Inv-loop μ-loop
+returns-2 c =
+    let a = c .before .before .before .args in
+    let l = c .before .loop in
+    record {
+      run = λ host. sym (release-none (directionOf (a .q .direction)) (a .q .page) (a .q .indirect) (l .m) host (l .g) (l .left) (omega arith)) ∙ l .inv .0 host;
+      message = l .inv .1;
+      moved = l .inv .3;
+      long = l .inv .2;
+    }
+
+pub release-rest-spec : {M : Type 1} → statement M
+release-rest-spec =
+    tie.close
+    (tie.spec
+    Inv-loop
+    μ-loop
+    loop-holds
+    release-more-requires
+    same-length
+    returns
+    release-turn-requires
+    sub-left
+    loop-less
+    loop-again
+    same-length-2
+    returns-2)

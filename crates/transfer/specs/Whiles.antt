@@ -1,0 +1,21 @@
+-- The rules' loop as a `while` runs it, on a state that is worked already.
+use mathlib.Core.Bool.{Bool, cond}
+use Prim.Native.Nat.{ℕ, zero, suc}
+use Rattle.counts.specs.declared.PageNumber.{PageNumber}
+use Rattle.rules.specs.Counters.{countersOf}
+use Rattle.rules.specs.Device as rules
+use Rattle.rules.specs.Transfer.{Run, worked, givenUp, transferMore, releaseMore, next}
+
+unfoldable pub whiles : {S : Type 0} → (S → S) → (S → Bool) → (S → S) → ℕ → S → S
+whiles work more next zero s = s
+whiles work more next (suc k) s = cond (more s) (whiles work more next k (work (next s))) s
+
+module _ (d : rules.Direction) (page : PageNumber) (negotiated : Bool) where
+  -- the new entries of a transfer, and of a Release
+  abbrev pub restRun : ℕ → Run rules.Queue → Run rules.Queue
+  restRun n r =
+      whiles (worked (countersOf d) d page negotiated) (transferMore (countersOf d) d page negotiated) (next (countersOf d) d page negotiated) n r
+
+  abbrev pub releaseRest : ℕ → Run rules.Queue → Run rules.Queue
+  releaseRest n r =
+      whiles (givenUp (countersOf d) d page negotiated) (releaseMore (countersOf d) d page negotiated) (next (countersOf d) d page negotiated) n r
