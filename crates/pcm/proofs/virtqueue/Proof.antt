@@ -1,0 +1,28 @@
+-- The direction picks the page.
+use Prim.Native.Nat.{_-_}
+use borrow.Author.Needs.{needs}
+use Rattle.pcm.proofs.virtqueue.Statement.{statement}
+use Rattle.pcm.proofs.virtqueue.Tie as tie
+
+enum-told : tie.Need-enum-told
+enum-told c = search needs
+
+array-copy-out-page : tie.Need-array-copy-out-page
+array-copy-out-page c = search needs
+
+enum-told-2 : tie.Need-enum-told-2
+enum-told-2 c = search needs
+
+array-copy-out-page-2 : tie.Need-array-copy-out-page-2
+array-copy-out-page-2 c = search needs
+
+returns : tie.Need-returns
+returns c = rw (c .before .enum-told .given .1)
+
+returns-2 : tie.Need-returns-2
+returns-2 c = rw (c .before .enum-told2 .given .1)
+
+pub virtqueue-spec : {M : Type 1} → statement M
+virtqueue-spec =
+    tie.close
+    (tie.spec enum-told array-copy-out-page enum-told-2 array-copy-out-page-2 returns returns-2)

@@ -1,0 +1,2 @@
+-- The play and capture entries in the rules' terms.
+pub mod Entry

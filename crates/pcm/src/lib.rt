@@ -1,0 +1,225 @@
+// The play and capture calls of the card (01, "Play, capture, events").
+ghost use mathlib.Core.Path.{_≡_};
+ghost use mathlib.Core.Bool.{cond, _&&_};
+ghost use mathlib.Core.List.{[]};
+ghost use lib.ListN.{length, take};
+ghost use Rattle.card.specs.Fit.{Fit};
+ghost use Rattle.message.specs.Card.{restOf, deviceOf, stepOf, leaves};
+ghost use Rattle.registers.specs.Rules.{hasBit};
+ghost use Rattle.rules.specs.Calls.{Request, isRunning, brokenUnless};
+ghost use Rattle.rules.specs.Device.{signalledIf};
+ghost use Rattle.pcm.specs.Entry.{refusalOf, queueIn, flowedCard, brokenAnswer, flowAnswer};
+use card::Card;
+use message::Direction;
+use message::Virtqueue;
+use registers::Registers;
+use transfer::Flow;
+
+// What a call answers: the count is the bytes handed on, or consumed.
+#[repr(C)]
+pub struct TransferAnswer {
+    pub answer: u8,
+    pub count: usize,
+    pub card: Card,
+}
+
+// Whether a stream is there and Running.
+fn is_running(card: Card, id: usize) -> bool
+    requires { ⌜ Fit card ⌝ }
+    ensures { λ r. ⌜ r ≡ isRunning (restOf card) id ⌝ }
+{
+    let parts = card.parts;
+    if 2 <= id {
+        return false;
+    }
+    if parts.stream_count <= id {
+        return false;
+    }
+    let streams = parts.streams;
+    let stream = streams[id];
+    if stream.state == card::RUNNING {
+        return true;
+    }
+    false
+}
+
+// The answer that refuses a transfer of stream `id` over `len` bytes of memory, or 0.
+fn refusal(card: Card, len: usize, id: usize) -> u8
+    requires { ⌜ Fit card ⌝ }
+    ensures { λ r. ⌜ r ≡ refusalOf (restOf card) len id ⌝ }
+{
+    if len != card.ram_len {
+        return registers::LENGTH_DIFFERS;
+    }
+    let registers = card.registers;
+    if !registers.is_live() {
+        return registers::NOT_LIVE;
+    }
+    if is_running(card, id) {
+        return registers::DONE;
+    }
+    registers::NOT_RUNNING
+}
+
+// ISR bit 0, where an interrupt is wanted.
+fn signal_if(wanted: bool, registers: Registers) -> Registers
+    ensures { λ r. ⌜ r ≡ signalledIf wanted registers ⌝ }
+{
+    if wanted {
+        return registers.signal();
+    }
+    registers
+}
+
+// A breakdown, where a bad head was met.
+fn break_unless(sound: bool, registers: Registers) -> Registers
+    ensures { λ r. ⌜ r ≡ brokenUnless sound registers ⌝ }
+{
+    if sound {
+        return registers;
+    }
+    registers.break_down()
+}
+
+// The queue of a stream as the guest laid it out.
+fn virtqueue(card: Card, direction: Direction) -> Virtqueue
+    requires { ⌜ Fit card ⌝ }
+    ensures { λ r. ⌜ r ≡ queueIn card direction ⌝ }
+{
+    let registers = card.registers;
+    let pages = registers.pages;
+    let indirect = registers.features / 268435456 % 2 == 1;
+    let page = match direction {
+        Direction::Output => pages[2],
+        Direction::Input => pages[3],
+    };
+    Virtqueue {
+        direction: direction,
+        page: page,
+        indirect: indirect,
+    }
+}
+
+// The card after a flow on a stream's queue.
+fn flowed(card: Card, direction: Direction, f: Flow) -> Card
+    ensures { λ r. ⌜ r ≡ flowedCard direction f card ⌝ }
+{
+    let mut next = card;
+    let counters = f.counters;
+    let message = f.message;
+    let registers = card.registers;
+    let signalled = signal_if(f.signal, registers);
+    next.registers = break_unless(f.sound, signalled);
+    match direction {
+        Direction::Output => {
+            next.queues[2] = counters;
+            next.play = message;
+            next
+        }
+        Direction::Input => {
+            next.queues[3] = counters;
+            next.capture = message;
+            next
+        }
+    }
+}
+
+// The play call: payload of the play queue handed to the host buffer.
+pub fn play(card: Card, m: &mut [u8], host: &mut [u8]) -> TransferAnswer
+    requires { ⌜ Fit card ⌝ }
+    ensures { λ r. ⌜ (stepOf card (Request.Play (now (host .entry))) (now (m .entry))
+        ≡ leaves (r .card) (r .answer) (r .count) (take (r .count) (now (host .exit))) (now (host .exit)) (now (m .exit)))
+        × Fit (r .card) ⌝ }
+{
+    let refused = refusal(card, m.len(), 0);
+    if refused != 0 {
+        return TransferAnswer {
+            answer: refused,
+            count: 0,
+            card: card,
+        };
+    }
+    let q = virtqueue(card, Direction::Output);
+    let queues = card.queues;
+    let counters = queues[2];
+    let message = card.play;
+    let size = message::queue_size(Direction::Output);
+    match ring::check_queue(m, q.page, size, counters.taken, message.count) {
+        ring::Check::Idle => TransferAnswer {
+            answer: registers::DONE,
+            count: 0,
+            card: card,
+        },
+        ring::Check::Broken(_) => broken_down(card),
+        ring::Check::New(new) => {
+            let f = transfer::play(m, host, q, counters, message, new);
+            transferred(card, Direction::Output, f)
+        }
+    }
+}
+
+// The capture call: host bytes recorded into the payload of the capture queue.
+pub fn capture(card: Card, m: &mut [u8], host: &[u8]) -> TransferAnswer
+    requires { ⌜ Fit card ⌝ }
+    ensures { λ r. ⌜ (stepOf card (Request.Capture (now (host .entry))) (now (m .entry))
+        ≡ leaves (r .card) (r .answer) (r .count) [] [] (now (m .exit))) × Fit (r .card) ⌝ }
+{
+    let refused = refusal(card, m.len(), 1);
+    if refused != 0 {
+        return TransferAnswer {
+            answer: refused,
+            count: 0,
+            card: card,
+        };
+    }
+    let q = virtqueue(card, Direction::Input);
+    let queues = card.queues;
+    let counters = queues[3];
+    let message = card.capture;
+    let size = message::queue_size(Direction::Input);
+    match ring::check_queue(m, q.page, size, counters.taken, message.count) {
+        ring::Check::Idle => TransferAnswer {
+            answer: registers::DONE,
+            count: 0,
+            card: card,
+        },
+        ring::Check::Broken(_) => broken_down(card),
+        ring::Check::New(new) => {
+            let f = transfer::capture(m, host, q, counters, message, new);
+            transferred(card, Direction::Input, f)
+        }
+    }
+}
+
+// The queue is broken: nothing was done.
+fn broken_down(card: Card) -> TransferAnswer
+    ensures { λ r. ⌜ r ≡ brokenAnswer card ⌝ }
+{
+    let registers = card.registers;
+    let mut next = card;
+    next.registers = registers.break_down();
+    TransferAnswer {
+        answer: registers::QUEUE_BROKEN,
+        count: 0,
+        card: next,
+    }
+}
+
+// The answer to a transfer that came past its checks.
+fn transferred(card: Card, direction: Direction, f: Flow) -> TransferAnswer
+    ensures { λ r. ⌜ r ≡ flowAnswer card direction f ⌝ }
+{
+    let next = flowed(card, direction, f);
+    if f.sound {
+        return TransferAnswer {
+            answer: registers::DONE,
+            count: f.moved,
+            card: next,
+        };
+    }
+    TransferAnswer {
+        answer: registers::QUEUE_BROKEN,
+        count: f.moved,
+        card: next,
+    }
+}
