@@ -1,0 +1,31 @@
+-- What was sent with the registers and the event queue's counters of the card is put back.
+use Prim.Native.Nat.{_-_}
+use borrow.Author.Needs.{needs}
+use Rattle.message.specs.Card.{restOf}
+use Rattle.event.proofs.Cards.{sent-leaves, held-fit}
+use Rattle.event.proofs.send_from.Statement.{statement}
+use Rattle.event.proofs.send_from.Tie as tie
+
+element-copy-out-counters : tie.Need-element-copy-out-counters
+element-copy-out-counters c = search needs
+
+send-requires : tie.Need-send-requires
+send-requires c κs = search needs
+
+element-set-from-counts : tie.Need-element-set-from-counts
+element-set-from-counts c = search needs
+
+same-length : tie.Need-same-length
+same-length c = search needs
+
+returns : tie.Need-returns
+returns c =
+    let s = c .before .before .before .before .before .before .before .before .before in
+    let a = s .args in
+    let o = c .before .before .before .before .send in
+    (sent-leaves (a .t1) (s .pre) (o .result) (a .code) (a .«data») (a .m .now) (o .last .0) (o .ensures .0 (restOf (a .t1))), held-fit (a .t1) (s .pre) (o .result) (o .ensures .1))
+
+pub send-from-spec : {M : Type 1} → statement M
+send-from-spec =
+    tie.close
+    (tie.spec element-copy-out-counters send-requires element-set-from-counts same-length returns)

@@ -1,0 +1,2 @@
+-- What the structs of an event stand for in the rules.
+pub mod Event
