@@ -1,2 +1,3 @@
 -- Laws of messages.
 pub mod Laws
+pub mod Steps
