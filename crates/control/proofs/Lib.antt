@@ -1,0 +1,2 @@
+-- Laws of control requests.
+pub mod Laws

@@ -1,0 +1,14 @@
+-- The comparison tells.
+use Prim.Native.Nat.{_-_}
+use borrow.Author.Tests.{lt-ltb, le-ltb}
+use Rattle.control.proofs.find.Statement.{statement}
+use Rattle.control.proofs.find.Tie as tie
+
+returns : tie.Need-returns
+returns c = rw (lt-ltb _ _ (c .if1 .taken))
+
+returns-2 : tie.Need-returns-2
+returns-2 c = rw (le-ltb _ _ (c .if1 .left))
+
+pub find-spec : {M : Type 1} → statement M
+find-spec = tie.close (tie.spec returns returns-2)

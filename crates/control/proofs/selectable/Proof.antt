@@ -1,0 +1,14 @@
+-- One comparison after the other.
+use Prim.Native.Nat.{_-_}
+use borrow.Author.Tests.{ne-eqb}
+use Rattle.control.proofs.selectable.Statement.{statement}
+use Rattle.control.proofs.selectable.Tie as tie
+
+returns : tie.Need-returns
+returns c = rw (c .if1 .taken)
+
+returns-2 : tie.Need-returns-2
+returns-2 c = rw (ne-eqb _ _ (c .before .if1 .left))
+
+pub selectable-spec : {M : Type 1} → statement M
+selectable-spec = tie.close (tie.spec returns returns-2)

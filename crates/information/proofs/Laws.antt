@@ -1,0 +1,104 @@
+-- Laws of items: bytes behind each other, the items one after the other, and one item of a list.
+use mathlib.Core.Path.{_≡_, refl, ap}
+use mathlib.Core.List.{List, [], _∷_, _++_, map}
+use Prim.Native.Nat.{ℕ, zero, suc, _+_, _-_, _/_, _%_, _≤_, _<_}
+use native.Mathlib.Numerals.{add-one}
+use native.Mathlib.Nat.{zero-add}
+use native.Mathlib.Omega.{arith}
+use lib.ListN.{length, getD, set, take, drop, replicate, length-take, length-map}
+use Rattle.description.specs.declared.MapInfo.{MapInfo}
+use lib.Seq.{take-all, sets, sets-eq, drop-cons, getD-take, take-append-seam}
+use Rattle.memory.specs.Bytes.{put}
+use Rattle.card.specs.Card.{noStream}
+use Rattle.card.specs.declared.Stream.{Stream}
+use Rattle.card.specs.Fit.{FitParts}
+use Rattle.card.specs.declared.Parts.{Parts}
+use Rattle.information.specs.Information.{itemsOf}
+use Rattle.information.specs.declared.Listing.{Listing}
+use Rattle.information.specs.declared.Listing.the-variants.{Jacks, Streams, Maps}
+use Rattle.rules.specs.Device.{bytesOf}
+use Rattle.rules.specs.Control.{pcmItem, pcmItems, mapItem, joined}
+
+-- ---- one byte more of a copy
+
+pub copy-more : (n i : ℕ) (d : List ℕ) (at : ℕ) (s : List ℕ) → i < n → n ≤ length s
+    → sets d at (drop i (take n s)) ≡ sets (set d at (getD s i 0)) (at + 1) (drop (i + 1) (take n s))
+copy-more n i d at s h b =
+    rw (drop-cons (take n s) i 0 (rw length-take (omega arith)), getD-take n s i 0 h, add-one i, add-one at)
+
+-- ---- numbers and bytes at the start
+
+pub put-sets : (n : ℕ) (m : List ℕ) (at v : ℕ) → put n m at v ≡ sets m at (bytesOf n v)
+unfolding put bytesOf
+put-sets zero m at v = refl
+put-sets (suc n) m at v = rw (put-sets n (set m at (v % 256)) (at + 1) (v / 256), add-one at)
+
+pub take-sets : (l vs : List ℕ) → length vs ≤ length l → take (length vs) (sets l 0 vs) ≡ vs
+take-sets l vs h = rw (sets-eq vs l 0 (omega arith)) (take-append-seam vs _)
+
+-- ---- items
+
+-- a list's first item, then the others
+pub joined-next : (items : List (List ℕ)) (n k i : ℕ) → n ≡ k + 1 → i < length items
+    → joined (take n (drop i items)) ≡ getD items i [] ++ joined (take k (drop (i + 1) items))
+joined-next items n k i e h = rw (e, drop-cons items i [] h, add-one k, add-one i)
+
+pub joined-none : (items : List (List ℕ)) (n i : ℕ) → n ≡ 0 → joined (take n (drop i items)) ≡ []
+joined-none items n i e = rw e
+
+pub getD-map : {A B : Type 0} (f : A → B) (d : A) (e : B) (l : List A) (i : ℕ) → i < length l → getD (map f l) i e ≡ f (getD l i d)
+getD-map f d e [] i h = absurd (omega arith)
+getD-map f d e (x ∷ l) zero h = refl
+getD-map f d e (x ∷ l) (suc i) h = getD-map f d e l i (omega arith)
+
+pub length-pcmItems : (number : ℕ) (l : List Stream) → length (pcmItems number l) ≡ length l
+length-pcmItems number [] = refl
+length-pcmItems number (s ∷ l) = ap suc (length-pcmItems (suc number) l)
+
+pub getD-pcmItems : (number : ℕ) (l : List Stream) (i : ℕ) → i < length l → getD (pcmItems number l) i [] ≡ pcmItem (number + i) (getD l i noStream)
+getD-pcmItems number [] i h = absurd (omega arith)
+getD-pcmItems number (s ∷ l) zero h = let e : number + 0 ≡ number = omega arith in rw e
+getD-pcmItems number (s ∷ l) (suc i) h =
+    let e : number + suc i ≡ suc number + i = omega arith in
+    rw e (getD-pcmItems (suc number) l i (omega arith))
+
+-- a map's numbers, then its positions, over zeros
+pub map-bytes : (m : MapInfo) → length (m .positions) ≡ 18
+    → sets (put 4 (set (set (replicate 32 0) 4 (m .direction)) 5 (m .channels)) 0 (m .nid)) 6 (take 18 (m .positions)) ≡ mapItem m ++ replicate 8 0
+unfolding put bytesOf
+map-bytes m h =
+    rw (take-all 18 (m .positions) (omega arith), sets-eq (m .positions) (put 4 (set (set (replicate 32 0) 4 (m .direction)) 5 (m .channels)) 0 (m .nid)) 6 (omega arith), h)
+
+pub length-mapItem : (m : MapInfo) → length (m .positions) ≡ 18 → length (mapItem m) ≡ 24
+unfolding bytesOf
+length-mapItem m h = omega arith
+
+-- the item of the part at i, where there is one
+module _ {A : Type 0} (f : A → List ℕ) (d : A) (k : ℕ) (l : List A) (i : ℕ) (h : i < length (map f (take k l))) where
+  inside : i < length (take k l)
+  inside = rw length-map at h
+
+  pub listed-inside : (i < k) × (i < length l)
+  listed-inside = let b : i < length (take k l) = inside in (omega (arith, length-take k l), omega (arith, length-take k l))
+
+  pub listed : getD (map f (take k l)) i [] ≡ f (getD l i d)
+  listed = rw (getD-map f d [] (take k l) i inside, getD-take k l i d (listed-inside .0))
+
+module _ (k : ℕ) (l : List Stream) (i : ℕ) (h : i < length (pcmItems 0 (take k l))) where
+  among : i < length (take k l)
+  among = rw length-pcmItems at h
+
+  pub streams-inside : (i < k) × (i < length l)
+  streams-inside = let b : i < length (take k l) = among in (omega (arith, length-take k l), omega (arith, length-take k l))
+
+  pub listed-stream : getD (pcmItems 0 (take k l)) i [] ≡ pcmItem i (getD l i noStream)
+  listed-stream = rw (getD-pcmItems 0 (take k l) i among, zero-add, getD-take k l i noStream (streams-inside .0))
+
+-- what stands past the end of an array of maps
+abbrev pub emptyMap : MapInfo
+emptyMap = record { nid = 0; direction = 0; channels = 0; positions = [] }
+
+pub few-items : (l : Listing) (p : Parts) → FitParts p → length (itemsOf l p) ≤ 4
+few-items Jacks p f = rw (length-map, length-take) (omega arith)
+few-items Streams p f = rw (length-pcmItems, length-take) (omega arith)
+few-items Maps p f = rw (length-map, length-take) (omega arith)

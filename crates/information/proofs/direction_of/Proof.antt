@@ -1,0 +1,14 @@
+-- The number tells the direction.
+use Prim.Native.Nat.{_-_}
+use borrow.Author.Tests.{ne-eqb}
+use Rattle.information.proofs.direction_of.Statement.{statement}
+use Rattle.information.proofs.direction_of.Tie as tie
+
+returns : tie.Need-returns
+returns c = rw (c .if1 .taken)
+
+returns-2 : tie.Need-returns-2
+returns-2 c = rw (ne-eqb _ _ (c .if1 .left))
+
+pub direction-of-spec : {M : Type 1} → statement M
+direction-of-spec = tie.close (tie.spec returns returns-2)

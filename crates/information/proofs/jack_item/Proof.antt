@@ -1,0 +1,53 @@
+-- The numbers stand one behind the other, zeros behind them.
+use Prim.Native.Nat.{_-_}
+use borrow.Author.Needs.{needs}
+use Rattle.memory.specs.Bytes.{put}
+use Rattle.rules.specs.Device.{bytesOf}
+use Rattle.information.proofs.jack_item.Statement.{statement}
+use Rattle.information.proofs.jack_item.Tie as tie
+
+slice-aggregate-set32 : tie.Need-slice-aggregate-set32
+slice-aggregate-set32 c = search needs
+
+set32-requires : tie.Need-set32-requires
+set32-requires c κs = search needs
+
+slice-aggregate-set32-2 : tie.Need-slice-aggregate-set32-2
+slice-aggregate-set32-2 c = search needs
+
+set32-requires-2 : tie.Need-set32-requires-2
+set32-requires-2 c κs = search needs
+
+slice-aggregate-set32-3 : tie.Need-slice-aggregate-set32-3
+slice-aggregate-set32-3 c = search needs
+
+set32-requires-3 : tie.Need-set32-requires-3
+set32-requires-3 c κs = search needs
+
+slice-aggregate-set32-4 : tie.Need-slice-aggregate-set32-4
+slice-aggregate-set32-4 c = search needs
+
+set32-requires-4 : tie.Need-set32-requires-4
+set32-requires-4 c κs = search needs
+
+array-write-bytes : tie.Need-array-write-bytes
+array-write-bytes c = search needs
+
+returns : tie.Need-returns
+unfolding put bytesOf
+returns c = rw (c .before .set324 .ensures, c .before .before .before .before .set323 .ensures, c .before .before .before .before .before .before .before .set322 .ensures, c .before .before .before .before .before .before .before .before .before .before .set32 .ensures)
+
+pub jack-item-spec : {M : Type 1} → statement M
+jack-item-spec =
+    tie.close
+    (tie.spec
+    slice-aggregate-set32
+    set32-requires
+    slice-aggregate-set32-2
+    set32-requires-2
+    slice-aggregate-set32-3
+    set32-requires-3
+    slice-aggregate-set32-4
+    set32-requires-4
+    array-write-bytes
+    returns)

@@ -1,0 +1,65 @@
+-- The numbers stand one behind the other, zeros behind them.
+use Prim.Native.Nat.{_-_}
+use borrow.Author.Needs.{needs}
+use Rattle.memory.specs.Bytes.{put}
+use Rattle.rules.specs.Device.{bytesOf}
+use Rattle.information.proofs.pcm_item.Statement.{statement}
+use Rattle.information.proofs.pcm_item.Tie as tie
+
+slice-aggregate-set32 : tie.Need-slice-aggregate-set32
+slice-aggregate-set32 c = search needs
+
+set32-requires : tie.Need-set32-requires
+set32-requires c κs = search needs
+
+slice-aggregate-set32-2 : tie.Need-slice-aggregate-set32-2
+slice-aggregate-set32-2 c = search needs
+
+set32-requires-2 : tie.Need-set32-requires-2
+set32-requires-2 c κs = search needs
+
+slice-aggregate-put64 : tie.Need-slice-aggregate-put64
+slice-aggregate-put64 c = search needs
+
+put64-requires : tie.Need-put64-requires
+put64-requires c κs = search needs
+
+slice-aggregate-put64-2 : tie.Need-slice-aggregate-put64-2
+slice-aggregate-put64-2 c = search needs
+
+put64-requires-2 : tie.Need-put64-requires-2
+put64-requires-2 c κs = search needs
+
+direction-of-requires : tie.Need-direction-of-requires
+direction-of-requires c κs = search needs
+
+array-write-bytes : tie.Need-array-write-bytes
+array-write-bytes c = search needs
+
+array-write-bytes-2 : tie.Need-array-write-bytes-2
+array-write-bytes-2 c = search needs
+
+array-write-bytes-3 : tie.Need-array-write-bytes-3
+array-write-bytes-3 c = search needs
+
+returns : tie.Need-returns
+unfolding put bytesOf
+returns c = rw (c .direction-of .ensures, c .before .before .put642 .ensures, c .before .before .before .before .before .put64 .ensures, c .before .before .before .before .before .before .before .before .set322 .ensures, c .before .before .before .before .before .before .before .before .before .before .before .set32 .ensures)
+
+pub pcm-item-spec : {M : Type 1} → statement M
+pcm-item-spec =
+    tie.close
+    (tie.spec
+    slice-aggregate-set32
+    set32-requires
+    slice-aggregate-set32-2
+    set32-requires-2
+    slice-aggregate-put64
+    put64-requires
+    slice-aggregate-put64-2
+    put64-requires-2
+    direction-of-requires
+    array-write-bytes
+    array-write-bytes-2
+    array-write-bytes-3
+    returns)

@@ -1,0 +1,2 @@
+-- Lists of items.
+pub mod Information
