@@ -11,3 +11,5 @@ pub mod Theorem
 pub mod Reading
 pub mod Release
 pub mod Drained
+pub mod Table
+pub mod Examples
