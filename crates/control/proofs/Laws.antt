@@ -85,12 +85,16 @@ module _ (p : Parts) (f : FitParts p) where
   unfolding lawfulIn
   lawful-absent command id h = rw (stream-total, h)
 
-  -- a stream that is found is one of them
-  pub lawful-inside : (command id : ℕ) → lawfulIn p command id ≡ true → id < p .«stream_count»
+  -- a stream that is found for a command is one of them, and the command lawful
+  pub stream-there :
+      (command id i : ℕ)
+      → foundOf (lawfulIn p command id) id ≡ There i
+      → (lawfulIn p command id ≡ true) × (i ≡ id) × (i < p .«stream_count»)
   unfolding lawfulIn
-  lawful-inside command id h =
-      let e : ltb id (length (take (p .«stream_count») (p .streams))) ≡ true = and-eq-true-iff _ _ .0 h .0 in
-      omega (arith, ltb-true id (length (take (p .«stream_count») (p .streams))) e, stream-total)
+  stream-there command id i h =
+      let t = found-there (lawfulIn p command id) id i h in
+      let e : ltb id (length (take (p .«stream_count») (p .streams))) ≡ true = and-eq-true-iff _ _ .0 (t .0) .0 in
+      (t .0, t .1, omega (arith, t .1, ltb-true id (length (take (p .«stream_count») (p .streams))) e, stream-total))
 
 -- ---- a card with another stream or jack
 

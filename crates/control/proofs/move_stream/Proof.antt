@@ -5,17 +5,17 @@ use mathlib.Core.Bool.{true}
 use native.Mathlib.Omega.{arith}
 use borrow.Author.Needs.{needs}
 use Rattle.control.specs.Control.{lawfulIn}
-use Rattle.control.proofs.Laws.{found-there, found-absent, lawful-inside, lawfully-true, lawfully-false, serves-refusal, serves-stream, stream-at}
+use Rattle.control.proofs.Laws.{found-absent, stream-there, lawfully-true, lawfully-false, serves-refusal, serves-stream, stream-at}
 use Rattle.control.proofs.move_stream.Statement.{statement}
 use Rattle.control.proofs.move_stream.Tie as tie
 
-there : (c : tie.After-known-told) → (lawfulIn (c .before .before .before .before .before .before .before .before .args .card .parts) (c .before .before .before .before .before .before .before .before .args .command) (c .before .before .before .before .number32 .result) ≡ true) × (c .before .i .given .0 .0 ≡ c .before .before .before .before .number32 .result)
-there c = found-there _ _ _ (sym (c .before .before .before .stream-for .ensures) ∙ c .before .i .given .1)
-
-inside : (c : tie.After-known-told) → c .before .i .given .0 .0 < c .before .before .before .before .before .before .before .before .args .card .parts .«stream_count»
-inside c =
-    let p = c .before .before .before .before .before .before .before .before .args .card .parts in
-    rw (there c .1) (lawful-inside p (c .before .before .before .before .before .before .before .before .pre .0 .parts) (c .before .before .before .before .before .before .before .before .args .command) (c .before .before .before .before .number32 .result) (there c .0))
+there :
+    (c : tie.After-known-told)
+    → (lawfulIn (c .before .before .before .before .before .before .before .before .args .card .parts) (c .before .before .before .before .before .before .before .before .args .command) (c .before .before .before .before .number32 .result) ≡ true)
+    × (c .before .i .given .0 .0 ≡ c .before .before .before .before .number32 .result)
+    × (c .before .i .given .0 .0 < c .before .before .before .before .before .before .before .before .args .card .parts .«stream_count»)
+there c =
+    stream-there _ (c .before .before .before .before .before .before .before .before .pre .0 .parts) _ _ _ (sym (c .before .before .before .stream-for .ensures) ∙ c .before .i .given .1)
 
 number32-requires : tie.Need-number32-requires
 number32-requires c κs = search needs
@@ -43,13 +43,13 @@ returns c =
     (serves-refusal (a .card) _ _ _ (c .before .before .before .before .before .before .before .before .before .before .before .pre .0) (c .before .before .reply .ensures .0) (c .before .before .reply .ensures .1))
 
 mul-stream : tie.Need-mul-stream
-mul-stream c = omega (arith, inside c, c .before .before .before .before .before .before .before .before .pre .0 .parts .streams)
+mul-stream c = omega (arith, there c .2, c .before .before .before .before .before .before .before .before .pre .0 .parts .streams)
 
 element-copy-out-stream : tie.Need-element-copy-out-stream
-element-copy-out-stream c = omega (arith, inside c, c .before .before .before .before .before .before .before .before .pre .0 .parts .streams)
+element-copy-out-stream c = omega (arith, there c .2, c .before .before .before .before .before .before .before .before .pre .0 .parts .streams)
 
 with-stream-requires : tie.Need-with-stream-requires
-with-stream-requires c κs = omega (arith, inside (c .before .before .before), c .before .before .before .before .before .before .before .before .before .before .before .pre .0 .parts .streams)
+with-stream-requires c κs = omega (arith, there (c .before .before .before) .2, c .before .before .before .before .before .before .before .before .before .before .before .pre .0 .parts .streams)
 
 reply-requires-2 : tie.Need-reply-requires-2
 reply-requires-2 c κs = search needs
@@ -62,7 +62,7 @@ returns-2 c =
     let a = c .before .before .before .before .before .before .before .before .before .before .before .before .before .before .before .before .args in
     let n = c .before .before .before .before .before .before .before .before .before .before .before .before .number32 in
     let t = there (c .before .before .before .before .before .before .before .before) in
-    let h = inside (c .before .before .before .before .before .before .before .before) in
+    let h = t .2 in
     rw (← (n .ensures), lawfully-true (a .card) (a .command) (n .result) _ (t .0), ← (t .1), stream-at (a .card) _ h)
     (serves-stream (a .card) _ _ _ _ (c .before .before .before .before .before .before .before .before .before .before .before .before .before .before .before .before .pre .0) h (c .before .before .before .before .before .before .before .before .before .before .before .before .before .before .before .before .pre .2) (c .before .before .reply2 .ensures .0 ∙ rw (c .before .before .before .before .with-stream .ensures)) (c .before .before .reply2 .ensures .1))
 

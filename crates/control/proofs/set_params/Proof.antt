@@ -12,17 +12,17 @@ use Rattle.rules.specs.Device.{streamAt}
 use Rattle.message.specs.Card.{restOf}
 use Rattle.card.specs.Card.{noStream}
 use Rattle.control.specs.Control.{lawfulIn, malformed, offered}
-use Rattle.control.proofs.Laws.{found-there, found-absent, lawful-inside, lawfully-true, lawfully-false, serves-refusal, serves-stream, stream-at, check-passed, check-failed, set-malformed, set-lacking, set-done}
+use Rattle.control.proofs.Laws.{found-absent, stream-there, lawfully-true, lawfully-false, serves-refusal, serves-stream, stream-at, check-passed, check-failed, set-malformed, set-lacking, set-done}
 use Rattle.control.proofs.set_params.Statement.{statement}
 use Rattle.control.proofs.set_params.Tie as tie
 
-there : (c : tie.After-known-told) → (lawfulIn (c .before .before .before .before .before .before .before .before .args .card .parts) (c .before .before .before .before .before .before .before .before .args .command) (c .before .before .before .before .number32 .result) ≡ true) × (c .before .i .given .0 .0 ≡ c .before .before .before .before .number32 .result)
-there c = found-there _ _ _ (sym (c .before .before .before .stream-for .ensures) ∙ c .before .i .given .1)
-
-inside : (c : tie.After-known-told) → c .before .i .given .0 .0 < c .before .before .before .before .before .before .before .before .args .card .parts .«stream_count»
-inside c =
-    let p = c .before .before .before .before .before .before .before .before .args .card .parts in
-    rw (there c .1) (lawful-inside p (c .before .before .before .before .before .before .before .before .pre .0 .parts) (c .before .before .before .before .before .before .before .before .args .command) (c .before .before .before .before .number32 .result) (there c .0))
+there :
+    (c : tie.After-known-told)
+    → (lawfulIn (c .before .before .before .before .before .before .before .before .args .card .parts) (c .before .before .before .before .before .before .before .before .args .command) (c .before .before .before .before .number32 .result) ≡ true)
+    × (c .before .i .given .0 .0 ≡ c .before .before .before .before .number32 .result)
+    × (c .before .i .given .0 .0 < c .before .before .before .before .before .before .before .before .args .card .parts .«stream_count»)
+there c =
+    stream-there _ (c .before .before .before .before .before .before .before .before .pre .0 .parts) _ _ _ (sym (c .before .before .before .stream-for .ensures) ∙ c .before .i .given .1)
 
 well : (c : tie.After-enum-told2) → malformed (paramsOf (c .before .before .before .before .before .before .before .before .before .before .before .before .before .before .before .args .request .now)) (le 1 (c .before .before .before .before .before .before .before .before .before .before .before .before .before .before .before .args .request .now) 23) ≡ false
 well c =
@@ -32,7 +32,7 @@ well c =
 
 the-stream : (c : tie.After-enum-told2) → streamAt (restOf (c .before .before .before .before .before .before .before .before .before .before .before .before .before .before .before .args .card)) (word (c .before .before .before .before .before .before .before .before .before .before .before .before .before .before .before .args .request .now) 1) ≡ getD (c .before .before .before .before .before .before .before .before .before .before .before .before .before .before .before .args .card .parts .streams) (c .before .before .before .before .before .before .before .before .i .given .0 .0) noStream
 the-stream c =
-    rw (← (c .before .before .before .before .before .before .before .before .before .before .before .number32 .ensures), ← (there (c .before .before .before .before .before .before .before) .1)) (stream-at (c .before .before .before .before .before .before .before .before .before .before .before .before .before .before .before .args .card) (c .before .before .before .before .before .before .before .before .i .given .0 .0) (inside (c .before .before .before .before .before .before .before)))
+    rw (← (c .before .before .before .before .before .before .before .before .before .before .before .number32 .ensures), ← (there (c .before .before .before .before .before .before .before) .1)) (stream-at (c .before .before .before .before .before .before .before .before .before .before .before .before .before .before .before .args .card) (c .before .before .before .before .before .before .before .before .i .given .0 .0) (there (c .before .before .before .before .before .before .before) .2))
 
 number32-requires : tie.Need-number32-requires
 number32-requires c κs = search needs
@@ -60,10 +60,10 @@ returns c =
     (serves-refusal (a .card) _ _ _ (c .before .before .before .before .before .before .before .before .before .before .before .pre .0) (c .before .before .reply .ensures .0) (c .before .before .reply .ensures .1))
 
 mul-stream : tie.Need-mul-stream
-mul-stream c = omega (arith, inside c, c .before .before .before .before .before .before .before .before .pre .0 .parts .streams)
+mul-stream c = omega (arith, there c .2, c .before .before .before .before .before .before .before .before .pre .0 .parts .streams)
 
 element-copy-out-stream : tie.Need-element-copy-out-stream
-element-copy-out-stream c = omega (arith, inside c, c .before .before .before .before .before .before .before .before .pre .0 .parts .streams)
+element-copy-out-stream c = omega (arith, there c .2, c .before .before .before .before .before .before .before .before .pre .0 .parts .streams)
 
 params-in-requires : tie.Need-params-in-requires
 params-in-requires c κs = search needs
@@ -121,7 +121,7 @@ returns-3 c =
     (serves-refusal (a .card) _ _ _ (c .before .before .before .before .before .before .before .before .before .before .before .before .before .before .before .before .before .before .before .before .before .before .pre .0) (c .before .before .reply3 .ensures .0) (c .before .before .reply3 .ensures .1))
 
 with-stream-requires : tie.Need-with-stream-requires
-with-stream-requires c κs = omega (arith, inside (c .before .before .before .before .before .before .before .before .before .before), c .before .before .before .before .before .before .before .before .before .before .before .before .before .before .before .before .before .before .pre .0 .parts .streams)
+with-stream-requires c κs = omega (arith, there (c .before .before .before .before .before .before .before .before .before .before) .2, c .before .before .before .before .before .before .before .before .before .before .before .before .before .before .before .before .before .before .pre .0 .parts .streams)
 
 reply-requires-4 : tie.Need-reply-requires-4
 reply-requires-4 c κs = c .before .before .before .before .before .before .before .before .before .before .before .before .before .before .before .before .before .before .before .before .pre .1
@@ -137,8 +137,8 @@ returns-4 c =
     let o : offered (getD (a .card .parts .streams) (c .before .before .before .before .before .before .before .before .before .before .before .before .before .before .before .before .i .given .0 .0) noStream .info) (paramsOf (a .request .now)) ≡ true =
     rw (c .before .before .before .before .before .before .before .before .before .before .before .before .params-in .ensures) at (check-passed (offered (getD (a .card .parts .streams) (c .before .before .before .before .before .before .before .before .before .before .before .before .before .before .before .before .i .given .0 .0) noStream .info) (c .before .before .before .before .before .before .before .before .before .before .before .before .params-in .result)) (sym (c .before .before .before .before .before .before .before .is-offered .ensures) ∙ c .before .before .before .before .before .enum-told4 .given .1)) in
     let l : offered (streamAt (restOf (a .card)) (word (a .request .now) 1) .info) (paramsOf (a .request .now)) ≡ true = rw (the-stream (c .before .before .before .before .before .before .before .before)) o in
-    rw (set-done (restOf (a .card)) (a .request .now) (well (c .before .before .before .before .before .before .before .before)) l, ← (n .ensures), lawfully-true (a .card) (a .command) (n .result) _ (t .0), ← (t .1), stream-at (a .card) _ (inside (c .before .before .before .before .before .before .before .before .before .before .before .before .before .before .before)))
-    (serves-stream (a .card) _ _ _ _ (c .before .before .before .before .before .before .before .before .before .before .before .before .before .before .before .before .before .before .before .before .before .before .before .pre .0) (inside (c .before .before .before .before .before .before .before .before .before .before .before .before .before .before .before)) (omega arith)
+    rw (set-done (restOf (a .card)) (a .request .now) (well (c .before .before .before .before .before .before .before .before)) l, ← (n .ensures), lawfully-true (a .card) (a .command) (n .result) _ (t .0), ← (t .1), stream-at (a .card) _ (there (c .before .before .before .before .before .before .before .before .before .before .before .before .before .before .before) .2))
+    (serves-stream (a .card) _ _ _ _ (c .before .before .before .before .before .before .before .before .before .before .before .before .before .before .before .before .before .before .before .before .before .before .before .pre .0) (there (c .before .before .before .before .before .before .before .before .before .before .before .before .before .before .before) .2) (omega arith)
     (c .before .before .reply4 .ensures .0 ∙ rw (c .before .before .before .before .with-stream .ensures, c .before .before .before .before .before .before .before .before .before .before .before .before .params-in .ensures)) (c .before .before .reply4 .ensures .1))
 
 pub set-params-spec : {M : Type 1} → statement M
