@@ -24,10 +24,11 @@ use Rattle.card.specs.declared.Stream.{Stream}
 use Rattle.rules.specs.Calls.{Request, ReadRegister, WriteRegister, Control, Play, Capture, Event, Call, Told, toldAll, step, Order as Decided, Done, ReleaseFirst, readMessage, Emptied, eventRoom, replied, orderOf, emptied, releasedOf, releasedInput, transferred, eventAllowed, recorded, eventPosted, tried, eventRun, eventOf, readStep, writeStep, releaseStep, playStep, captured}
 use Rattle.rules.specs.Claim.{card, toldBy}
 use Rattle.rules.specs.Control.{Served, Reply, Release, joined, information, remap, lawfulFrom, judgedParams, setParams, served}
-use Rattle.rules.specs.Device.{Direction, output, input, Form, wellFormed, refused, silent, Queue, emptyQueue, Rest, Device, withRegisters, withJacks, withControl, withEvent, withCapture, bytesOf}
+use Rattle.rules.specs.Counters.{countersOf}
+use Rattle.rules.specs.Device.{Direction, output, input, Form, wellFormed, refused, silent, Taking, Queue, emptyQueue, Rest, Device, withRegisters, withJacks, withControl, withEvent, withCapture, bytesOf}
 use Rattle.rules.specs.Loop.{loop}
 use Rattle.rules.specs.Numbers.{pcmSetParams, pcmPrepare, pcmRelease, pcmStart, pcmStop, sOk, sBadMsg, sNotSupp}
-use Rattle.rules.specs.Transfer.{formOf, takingOf, payloadOf, completed, moved, entered, next, transferRun, releaseRun}
+use Rattle.rules.specs.Transfer.{Run, formOf, takingOf, payloadOf, completed, moved, entered, next, transferRun, releaseRun}
 
 -- ---- memory in blocks
 
@@ -751,6 +752,26 @@ pays d form =
 pub payloads : (pays output wellFormed ≡ 21 ∷ 22 ∷ []) × (pays input wellFormed ≡ 30 ∷ 31 ∷ []) × (pays input refused ≡ [])
 unfolding run
 payloads = (refl, refl, refl)
+
+-- three bytes captured into a payload of two, across descriptors: the third is left for the next message
+abbrev pub capturing : ℕ → List ℕ → List ℕ → List ℕ → ℕ → Run Queue
+capturing done mem bytes host room =
+    let t : Taking = record { head = 0; request = range 0 4 ∷ []; reply = range 1 1 ∷ range 4 9 ∷ []; form = wellFormed } in
+    record {
+      queue = record { taken = 1; completed = 0; work = some (record { taking = t; done = done }) };
+      mem = mem;
+      bytes = bytes;
+      host = host;
+      room = room;
+      sound = true;
+      signal = false;
+    }
+
+pub capture-moves :
+    moved (countersOf input) input (record { 0 = 1 }) true (capturing 0 (replicate 6 0) [] (7 ∷ 8 ∷ 9 ∷ []) 3)
+    ≡ capturing 2 (0 ∷ 7 ∷ 0 ∷ 0 ∷ 8 ∷ 0 ∷ []) (7 ∷ 8 ∷ []) (9 ∷ []) 1
+unfolding run
+capture-moves = refl
 
 -- ---- chains, in a table of 64 at address 0
 

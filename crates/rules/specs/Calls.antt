@@ -1,15 +1,14 @@
 -- The five kinds of call, each from the state, its arguments and the memory lent to it to the answer, the count, the next
 -- state and memory; for any way `Q` of keeping the play queue. At counters they are the card's, at histories the account's.
-use mathlib.Core.Bool.{Bool, true, false, cond, _&&_, _||_, not}
-use mathlib.Core.List.{List, [], _∷_, _++_, map}
+use mathlib.Core.Bool.{Bool, true, false, cond, _&&_, _||_}
+use mathlib.Core.List.{List, [], _++_, map}
 use mathlib.Core.Option.{Option, none, some}
 use Prim.Native.Nat.{ℕ, zero, suc, _+_}
 use lib.Dec.{eqb, leb, ltb}
-use lib.ListN.{length, getD, set, take, drop}
+use lib.ListN.{length, getD, set}
 use lib.Seq.{sets}
 use Rattle.chain.specs.Walk.{Outcome, whole, faulted, walkOf}
 use Rattle.counts.specs.declared.PageNumber.{PageNumber}
-use Rattle.memory.specs.Bytes.{le}
 use Rattle.ranges.specs.Ranges.{total, places, bytesAt, putAt, allInside}
 use Rattle.ranges.specs.declared.Range.{Range}
 use Rattle.registers.specs.Answers.{done, lengthDiffers, notLive, notRunning, eventNotAllowed, noEventBuffer, queueBroken}
@@ -26,9 +25,7 @@ use Rattle.ring.specs.declared.Check.{Check}
 use Rattle.ring.specs.declared.Head.{Head}
 use Rattle.card.specs.Card.{noCounters, runningState, releasedState}
 use Rattle.card.specs.Rules.{jackReset, streamReset, rungOf}
-use Rattle.card.specs.declared.Counters.{Counters}
 use Rattle.card.specs.declared.Jack.{Jack}
-use Rattle.card.specs.declared.Stream.{Stream}
 use Rattle.rules.specs.Control.{Served, Reply, Release, served, status, noJack, withState, withStream}
 use Rattle.rules.specs.Device.{Direction, output, input, streamNumber, queueNumber, Queue, emptyQueue, Rest, Device, withRegisters, withJacks, withControl, withEvent, withCapture, pageOf, streamAt, signalledIf, oneTaken, oneCompleted, bytesOf}
 use Rattle.rules.specs.Numbers.{controlQueue, eventQueue, jackConnected, jackDisconnected, pcmXrun, sOk, sBadMsg}

@@ -1,7 +1,7 @@
 -- Demand 3 (01, The play queue's account): one claim about any list of calls from power-up, refused ones included, the guest
 -- rewriting memory between calls and changing its length. `Holds` is the claim; the theorem is `demand-3` of proofs/Theorem.
 use mathlib.Core.Path.{_≡_}
-use mathlib.Core.Bool.{Bool, true, false, cond}
+use mathlib.Core.Bool.{Bool, false, cond}
 use mathlib.Core.List.{List, [], _∷_, _++_, map}
 use mathlib.Core.Option.{Option, none, some}
 use Prim.Native.Nat.{ℕ, suc, _+_, _%_, _≤_}
@@ -11,9 +11,9 @@ use Rattle.description.specs.declared.Description.{Description}
 use Rattle.ranges.specs.Ranges.{upFrom}
 use Rattle.registers.specs.Rules.{writeOf, powerOn}
 use Rattle.card.specs.Card.{noCounters, jackAtPower, freshStream}
-use Rattle.rules.specs.Calls.{Request, ReadRegister, WriteRegister, Control, Play, Capture, Event, Call, Told, Step, step, clearsPlay}
+use Rattle.rules.specs.Calls.{Request, ReadRegister, WriteRegister, Control, Play, Capture, Event, Call, Told, step, clearsPlay}
 use Rattle.rules.specs.Counters.{countersOf}
-use Rattle.rules.specs.Device.{output, Taking, nobody, Ending, released, Message, Queue, emptyQueue, Rest, Device}
+use Rattle.rules.specs.Device.{output, Taking, nobody, released, Message, Queue, emptyQueue, Rest, Device}
 use Rattle.rules.specs.Histories.{Entry, Note, History, unanswered, handedOf, readOf, lostOf, number, current, handedNow, waiting, historiesOf}
 use Rattle.rules.specs.Transfer.{Ops, payloadOf}
 
@@ -87,7 +87,7 @@ payloadAt t h = payloadOf output (getD (h .takings) t nobody)
 
 -- `said`: the bytes that the plays since the start, reset or base write handed on, joined
 pub record Good (said : List ℕ) (h : History) : Type 0 where
-  -- "the used entries name the heads taken, one for each taking, in order, only the message in work lacking one"
+  -- the used entries name the heads taken, one for each taking, in order; only the message in work lacks one
   pub few : number h ≤ length (h .takings)
   pub one : length (h .takings) ≤ suc (number h)
   pub heads : map (λ (e : Entry). e .head) (h .entries) ≡ take (number h) (map (λ (t : Taking). t .head) (h .takings))
@@ -125,5 +125,5 @@ pub record Holds (d : Description) (len : ℕ) (cs : List Call) : Type 0 where
   pub stands : after card (start card d len) cs ≡ shownAs queueOf (after account (start account d len) cs)
   -- entries, positions and bytes
   pub good : Good (heard card [] (start card d len) cs) (after account (start account d len) cs .play)
-  -- "the counts of the play calls since the start, reset or base write add up to the positions handed"
+  -- the counts of the play calls since the start, reset or base write add up to the positions handed on
   pub adds : counted card 0 (start card d len) cs ≡ length (after account (start account d len) cs .play .notes)

@@ -1,6 +1,6 @@
 -- 01, Control messages: what a request asks and is answered. RELEASE, whose stream's queue comes first, is told apart; all
 -- else is decided by the rest of the card and the request.
-use mathlib.Core.Bool.{Bool, true, false, cond, _&&_, _||_, not}
+use mathlib.Core.Bool.{Bool, false, cond, _&&_, _||_, not}
 use mathlib.Core.List.{List, [], _∷_, _++_, map}
 use Prim.Native.Nat.{ℕ, suc, _+_, _*_, _/_, _%_, _^_}
 use lib.Dec.{eqb, leb, ltb}

@@ -1,6 +1,5 @@
 -- A stream's queue as the card keeps it: counters modulo 65,536 and the message in work.
 use mathlib.Core.Bool.{Bool, true, false}
-use mathlib.Core.List.{List, []}
 use mathlib.Core.Option.{Option, none, some}
 use Prim.Native.Nat.{ℕ, _+_, _%_}
 use lib.ListN.{length, drop}

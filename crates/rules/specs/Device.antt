@@ -1,14 +1,13 @@
 -- The card as the rules see it: lists, no arrays. The play queue is kept apart from all the rest, so that the rules can
 -- run over counters (the card) and over histories (the account) alike.
-use mathlib.Core.Bool.{Bool, true, false, cond}
-use mathlib.Core.List.{List, [], _∷_, _++_, map}
-use mathlib.Core.Option.{Option, none, some}
+use mathlib.Core.Bool.{Bool, cond}
+use mathlib.Core.List.{List, [], _∷_}
+use mathlib.Core.Option.{Option, none}
 use Prim.Native.Nat.{ℕ, zero, suc, _+_, _/_, _%_}
-use lib.ListN.{length, getD, set}
+use lib.ListN.{getD}
 use Rattle.counts.specs.declared.PageNumber.{PageNumber}
 use Rattle.description.specs.declared.MapInfo.{MapInfo}
 use Rattle.ranges.specs.declared.Range.{Range}
-use Rattle.registers.specs.Map.{sizeOf}
 use Rattle.registers.specs.Rules.{signalled}
 use Rattle.registers.specs.declared.Registers.{Registers}
 use Rattle.card.specs.Card.{noStream}

@@ -2,7 +2,8 @@
 -- many were taken or completed is the length of a list; the message in work is the first taking without an entry.
 use mathlib.Core.Bool.{cond}
 use mathlib.Core.List.{List, [], _∷_, _++_, map}
-use Prim.Native.Nat.{ℕ, zero, suc, _+_, _-_, _%_}
+use mathlib.Core.Option.{Option, none}
+use Prim.Native.Nat.{ℕ, _+_, _-_, _%_}
 use lib.Dec.{eqb, leb}
 use lib.ListN.{length, drop, getD}
 use Rattle.ranges.specs.Ranges.{upFrom}
@@ -11,11 +12,12 @@ use Rattle.ring.specs.Rules.{newOf}
 use Rattle.rules.specs.Device.{Direction, queueNumber, Taking, nobody, Ending, finished}
 use Rattle.rules.specs.Transfer.{Ops, payloadOf, statusOf, usedLength}
 
--- a used entry: the head it names, its length, and why the message was completed
+-- a used entry: the head it names, its length, why the message was completed and the status it was given
 pub record Entry : Type 0 where
   pub head : ℕ
   pub length : ℕ
   pub ending : Ending
+  pub status : Option ℕ
 
 -- position `pos` of the payload of taking number `of` was handed on: its address, and the byte that memory then held there
 pub record Note : Type 0 where
@@ -40,7 +42,7 @@ blank = record { takings = []; entries = []; notes = []; losses = [] }
 
 -- what stands past the end of the entries
 abbrev pub unanswered : Entry
-unanswered = record { head = 0; length = 0; ending = finished }
+unanswered = record { head = 0; length = 0; ending = finished; status = none }
 
 -- of the elements with this key, in order, the values
 abbrev pub only : {A : Type 0} → (A → ℕ) → (A → ℕ) → ℕ → List A → List ℕ
@@ -97,7 +99,13 @@ module _ (d : Direction) where
         takings = h .takings;
         entries =
             h .entries
-            ++ record { head = current h .head; length = usedLength d (statusOf d e (current h .form)) (handedNow h); ending = e } ∷ [];
+            ++ record {
+              head = current h .head;
+              length = usedLength d (statusOf d e (current h .form)) (handedNow h);
+              ending = e;
+              status = statusOf d e (current h .form);
+            }
+            ∷ [];
         notes = h .notes;
         losses = h .losses ++ lossesOf (number h) (waiting h);
       }

@@ -6,7 +6,6 @@ use mathlib.Core.Option.{Option, none, some}
 use Prim.Native.Nat.{ℕ, _+_, _-_}
 use lib.Dec.{eqb, leb, ltb}
 use lib.ListN.{length, take, drop}
-use Rattle.counts.specs.declared.DescriptorNumber.{DescriptorNumber}
 use Rattle.counts.specs.declared.PageNumber.{PageNumber}
 use Rattle.memory.specs.Bytes.{le}
 use Rattle.ranges.specs.Ranges.{total, places, bytesAt, putAt, allInside}
