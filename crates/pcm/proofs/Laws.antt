@@ -1,31 +1,24 @@
--- What the entries' decisions mean for the rules, and what a card with another queue stands for.
-use mathlib.Core.Path.{_≡_, refl, sym, _∙_, ap}
-use mathlib.Core.List.{List, []}
-use mathlib.Core.Bool.{Bool, true, false, cond, _&&_}
-use Prim.Native.Nat.{ℕ, zero, suc, _≤_, _<_}
+-- What the entries' decisions mean for the rules: the checks, and the streams.
+use mathlib.Core.Path.{_≡_, refl, sym}
+use mathlib.Core.List.{List}
+use mathlib.Core.Bool.{Bool, true, false, cond}
+use Prim.Native.Nat.{ℕ, _≤_, _<_}
 use native.Mathlib.Omega.{arith}
-use lib.Dec.{eqb, ltb}
-use lib.ListN.{length, getD, set, take}
+use lib.Dec.{eqb}
+use lib.ListN.{length, getD, take}
 use borrow.Author.Tests.{lt-ltb, le-ltb}
-use lib.Seq.{getD-set-same, getD-set-other, getD-take, length-take-le}
+use lib.Seq.{getD-take, length-take-le}
 use Rattle.registers.specs.Answers.{done, lengthDiffers, notLive, notRunning}
 use Rattle.registers.specs.Rules.{live}
-use Rattle.ring.specs.Rules.{checkOf, foundOf}
-use Rattle.registers.specs.Map.{sizeOf}
-use Rattle.card.specs.Card.{noCounters, noStream}
+use Rattle.card.specs.Card.{noStream}
 use Rattle.card.specs.Fit.{Fit}
 use Rattle.card.specs.declared.Card.{Card}
-use Rattle.card.specs.declared.Counters.{Counters}
-use Rattle.card.specs.declared.Message.{Message}
-use Rattle.message.specs.Card.{queueOf, messageOf, countersAt, restOf, deviceOf}
-use Rattle.message.specs.declared.Direction.the-variants.{Output, Input}
+use Rattle.message.specs.Card.{restOf}
 use Rattle.rules.specs.Calls.{transferred, transferFound, untouched, isRunning, indirect}
-use Rattle.rules.specs.Counters.{countersOf, isNone}
+use Rattle.rules.specs.Counters.{countersOf}
 use Rattle.rules.specs.Device as rules
-use Rattle.rules.specs.Transfer.{Ops, found}
-use Rattle.counts.specs.declared.PageNumber.{PageNumber}
-use Rattle.transfer.specs.declared.Flow.{Flow}
-use Rattle.pcm.specs.Entry.{refusalOf, withRegisters, withFlow, flowedCard, registersAfter}
+use Rattle.rules.specs.Transfer.{found}
+use Rattle.pcm.specs.Entry.{refusalOf}
 
 -- ---- the checks 1, 5, 6
 
@@ -56,42 +49,6 @@ module _ (d : rules.Direction) (r : rules.Rest) (q : rules.Queue) (m host : List
     by true true false e = absurd (omega arith)
     by true false z e = absurd (omega arith)
     by false y z e = absurd (omega arith)
-
--- ---- the queue check
-
--- a count of at most one is what the rules count in work
-in-work : (n : ℕ) (message : Message) → message .count ≡ n → n ≤ 1 → cond (isNone (messageOf message)) 0 1 ≡ n
-in-work zero message e h = rw e
-in-work (suc zero) message e h = rw e
-in-work (suc (suc n)) message e h = absurd (omega arith)
-
-pub found-check : (d : rules.Direction) (page : PageNumber) (negotiated : Bool) (m : List ℕ) (c : Counters) (message : Message) → message .count ≤ 1
-    → found (countersOf d) d page negotiated (queueOf c message) m ≡ checkOf m page (sizeOf (rules.queueNumber d)) (c .taken) (message .count)
-found-check d page negotiated m c message h = rw (in-work (message .count) message refl h)
-
--- ---- what a card with another queue stands for
-
-module _ (c : Card) (f : Flow) (four : length (c .queues) ≡ 4) where
-  pub output-flowed : deviceOf (withFlow Output f c) ≡ record { rest = restOf c; play = queueOf (f .counters) (f .message) }
-  unfolding deviceOf restOf
-  output-flowed =
-      rw (
-        getD-set-same (c .queues) 2 (f .counters) noCounters (omega arith),
-        getD-set-other (c .queues) 2 0 (f .counters) noCounters (λ e. omega arith),
-        getD-set-other (c .queues) 2 1 (f .counters) noCounters (λ e. omega arith),
-        getD-set-other (c .queues) 2 3 (f .counters) noCounters (λ e. omega arith),
-      )
-
-  pub input-flowed : deviceOf (withFlow Input f c)
-      ≡ record { rest = rules.withCapture (queueOf (f .counters) (f .message)) (restOf c); play = queueOf (countersAt c 2) (c .play) }
-  unfolding deviceOf restOf
-  input-flowed =
-      rw (
-        getD-set-same (c .queues) 3 (f .counters) noCounters (omega arith),
-        getD-set-other (c .queues) 3 0 (f .counters) noCounters (λ e. omega arith),
-        getD-set-other (c .queues) 3 1 (f .counters) noCounters (λ e. omega arith),
-        getD-set-other (c .queues) 3 2 (f .counters) noCounters (λ e. omega arith),
-      )
 
 -- ---- streams
 

@@ -3,7 +3,6 @@ use mathlib.Core.Path.{_≡_, refl, sym, _∙_, ap}
 use mathlib.Core.List.{List, []}
 use mathlib.Core.Bool.{Bool, true, false, cond}
 use Prim.Native.Nat.{ℕ, _≤_}
-use native.Mathlib.Nat.{sub-zero}
 use native.Mathlib.Omega.{arith}
 use lib.ListN.{length, take, drop, length-take}
 use lib.Seq.{sets}
@@ -21,18 +20,13 @@ use Rattle.rules.specs.Calls.{Play, Capture, playStep, ended, captured, transfe
 use Rattle.rules.specs.Counters.{countersOf}
 use Rattle.rules.specs.Device as rules
 use Rattle.rules.specs.Transfer.{Run, begun, found, transferRun}
-use Rattle.transfer.specs.Flow.{runOf, freshFlow}
-use Rattle.card.specs.declared.Counters.{Counters}
-use Rattle.card.specs.declared.Message.{Message}
+use Rattle.transfer.specs.Flow.{runOf}
 use Rattle.transfer.specs.declared.Flow.{Flow}
-use Rattle.pcm.specs.Entry.{refusalOf, withRegisters, withFlow, flowedCard, registersAfter}
+use Rattle.stream.specs.Queue.{withRegisters}
+use Rattle.stream.proofs.Laws.{found-check, flowed-device}
+use Rattle.pcm.specs.Entry.{refusalOf, flowedCard, registersAfter}
 use Rattle.pcm.proofs.Host.{Past, run-past, host-after}
-use Rattle.pcm.proofs.Laws.{refused-transfer, passed-transfer, found-check, output-flowed, input-flowed}
-
--- a flow that begins is a run that begins
-pub fresh-run : (c : Counters) (message : Message) (m host : List ℕ) → runOf (freshFlow c message) m host ≡ begun (queueOf c message) m host
-unfolding runOf
-fresh-run c message m host = rw sub-zero
+use Rattle.pcm.proofs.Laws.{refused-transfer, passed-transfer}
 
 module _ (c : Card) (m host : List ℕ) where
   abbrev play : rules.Queue
@@ -81,8 +75,8 @@ module _ (c : Card) (m host : List ℕ) where
 
       after : deviceOf (flowedCard Output g c)
           ≡ record { rest = rules.withRegisters (registersAfter g (c .registers)) (restOf c); play = queueOf (g .counters) (g .message) }
-      unfolding restOf
-      after = output-flowed (withRegisters (registersAfter g (c .registers)) c) g (f .four)
+      unfolding deviceOf restOf
+      after = flowed-device (withRegisters (registersAfter g (c .registers)) c) g (f .four) Output
 
       told : playStep (countersOf rules.output) host (deviceOf c) (transferredBy (restOf c .registers) (runOf g m′ host′))
           ≡ leaves (flowedCard Output g c) (cond (g .sound) done queueBroken) (g .moved) (take (g .moved) host′) host′ m′
@@ -136,8 +130,8 @@ module _ (c : Card) (m host : List ℕ) where
             rest = rules.withCapture (queueOf (g .counters) (g .message)) (rules.withRegisters (registersAfter g (c .registers)) (restOf c));
             play = queueOf (countersAt c 2) (c .play);
           }
-      unfolding restOf
-      filed = input-flowed (withRegisters (registersAfter g (c .registers)) c) g (f .four)
+      unfolding deviceOf restOf
+      filed = flowed-device (withRegisters (registersAfter g (c .registers)) c) g (f .four) Input
 
       recorded : ended (countersOf rules.output) (captured (countersOf rules.output) (restOf c) (transferredBy (restOf c .registers) (runOf g m′ host)))
           (queueOf (countersAt c 2) (c .play))

@@ -5,14 +5,10 @@ ghost use mathlib.Core.List.{[]};
 ghost use lib.ListN.{length, take};
 ghost use Rattle.card.specs.Fit.{Fit};
 ghost use Rattle.message.specs.Card.{restOf, deviceOf, stepOf, leaves};
-ghost use Rattle.registers.specs.Rules.{hasBit};
-ghost use Rattle.rules.specs.Calls.{Request, isRunning, brokenUnless};
-ghost use Rattle.rules.specs.Device.{signalledIf};
-ghost use Rattle.pcm.specs.Entry.{refusalOf, queueIn, flowedCard, brokenAnswer, flowAnswer};
+ghost use Rattle.rules.specs.Calls.{Request, isRunning};
+ghost use Rattle.pcm.specs.Entry.{refusalOf, flowedCard, brokenAnswer, flowAnswer};
 use card::Card;
 use message::Direction;
-use message::Virtqueue;
-use registers::Registers;
 use transfer::Flow;
 
 // What a call answers: the count is the bytes handed on, or consumed.
@@ -61,67 +57,15 @@ fn refusal(card: Card, len: usize, id: usize) -> u8
     registers::NOT_RUNNING
 }
 
-// ISR bit 0, where an interrupt is wanted.
-fn signal_if(wanted: bool, registers: Registers) -> Registers
-    ensures { λ r. ⌜ r ≡ signalledIf wanted registers ⌝ }
-{
-    if wanted {
-        return registers.signal();
-    }
-    registers
-}
-
-// A breakdown, where a bad head was met.
-fn break_unless(sound: bool, registers: Registers) -> Registers
-    ensures { λ r. ⌜ r ≡ brokenUnless sound registers ⌝ }
-{
-    if sound {
-        return registers;
-    }
-    registers.break_down()
-}
-
-// The queue of a stream as the guest laid it out.
-fn virtqueue(card: Card, direction: Direction) -> Virtqueue
-    requires { ⌜ Fit card ⌝ }
-    ensures { λ r. ⌜ r ≡ queueIn card direction ⌝ }
-{
-    let registers = card.registers;
-    let pages = registers.pages;
-    let indirect = registers.features / 268435456 % 2 == 1;
-    let page = match direction {
-        Direction::Output => pages[2],
-        Direction::Input => pages[3],
-    };
-    Virtqueue {
-        direction: direction,
-        page: page,
-        indirect: indirect,
-    }
-}
-
 // The card after a flow on a stream's queue.
 fn flowed(card: Card, direction: Direction, f: Flow) -> Card
     ensures { λ r. ⌜ r ≡ flowedCard direction f card ⌝ }
 {
     let mut next = card;
-    let counters = f.counters;
-    let message = f.message;
     let registers = card.registers;
-    let signalled = signal_if(f.signal, registers);
-    next.registers = break_unless(f.sound, signalled);
-    match direction {
-        Direction::Output => {
-            next.queues[2] = counters;
-            next.play = message;
-            next
-        }
-        Direction::Input => {
-            next.queues[3] = counters;
-            next.capture = message;
-            next
-        }
-    }
+    let signalled = stream::signal_if(f.signal, registers);
+    next.registers = stream::break_unless(f.sound, signalled);
+    stream::with_flow(next, direction, f)
 }
 
 // The play call: payload of the play queue handed to the host buffer.
@@ -139,7 +83,7 @@ pub fn play(card: Card, m: &mut [u8], host: &mut [u8]) -> TransferAnswer
             card: card,
         };
     }
-    let q = virtqueue(card, Direction::Output);
+    let q = stream::virtqueue(card, Direction::Output);
     let queues = card.queues;
     let counters = queues[2];
     let message = card.play;
@@ -172,7 +116,7 @@ pub fn capture(card: Card, m: &mut [u8], host: &[u8]) -> TransferAnswer
             card: card,
         };
     }
-    let q = virtqueue(card, Direction::Input);
+    let q = stream::virtqueue(card, Direction::Input);
     let queues = card.queues;
     let counters = queues[3];
     let message = card.capture;

@@ -9,9 +9,11 @@ use Rattle.registers.specs.Map.{sizeOf}
 use Rattle.ring.specs.Rules.{checkOf}
 use Rattle.ring.specs.declared.Check.{Check}
 use Rattle.rules.specs.Device as rules
+use Rattle.stream.proofs.Fits.{broken-card-fit}
+use Rattle.stream.proofs.Laws.{page-in, indirect-in, fresh-run}
 use Rattle.pcm.specs.Entry.{refusalOf}
-use Rattle.pcm.proofs.Fits.{passed-length, page-in-capture, indirect-in, broken-card-fit, flowed-fit}
-use Rattle.pcm.proofs.Outcomes.{fresh-run, capture-refused, capture-idle, capture-broken, capture-new}
+use Rattle.pcm.proofs.Fits.{passed-length, flowed-fit}
+use Rattle.pcm.proofs.Outcomes.{capture-refused, capture-idle, capture-broken, capture-new}
 use Rattle.pcm.proofs.capture.Statement.{statement}
 use Rattle.pcm.proofs.capture.Tie as tie
 
@@ -67,7 +69,7 @@ returns-2 c =
     let a = s .args in
     let p : refusalOf (restOf (a .card)) (length (a .m .now)) 1 ≡ 0 = sym (c .before .before .before .before .before .before .before .before .before .before .refusal .ensures) ∙ c .before .before .before .before .before .before .before .before .before .if1 .left in
     let k : checkOf (a .m .now) (rules.pageOf (restOf (a .card)) 3) (sizeOf 3) (countersAt (a .card) 3 .taken) (a .card .capture .count) ≡ Check.Idle =
-    rw (c .before .before .before .before .before .before .before .before .virtqueue .ensures, c .before .before .before .before .queue-size .ensures, page-in-capture (a .card)) at (sym (c .before .before .check-queue .ensures) ∙ c .enum-told .given .1) in
+    rw (c .before .before .before .before .before .before .before .before .virtqueue .ensures, c .before .before .before .before .queue-size .ensures, page-in (a .card) Input) at (sym (c .before .before .check-queue .ensures) ∙ c .enum-told .given .1) in
     (capture-idle (a .card) (a .m .now) (a .host .now) (s .pre) p k, s .pre)
 
 same-length-2 : tie.Need-same-length-2
@@ -79,7 +81,7 @@ returns-3 c =
     let a = s .args in
     let p : refusalOf (restOf (a .card)) (length (a .m .now)) 1 ≡ 0 = sym (c .before .before .before .before .before .before .before .before .before .before .before .refusal .ensures) ∙ c .before .before .before .before .before .before .before .before .before .before .if1 .left in
     let k : checkOf (a .m .now) (rules.pageOf (restOf (a .card)) 3) (sizeOf 3) (countersAt (a .card) 3 .taken) (a .card .capture .count) ≡ Check.Broken (c .before .enum-told2 .given .0 .0) =
-    rw (c .before .before .before .before .before .before .before .before .before .virtqueue .ensures, c .before .before .before .before .before .queue-size .ensures, page-in-capture (a .card)) at (sym (c .before .before .before .check-queue .ensures) ∙ c .before .enum-told2 .given .1) in
+    rw (c .before .before .before .before .before .before .before .before .before .virtqueue .ensures, c .before .before .before .before .before .queue-size .ensures, page-in (a .card) Input) at (sym (c .before .before .before .check-queue .ensures) ∙ c .before .enum-told2 .given .1) in
     rw (c .broken-down .ensures) (capture-broken (a .card) (a .m .now) (a .host .now) (s .pre) p _ k, broken-card-fit (a .card) (s .pre))
 
 same-length-3 : tie.Need-same-length-3
@@ -92,8 +94,8 @@ returns-4 c =
     let p : refusalOf (restOf (a .card)) (length (a .m .now)) 1 ≡ 0 = sym (c .before .before .before .before .before .before .before .before .before .before .before .before .before .before .before .before .refusal .ensures) ∙ c .before .before .before .before .before .before .before .before .before .before .before .before .before .before .before .if1 .left in
     let n = c .before .before .before .before .before .before .new .given .0 .0 in
     let k : checkOf (a .m .now) (rules.pageOf (restOf (a .card)) 3) (sizeOf 3) (countersAt (a .card) 3 .taken) (a .card .capture .count) ≡ Check.New n =
-    rw (c .before .before .before .before .before .before .before .before .before .before .before .before .before .before .virtqueue .ensures, c .before .before .before .before .before .before .before .before .before .before .queue-size .ensures, page-in-capture (a .card)) at (sym (c .before .before .before .before .before .before .before .before .check-queue .ensures) ∙ c .before .before .before .before .before .before .new .given .1) in
-    let t = rw (c .before .before .before .before .before .before .before .before .before .before .before .before .before .before .virtqueue .ensures, page-in-capture (a .card), indirect-in (a .card) Input) at (c .before .before .before .capture .ensures) in
+    rw (c .before .before .before .before .before .before .before .before .before .before .before .before .before .before .virtqueue .ensures, c .before .before .before .before .before .before .before .before .before .before .queue-size .ensures, page-in (a .card) Input) at (sym (c .before .before .before .before .before .before .before .before .check-queue .ensures) ∙ c .before .before .before .before .before .before .new .given .1) in
+    let t = rw (c .before .before .before .before .before .before .before .before .before .before .before .before .before .before .virtqueue .ensures, page-in (a .card) Input, indirect-in (a .card) Input) at (c .before .before .before .capture .ensures) in
     rw (c .transferred .ensures) (
       capture-new (a .card) (a .m .now) (a .host .now) (s .pre) p n k _ (c .before .before .before .capture .result) (t .run ∙ rw (fresh-run (countersAt (a .card) 3) (a .card .capture) (a .m .now) (a .host .now))) (t .fit .inside),
       flowed-fit Input (c .before .before .before .capture .result) (a .card) (s .pre) (rw (passed-length (a .card) (length (a .m .now)) 1 p) at (t .fit .message)),

@@ -3,8 +3,8 @@ use mathlib.Core.Path.{_≡_}
 use Prim.Native.Nat.{_-_}
 use mathlib.Core.Bool.{false}
 use borrow.Author.Needs.{needs}
-use Rattle.pcm.proofs.break_unless.Statement.{statement}
-use Rattle.pcm.proofs.break_unless.Tie as tie
+use Rattle.stream.proofs.break_unless.Statement.{statement}
+use Rattle.stream.proofs.break_unless.Tie as tie
 
 returns : tie.Need-returns
 returns c = search needs

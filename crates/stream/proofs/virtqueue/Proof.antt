@@ -1,8 +1,8 @@
 -- The direction picks the page.
 use Prim.Native.Nat.{_-_}
 use borrow.Author.Needs.{needs}
-use Rattle.pcm.proofs.virtqueue.Statement.{statement}
-use Rattle.pcm.proofs.virtqueue.Tie as tie
+use Rattle.stream.proofs.virtqueue.Statement.{statement}
+use Rattle.stream.proofs.virtqueue.Tie as tie
 
 enum-told : tie.Need-enum-told
 enum-told c = search needs

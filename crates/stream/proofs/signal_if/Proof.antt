@@ -1,8 +1,8 @@
 -- Wanted or not.
 use Prim.Native.Nat.{_-_}
 use borrow.Author.Needs.{needs}
-use Rattle.pcm.proofs.signal_if.Statement.{statement}
-use Rattle.pcm.proofs.signal_if.Tie as tie
+use Rattle.stream.proofs.signal_if.Statement.{statement}
+use Rattle.stream.proofs.signal_if.Tie as tie
 
 signal-requires : tie.Need-signal-requires
 signal-requires c κs = search needs

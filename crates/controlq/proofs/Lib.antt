@@ -1,0 +1,2 @@
+-- Laws of the control call.
+pub mod Laws

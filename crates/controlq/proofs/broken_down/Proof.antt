@@ -1,0 +1,14 @@
+-- The registers break down; all else stays.
+use Prim.Native.Nat.{_-_}
+use borrow.Author.Needs.{needs}
+use Rattle.controlq.proofs.broken_down.Statement.{statement}
+use Rattle.controlq.proofs.broken_down.Tie as tie
+
+break-down-requires : tie.Need-break-down-requires
+break-down-requires c κs = search needs
+
+returns : tie.Need-returns
+returns c = rw (c .break-down .ensures)
+
+pub broken-down-spec : {M : Type 1} → statement M
+broken-down-spec = tie.close (tie.spec break-down-requires returns)

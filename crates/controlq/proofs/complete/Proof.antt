@@ -1,0 +1,49 @@
+-- What the ring's completion leaves is counted.
+use Prim.Native.Nat.{_-_}
+use borrow.Author.Needs.{needs}
+use Rattle.ranges.specs.Ranges.{rangesOf}
+use Rattle.controlq.proofs.Laws.{counted-says, counted-fit}
+use Rattle.controlq.proofs.complete.Statement.{statement}
+use Rattle.controlq.proofs.complete.Tie as tie
+
+element-copy-out-page : tie.Need-element-copy-out-page
+element-copy-out-page c = search needs
+
+element-copy-out-counters : tie.Need-element-copy-out-counters
+element-copy-out-counters c = search needs
+
+queue-size-requires : tie.Need-queue-size-requires
+queue-size-requires c κs = search needs
+
+cast-complete : tie.Need-cast-complete
+cast-complete c = search needs
+
+complete-requires : tie.Need-complete-requires
+complete-requires c κs = search needs
+
+counted-requires : tie.Need-counted-requires
+counted-requires c κs = search needs
+
+same-length : tie.Need-same-length
+same-length c = search needs
+
+returns : tie.Need-returns
+returns c =
+    let s = c .before .before .before .before .before .before .before .before .before .before .before in
+    let a = s .args in
+    let o = c .before .before .before .complete in
+    rw (c .counted .ensures)
+    (counted-says (a .t2) (s .pre .0) (a .head) (rangesOf (a .reply)) (a .bytes .now) (a .n) (a .m .now) (o .last .0) (o .result) (s .pre .2) (rw (c .before .before .before .before .before .queue-size .ensures) at (o .ensures)), counted-fit (a .t2) (s .pre .0) (o .result))
+
+pub complete-spec : {M : Type 1} → statement M
+complete-spec =
+    tie.close
+    (tie.spec
+    element-copy-out-page
+    element-copy-out-counters
+    queue-size-requires
+    cast-complete
+    complete-requires
+    counted-requires
+    same-length
+    returns)

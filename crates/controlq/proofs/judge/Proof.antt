@@ -1,0 +1,24 @@
+-- The tests stand in the definition's order.
+use mathlib.Core.Path.{_∙_, sym}
+use Prim.Native.Nat.{_-_}
+use borrow.Author.Needs.{needs}
+use borrow.Author.Tests.{le-leb, lt-leb, not-true, not-false}
+use Rattle.controlq.proofs.judge.Statement.{statement}
+use Rattle.controlq.proofs.judge.Tie as tie
+
+all-inside-requires : tie.Need-all-inside-requires
+all-inside-requires c κs = search needs
+
+returns : tie.Need-returns
+returns c = rw (sym (c .before .all-inside .ensures) ∙ not-true _ (c .if1 .taken))
+
+returns-2 : tie.Need-returns-2
+returns-2 c =
+    rw (sym (c .before .before .before .all-inside .ensures) ∙ not-false _ (c .before .before .if1 .left), ← (c .before .before .before .before .pre .sum), lt-leb _ _ (c .if2 .taken))
+
+returns-3 : tie.Need-returns-3
+returns-3 c =
+    rw (sym (c .before .before .before .all-inside .ensures) ∙ not-false _ (c .before .before .if1 .left), ← (c .before .before .before .before .pre .sum), le-leb _ _ (c .if2 .left))
+
+pub judge-spec : {M : Type 1} → statement M
+judge-spec = tie.close (tie.spec all-inside-requires returns returns-2 returns-3)

@@ -1,0 +1,129 @@
+-- Each step of the reading is the rule's; what the request comes to is replied, or a stream is released.
+use mathlib.Core.Path.{_≡_, _∙_, sym, ap}
+use Prim.Native.Nat.{_-_}
+use borrow.Author.Needs.{needs}
+use Rattle.ranges.specs.Ranges.{rangesOf}
+use Rattle.rules.specs.Calls.{Order, Result, ordered, ended, replied}
+use Rattle.rules.specs.Counters.{countersOf}
+use Rattle.rules.specs.Device.{Queue, output}
+use Rattle.message.specs.Card.{restOf, deviceOf}
+use Rattle.controlq.proofs.Laws.{chain-mute, chain-bad, chain-acted, served-play}
+use Rattle.controlq.proofs.serve_chain.Statement.{statement}
+use Rattle.controlq.proofs.serve_chain.Tie as tie
+
+judge-requires : tie.Need-judge-requires
+judge-requires c κs = search needs
+
+enum-told : tie.Need-enum-told
+enum-told c = search needs
+
+enum-told-2 : tie.Need-enum-told-2
+enum-told-2 c = search needs
+
+slice-aggregate-complete : tie.Need-slice-aggregate-complete
+slice-aggregate-complete c = search needs
+
+complete-requires : tie.Need-complete-requires
+complete-requires c κs = search needs
+
+same-length : tie.Need-same-length
+same-length c = search needs
+
+returns : tie.Need-returns
+returns c =
+    let a = c .before .before .before .before .before .before .before .before .before .args in
+    rw (chain-mute (a .card) (a .head) (rangesOf (a .request)) (rangesOf (a .reply)) (a .m .now) (sym (c .before .before .before .before .before .before .before .judge .ensures) ∙ c .before .before .before .before .before .enum-told2 .given .1)) (c .before .before .complete .ensures)
+
+judge-requires-2 : tie.Need-judge-requires-2
+judge-requires-2 c κs = search needs
+
+enum-told-3 : tie.Need-enum-told-3
+enum-told-3 c = search needs
+
+enum-told-4 : tie.Need-enum-told-4
+enum-told-4 c = search needs
+
+reply-status-requires : tie.Need-reply-status-requires
+reply-status-requires c κs = search needs
+
+same-length-2 : tie.Need-same-length-2
+same-length-2 c = search needs
+
+returns-2 : tie.Need-returns-2
+returns-2 c =
+    let a = c .before .before .before .before .before .before .before .before .before .before .before .args in
+    rw (chain-bad (a .card) (a .head) (rangesOf (a .request)) (rangesOf (a .reply)) (a .m .now) (sym (c .before .before .before .before .before .before .before .before .before .judge .ensures) ∙ c .before .before .before .before .before .before .before .enum-told .given .1) (sym (c .before .before .before .before .before .before .judge2 .ensures) ∙ c .before .before .before .before .enum-told4 .given .1)) (c .before .before .reply-status .ensures)
+
+slice-aggregate-serve : tie.Need-slice-aggregate-serve
+slice-aggregate-serve c = search needs
+
+serve-requires : tie.Need-serve-requires
+serve-requires c κs = search needs
+
+enum-known-kind : tie.Need-enum-known-kind
+enum-known-kind c = search needs
+
+enum-told-5 : tie.Need-enum-told-5
+enum-told-5 c = search needs
+
+slice-aggregate-complete-2 : tie.Need-slice-aggregate-complete-2
+slice-aggregate-complete-2 c = search needs
+
+complete-requires-2 : tie.Need-complete-requires-2
+complete-requires-2 c κs = search needs
+
+same-length-3 : tie.Need-same-length-3
+same-length-3 c = search needs
+
+returns-3 : tie.Need-returns-3
+returns-3 c =
+    let s = c .before .before .before .before .before .before .before .before .before .before .before .before .before .before .before .before .before .before .before in
+    let a = s .args in
+    let o = c .before .before .before .before .before .before .before .before .before .serve in
+    let e = rw (c .before .before .before .before .before .enum-told5 .given .1, s .pre .3 .sum) at (o .ensures .says) in
+    rw (chain-acted (a .card) (a .head) (rangesOf (a .request)) (rangesOf (a .reply)) (a .m .now) (sym (c .before .before .before .before .before .before .before .before .before .before .before .before .before .before .before .before .before .judge .ensures) ∙ c .before .before .before .before .before .before .before .before .before .before .before .before .before .before .before .enum-told .given .1) (sym (c .before .before .before .before .before .before .before .before .before .before .before .before .before .before .judge2 .ensures) ∙ c .before .before .before .before .before .before .before .before .before .before .before .before .enum-told3 .given .1) _ e, ← (served-play (a .card) (o .result .card) (o .ensures .rest)))
+    (c .before .before .complete2 .ensures)
+
+release-requires : tie.Need-release-requires
+release-requires c κs = search needs
+
+same-length-4 : tie.Need-same-length-4
+same-length-4 c = search needs
+
+returns-4 : tie.Need-returns-4
+returns-4 c =
+    let s = c .before .before .before .before .before .before .before .before .before .before .before .before .before .before .before .before .before .before .before in
+    let a = s .args in
+    let o = c .before .before .before .before .before .before .before .before .before .serve in
+    let e = rw (c .before .before .before .before .before .kind .given .1, s .pre .3 .sum) at (o .ensures .says) in
+    rw (chain-acted (a .card) (a .head) (rangesOf (a .request)) (rangesOf (a .reply)) (a .m .now) (sym (c .before .before .before .before .before .before .before .before .before .before .before .before .before .before .before .before .before .judge .ensures) ∙ c .before .before .before .before .before .before .before .before .before .before .before .before .before .before .before .enum-told .given .1) (sym (c .before .before .before .before .before .before .before .before .before .before .before .before .before .before .judge2 .ensures) ∙ c .before .before .before .before .before .before .before .before .before .before .before .before .enum-told3 .given .1) _ e)
+    (c .before .before .release .ensures)
+
+pub serve-chain-spec : {M : Type 1} → statement M
+serve-chain-spec =
+    tie.close
+    (tie.spec
+    judge-requires
+    enum-told
+    enum-told-2
+    slice-aggregate-complete
+    complete-requires
+    same-length
+    returns
+    judge-requires-2
+    enum-told-3
+    enum-told-4
+    reply-status-requires
+    same-length-2
+    returns-2
+    slice-aggregate-serve
+    serve-requires
+    enum-known-kind
+    enum-told-5
+    slice-aggregate-complete-2
+    complete-requires-2
+    same-length-3
+    returns-3
+    release-requires
+    same-length-4
+    returns-4)

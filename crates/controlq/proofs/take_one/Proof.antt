@@ -1,0 +1,22 @@
+-- The counter is put into the card.
+use Prim.Native.Nat.{_-_}
+use borrow.Author.Needs.{needs}
+use Rattle.controlq.proofs.take_one.Statement.{statement}
+use Rattle.controlq.proofs.take_one.Tie as tie
+
+element-copy-out-counters : tie.Need-element-copy-out-counters
+element-copy-out-counters c = search needs
+
+wrapping-add-u16-requires : tie.Need-wrapping-add-u16-requires
+wrapping-add-u16-requires c κs = search needs
+
+element-set-from-after : tie.Need-element-set-from-after
+element-set-from-after c = search needs
+
+returns : tie.Need-returns
+returns c = rw (c .wrapping-add-u16 .ensures)
+
+pub take-one-spec : {M : Type 1} → statement M
+take-one-spec =
+    tie.close
+    (tie.spec element-copy-out-counters wrapping-add-u16-requires element-set-from-after returns)

@@ -1,0 +1,100 @@
+-- The control call in terms of the card's struct.
+use mathlib.Core.Bool.{Bool, cond, _&&_}
+use mathlib.Core.List.{List, []}
+use Prim.Native.Nat.{ℕ}
+use lib.Dec.{leb}
+use lib.ListN.{getD, set}
+use Rattle.chain.specs.Walk.{whole, walkOf}
+use Rattle.counts.specs.declared.DescriptorNumber.{DescriptorNumber}
+use Rattle.ranges.specs.Ranges.{total, allInside}
+use Rattle.ranges.specs.declared.Range.{Range}
+use Rattle.registers.specs.Answers.{done, queueBroken}
+use Rattle.registers.specs.Map.{sizeOf}
+use Rattle.registers.specs.Rules.{broken}
+use Rattle.registers.specs.declared.Registers.{Registers}
+use Rattle.ring.specs.Rules.{baseOf}
+use Rattle.ring.specs.Rules as ring
+use Rattle.ring.specs.declared.Posted.{Posted}
+use Rattle.card.specs.Card.{releasedState}
+use Rattle.card.specs.declared.Card.{Card}
+use Rattle.card.specs.declared.Counters.{Counters}
+use Rattle.message.specs.Card.{countersAt, restOf, deviceOf, leaves}
+use Rattle.rules.specs.Calls.{Result, Step, Pending, Order, ended, indirect, readMessage, controlHead}
+use Rattle.rules.specs.Control.{withState, withStream}
+use Rattle.rules.specs.Counters.{countersOf}
+use Rattle.rules.specs.Device.{Device, Queue, output, pageOf, streamAt, signalledIf, oneTaken}
+use Rattle.rules.specs.Numbers.{controlQueue}
+use Rattle.stream.specs.Queue.{withRegisters}
+use Rattle.controlq.specs.declared.ControlAnswer.{ControlAnswer}
+use Rattle.controlq.specs.declared.Side.{Side}
+use Rattle.controlq.specs.declared.Side.the-variants.{Usable, Unusable}
+
+-- ---- the steps of reading a message
+
+-- a message of the card that is taken; what is left to do is its reply
+abbrev pub pendingOf : Card → DescriptorNumber → List Range → Pending
+pendingOf c head reply = record { rest = restOf c; head = head .0; reply = reply }
+
+-- inside RAM, and at least four bytes
+abbrev pub sideOf : ℕ → List Range → Side
+sideOf len rs = cond (allInside len rs && leb 4 (total rs)) Usable Unusable
+
+-- the rules' order for a message of these sides
+abbrev pub servedChain : Card → DescriptorNumber → List Range → List Range → List ℕ → Order
+servedChain c head request reply m = readMessage (restOf c) m (head .0) (whole request reply)
+
+-- the rules' order for the message at a head, taken
+abbrev pub walkedAt : Card → DescriptorNumber → List ℕ → Order
+walkedAt c head m =
+    readMessage (restOf c) m (head .0)
+    (walkOf m (baseOf (pageOf (restOf c) controlQueue)) (sizeOf controlQueue) (head .0) (indirect (restOf c)))
+
+-- the rules' order for the next message
+abbrev pub headOf : Card → List ℕ → Order
+headOf c m =
+    controlHead (restOf c) m (ring.headOf m (pageOf (restOf c) controlQueue) (sizeOf controlQueue) (countersAt c controlQueue .taken))
+
+-- ---- what is left
+
+-- a result that leaves the play queue of a card as it is
+abbrev pub endsOn : Card → Result → Step (Device Queue)
+endsOn c o = ended (countersOf output) o (deviceOf c .play)
+
+-- what an answer tells, over memory
+abbrev pub says : ControlAnswer → List ℕ → Step (Device Queue)
+says r m = leaves (r .card) (r .answer) (r .count) [] [] m
+
+-- a card with these registers and these counters of the control queue
+abbrev pub holding : Registers → Counters → Card → Card
+holding g q c =
+    record {
+      «ram_len» = c .«ram_len»;
+      registers = g;
+      parts = c .parts;
+      queues = set (c .queues) controlQueue q;
+      play = c .play;
+      capture = c .capture;
+    }
+
+abbrev pub takenCard : Card → Card
+takenCard c = holding (c .registers) (oneTaken (countersAt c controlQueue)) c
+
+abbrev pub countedOf : Card → Posted → ControlAnswer
+countedOf c p =
+    record {
+      answer = done;
+      count = 1;
+      card =
+          holding (signalledIf (p .interrupt) (c .registers))
+          (record { taken = countersAt c controlQueue .taken; completed = p .completed }) c;
+    }
+
+abbrev pub idleOf : Card → ControlAnswer
+idleOf c = record { answer = done; count = 0; card = c }
+
+abbrev pub brokenOf : Card → ControlAnswer
+brokenOf c = record { answer = queueBroken; count = 0; card = withRegisters (broken (c .registers)) c }
+
+-- "the stream Released"
+abbrev pub markedOf : ℕ → Device Queue → Device Queue
+markedOf id b = record { rest = withStream (b .rest) id (withState releasedState (streamAt (b .rest) id)); play = b .play }

@@ -1,0 +1,2 @@
+-- The control call in the rules' terms.
+pub mod Control

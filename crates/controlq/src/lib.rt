@@ -1,0 +1,336 @@
+// The control call of the card (01, "Control messages"): one message is taken from the control queue,
+// read step by step, acted on and answered. A step that fails completes the chain.
+ghost use mathlib.Core.Path.{_≡_};
+ghost use mathlib.Core.List.{[]};
+ghost use Prim.Native.Nat.{_≤_};
+ghost use lib.ListN.{length, take};
+ghost use Rattle.card.specs.Fit.{Fit};
+ghost use Rattle.message.specs.Card.{restOf, deviceOf, stepOf, leaves};
+ghost use Rattle.ranges.specs.Ranges.{Sound, rangesOf};
+ghost use Rattle.registers.specs.Map.{sizeOf};
+ghost use Rattle.rules.specs.Calls.{Request, ReleaseFirst, ordered, replied, releasedOf};
+ghost use Rattle.rules.specs.Control.{status};
+ghost use Rattle.rules.specs.Counters.{countersOf};
+ghost use Rattle.rules.specs.Device.{output, signalledIf};
+ghost use Rattle.rules.specs.Numbers.{controlQueue};
+ghost use Rattle.stream.specs.Queue.{withRegisters};
+ghost use Rattle.controlq.specs.Control.{pendingOf, endsOn, says, sideOf, takenCard, countedOf, brokenOf, idleOf, markedOf, servedChain, walkedAt, headOf};
+use card::Card;
+use card::Counters;
+use chain::End;
+use control::Kind;
+use counts::DescriptorNumber;
+use message::Direction;
+use ranges::Ranges;
+use ring::Posted;
+use stream::Emptied;
+
+// The number of the control queue.
+const CONTROL_QUEUE: usize = 0;
+
+// What the call answers: the count is the messages completed.
+#[repr(C)]
+pub struct ControlAnswer {
+    pub answer: u8,
+    pub count: usize,
+    pub card: Card,
+}
+
+// Whether a side of a message can be used: it lies inside RAM and has the four bytes of a header.
+enum Side {
+    Usable,
+    Unusable,
+}
+
+// How many descriptors the control queue has.
+fn queue_size() -> u16
+    ensures { λ r. ⌜ r ≡ sizeOf controlQueue ⌝ }
+{
+    registers::queue_size(0)
+}
+
+fn judge(len: usize, ranges: Ranges) -> Side
+    requires { ⌜ Sound ranges ⌝ }
+    ensures { λ r. ⌜ r ≡ sideOf len (rangesOf ranges) ⌝ }
+{
+    if !ranges::all_inside(len, ranges) {
+        return Side::Unusable;
+    }
+    if ranges.bytes < 4 {
+        return Side::Unusable;
+    }
+    Side::Usable
+}
+
+// Nothing to take.
+fn idle(card: Card) -> ControlAnswer
+    ensures { λ r. ⌜ r ≡ idleOf card ⌝ }
+{
+    ControlAnswer {
+        answer: registers::DONE,
+        count: 0,
+        card: card,
+    }
+}
+
+// A queue is broken.
+fn broken_down(card: Card) -> ControlAnswer
+    ensures { λ r. ⌜ r ≡ brokenOf card ⌝ }
+{
+    let registers = card.registers;
+    let mut next = card;
+    next.registers = registers.break_down();
+    ControlAnswer {
+        answer: registers::QUEUE_BROKEN,
+        count: 0,
+        card: next,
+    }
+}
+
+// One message more is taken.
+fn take_one(card: Card) -> Card
+    requires { ⌜ Fit card ⌝ }
+    ensures { λ r. ⌜ r ≡ takenCard card ⌝ }
+{
+    let counters = card.queues[CONTROL_QUEUE];
+    let after = Counters {
+        taken: std::num::wrapping_add_u16(counters.taken, 1),
+        completed: counters.completed,
+    };
+    let mut next = card;
+    next.queues[CONTROL_QUEUE] = after;
+    next
+}
+
+// One message more is completed; the guest may want an interrupt.
+fn counted(card: Card, posted: Posted) -> ControlAnswer
+    requires { ⌜ Fit card ⌝ }
+    ensures { λ r. ⌜ r ≡ countedOf card posted ⌝ }
+{
+    let registers = card.registers;
+    let counters = card.queues[CONTROL_QUEUE];
+    let after = Counters {
+        taken: counters.taken,
+        completed: posted.completed,
+    };
+    let mut next = card;
+    next.registers = stream::signal_if(posted.interrupt, registers);
+    next.queues[CONTROL_QUEUE] = after;
+    ControlAnswer {
+        answer: registers::DONE,
+        count: 1,
+        card: next,
+    }
+}
+
+// The first `n` of `bytes` are the reply; then the used entry.
+fn complete(
+    m: &mut [u8],
+    card: Card,
+    head: DescriptorNumber,
+    reply: Ranges,
+    bytes: &[u8],
+    n: usize,
+) -> ControlAnswer
+    requires { ⌜ Fit card × (n ≤ 132) × (n ≤ length (now bytes)) ⌝ }
+    ensures { λ r. ⌜ (endsOn card (replied (pendingOf card head (rangesOf reply)) (take n (now (bytes .entry))) (now (m .entry)))
+        ≡ says r (now (m .exit))) × Fit (r .card) ⌝ }
+{
+    let registers = card.registers;
+    let page = registers.pages[CONTROL_QUEUE];
+    let counters = card.queues[CONTROL_QUEUE];
+    let size = queue_size();
+    let done = counters.completed;
+    let posted = ring::complete(m, page, size, done, head, n as u32, reply, 0, bytes, n);
+    counted(card, posted)
+}
+
+// A reply of four bytes.
+fn reply_status(
+    m: &mut [u8],
+    card: Card,
+    head: DescriptorNumber,
+    reply: Ranges,
+    code: u32,
+) -> ControlAnswer
+    requires { ⌜ Fit card ⌝ }
+    ensures { λ r. ⌜ (endsOn card (replied (pendingOf card head (rangesOf reply)) (status code) (now (m .entry)))
+        ≡ says r (now (m .exit))) × Fit (r .card) ⌝ }
+{
+    let mut bytes = [0u8; 4];
+    memory::set32(&mut bytes, 0, code);
+    complete(m, card, head, reply, &bytes, 4)
+}
+
+// The card with ISR bit 0, where a stream's queue asked for it.
+fn signal_card(card: Card, wanted: bool) -> Card
+    ensures { λ r. ⌜ r ≡ withRegisters (signalledIf wanted (card .registers)) card ⌝ }
+{
+    let registers = card.registers;
+    let mut next = card;
+    next.registers = stream::signal_if(wanted, registers);
+    next
+}
+
+// The stream is Released; a number that is no stream's changes nothing.
+fn mark_released(card: Card, id: u32) -> Card
+    requires { ⌜ Fit card ⌝ }
+    ensures { λ r. ⌜ (deviceOf r ≡ markedOf id (deviceOf card)) × Fit r ⌝ }
+{
+    let mut parts = card.parts;
+    let at = id as usize;
+    if parts.stream_count <= at {
+        return card;
+    }
+    let mut changed = parts.streams[at];
+    changed.state = card::RELEASED;
+    parts.streams[at] = changed;
+    let mut next = card;
+    next.parts = parts;
+    next
+}
+
+// A stream's queue was emptied: the stream is Released and the message answered. If the queue broke,
+// the message stays taken and the stream keeps its state.
+fn end_release(
+    m: &mut [u8],
+    emptied: Emptied,
+    head: DescriptorNumber,
+    reply: Ranges,
+    id: u32,
+) -> ControlAnswer
+    requires { ⌜ Fit (emptied .card) ⌝ }
+    ensures { λ r. ⌜ (endsOn (emptied .card)
+        (releasedOf id (pendingOf (emptied .card) head (rangesOf reply)) (now (m .entry)) (emptied .sound) (emptied .signal))
+        ≡ says r (now (m .exit))) × Fit (r .card) ⌝ }
+{
+    let card = emptied.card;
+    let signalled = signal_card(card, emptied.signal);
+    if !emptied.sound {
+        return broken_down(signalled);
+    }
+    reply_status(m, mark_released(signalled, id), head, reply, message::OK)
+}
+
+// A stream is released: its queue first, then the reply.
+fn release(
+    m: &mut [u8],
+    card: Card,
+    head: DescriptorNumber,
+    reply: Ranges,
+    id: u32,
+) -> ControlAnswer
+    requires { ⌜ Fit card × (length (now m) ≡ card .«ram_len») ⌝ }
+    ensures { λ r. ⌜ (ordered (countersOf output) (ReleaseFirst id (pendingOf card head (rangesOf reply))) (deviceOf card) (now (m .entry))
+        ≡ says r (now (m .exit))) × Fit (r .card) ⌝ }
+{
+    if id == 0 {
+        let emptied = stream::empty(card, m, Direction::Output);
+        return end_release(m, emptied, head, reply, id);
+    }
+    let emptied = stream::empty(card, m, Direction::Input);
+    end_release(m, emptied, head, reply, id)
+}
+
+// A message that was walked whole: its sides are judged, its request is served.
+fn serve_chain(
+    m: &mut [u8],
+    card: Card,
+    head: DescriptorNumber,
+    request: Ranges,
+    reply: Ranges,
+) -> ControlAnswer
+    requires { ⌜ Fit card × (length (now m) ≡ card .«ram_len») × Sound request × Sound reply ⌝ }
+    ensures { λ r. ⌜ (ordered (countersOf output) (servedChain card head (rangesOf request) (rangesOf reply) (now (m .entry))) (deviceOf card) (now (m .entry))
+        ≡ says r (now (m .exit))) × Fit (r .card) ⌝ }
+{
+    let mut out = [0u8; 132];
+    let Side::Usable = judge(m.len(), reply) else {
+        return complete(m, card, head, reply, &out, 0);
+    };
+    let Side::Usable = judge(m.len(), request) else {
+        return reply_status(m, card, head, reply, control::BAD_MSG);
+    };
+    let served = control::serve(m, card, request, reply.bytes, &mut out);
+    let next = served.card;
+    let kind = served.kind;
+    let Kind::Release(id) = kind else {
+        return complete(m, next, head, reply, &out, served.len);
+    };
+    release(m, card, head, reply, id)
+}
+
+// The message at `head`, taken: one that can't be walked is completed with length 0.
+fn answer_chain(m: &mut [u8], card: Card, head: DescriptorNumber) -> ControlAnswer
+    requires { ⌜ Fit card × (length (now m) ≡ card .«ram_len») ⌝ }
+    ensures { λ r. ⌜ (ordered (countersOf output) (walkedAt card head (now (m .entry))) (deviceOf card) (now (m .entry))
+        ≡ says r (now (m .exit))) × Fit (r .card) ⌝ }
+{
+    let registers = card.registers;
+    let page = registers.pages[CONTROL_QUEUE];
+    let indirect = registers.features / registers::HOST_FEATURES % 2 == 1;
+    let size = queue_size();
+    let walked = chain::walk(m, page.address(), size, head, indirect);
+    let end = walked.end;
+    let End::Whole = end else {
+        let nothing = [0u8; 4];
+        return complete(m, card, head, Ranges::none(), &nothing, 0);
+    };
+    let chain = walked.chain;
+    let request = chain.request;
+    let reply = chain.reply;
+    serve_chain(m, card, head, request, reply)
+}
+
+// The next message of the control queue.
+fn answer_next(m: &mut [u8], card: Card) -> ControlAnswer
+    requires { ⌜ Fit card × (length (now m) ≡ card .«ram_len») ⌝ }
+    ensures { λ r. ⌜ (ordered (countersOf output) (headOf card (now (m .entry))) (deviceOf card) (now (m .entry))
+        ≡ says r (now (m .exit))) × Fit (r .card) ⌝ }
+{
+    let registers = card.registers;
+    let page = registers.pages[CONTROL_QUEUE];
+    let counters = card.queues[CONTROL_QUEUE];
+    let size = queue_size();
+    let next = ring::next_head(m, page, size, counters.taken);
+    let ring::Head::At(head) = next else {
+        return broken_down(card);
+    };
+    answer_chain(m, take_one(card), head)
+}
+
+// The control call: one message of the control queue.
+pub fn control(card: Card, m: &mut [u8]) -> ControlAnswer
+    requires { ⌜ Fit card ⌝ }
+    ensures { λ r. ⌜ (stepOf card Request.Control (now (m .entry))
+        ≡ leaves (r .card) (r .answer) (r .count) [] [] (now (m .exit))) × Fit (r .card) ⌝ }
+{
+    if m.len() != card.ram_len {
+        return ControlAnswer {
+            answer: registers::LENGTH_DIFFERS,
+            count: 0,
+            card: card,
+        };
+    }
+    let registers = card.registers;
+    if !registers.is_live() {
+        return ControlAnswer {
+            answer: registers::NOT_LIVE,
+            count: 0,
+            card: card,
+        };
+    }
+    let page = registers.pages[CONTROL_QUEUE];
+    let counters = card.queues[CONTROL_QUEUE];
+    let size = queue_size();
+    match ring::check_queue(m, page, size, counters.taken, 0) {
+        ring::Check::Idle => idle(card),
+        ring::Check::Broken(_) => broken_down(card),
+        ring::Check::New(new) => {
+            if new == 0 {
+                return idle(card);
+            }
+            answer_next(m, card)
+        }
+    }
+}

@@ -1,0 +1,5 @@
+-- Laws of a stream's queue in the card, and of its emptying.
+pub mod Laws
+pub mod Fits
+pub mod Outcomes
+pub mod Released

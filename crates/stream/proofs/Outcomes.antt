@@ -1,0 +1,103 @@
+-- Emptying a queue by its check: nothing pending, broken, or entries given up.
+use mathlib.Core.Path.{_≡_, _∙_, refl, sym, ap}
+use mathlib.Core.List.{List, []}
+use mathlib.Core.Bool.{true, false}
+use Prim.Native.Nat.{ℕ}
+use lib.ListN.{length}
+use Rattle.counts.specs.declared.PageNumber.{PageNumber}
+use Rattle.registers.specs.Map.{sizeOf}
+use Rattle.ring.specs.Rules.{checkOf}
+use Rattle.ring.specs.declared.Check.{Check}
+use Rattle.ring.specs.declared.Cause.{Cause}
+use Rattle.card.specs.Fit.{Fit}
+use Rattle.card.specs.declared.Card.{Card}
+use Rattle.message.specs.Card.{queueOf, restOf, deviceOf}
+use Rattle.message.specs.Message.{directionOf}
+use Rattle.message.specs.declared.Direction.{Direction}
+use Rattle.message.specs.declared.Direction.the-variants.{Output, Input}
+use Rattle.rules.specs.Calls.{emptied, emptiedFound, emptiedBy, indirect}
+use Rattle.rules.specs.Counters.{countersOf}
+use Rattle.rules.specs.Device as rules
+use Rattle.rules.specs.Transfer.{begun, found, releaseRun}
+use Rattle.transfer.specs.Flow.{runOf, freshFlow, Steps}
+use Rattle.transfer.specs.declared.Flow.{Flow}
+use Rattle.stream.specs.Queue.{countersIn, messageIn, withFlow, queueFor, withQueue, Empties}
+use Rattle.stream.proofs.Fits.{message-fit, with-flow-fit}
+use Rattle.stream.proofs.Laws.{queue-in, found-check, fresh-run, flowed-device, with-own-queue, queue-for-with}
+
+-- a flow changes its queue alone
+kept : (d : Direction) (g : Flow) (c : Card)
+    → (withFlow d g c .«ram_len» ≡ c .«ram_len») × (withFlow d g c .registers ≡ c .registers) × (withFlow d g c .parts ≡ c .parts)
+kept Output g c = (refl, refl, refl)
+kept Input g c = (refl, refl, refl)
+
+module _ (c : Card) (d : Direction) (m : List ℕ) (f : Fit c) where
+  abbrev way : rules.Direction
+  way = directionOf d
+
+  abbrev page : PageNumber
+  page = rules.pageOf (restOf c) (rules.queueNumber way)
+
+  abbrev own : rules.Queue
+  own = queueFor way (deviceOf c)
+
+  abbrev pub checked : Check
+  checked = checkOf m page (sizeOf (rules.queueNumber way)) (countersIn c d .taken) (messageIn c d .count)
+
+  found-in : found (countersOf way) way page (indirect (restOf c)) own m ≡ checked
+  found-in = rw (queue-in c d) (found-check way page (indirect (restOf c)) m (countersIn c d) (messageIn c d) (message-fit c d f .one))
+
+  -- the queue's check decides
+  by-check : (k : Check) → checked ≡ k
+      → emptied (countersOf way) way page (indirect (restOf c)) own m ≡ emptiedFound (countersOf way) way page (indirect (restOf c)) own m k
+  unfolding emptied
+  by-check k h = ap (emptiedFound (countersOf way) way page (indirect (restOf c)) own m) (found-in ∙ h)
+
+  pub empties-idle : checked ≡ Check.Idle → Empties way c m m (record { sound = true; signal = false; card = c })
+  empties-idle h =
+      record {
+        run = by-check Check.Idle h;
+        device = with-own-queue way (deviceOf c);
+        ram = refl;
+        registers = refl;
+        parts = refl;
+        fit = f;
+        long = refl;
+      }
+
+  pub empties-broken : (cause : Cause) → checked ≡ Check.Broken cause → Empties way c m m (record { sound = false; signal = false; card = c })
+  empties-broken cause h =
+      record {
+        run = by-check (Check.Broken cause) h;
+        device = with-own-queue way (deviceOf c);
+        ram = refl;
+        registers = refl;
+        parts = refl;
+        fit = f;
+        long = refl;
+      }
+
+  module _ (n : ℕ) (h : checked ≡ Check.New n) (long : length m ≡ c .«ram_len») (m′ : List ℕ) (g : Flow)
+      (s : Steps (releaseRun (countersOf way) way page (indirect (restOf c)) n) m (freshFlow (countersIn c d) (messageIn c d)) m′ g) where
+    queue-after : queueFor way (deviceOf (withFlow d g c)) ≡ queueOf (g .counters) (g .message)
+    queue-after = ap (queueFor way) (flowed-device c g (f .four) d) ∙ queue-for-with way (queueOf (g .counters) (g .message)) (deviceOf c)
+
+    began : begun own m [] ≡ runOf (freshFlow (countersIn c d) (messageIn c d)) m []
+    began = rw (queue-in c d) (sym (fresh-run (countersIn c d) (messageIn c d) m []))
+
+    pub empties-new : Empties way c m m′ (record { sound = g .sound; signal = g .signal; card = withFlow d g c })
+    unfolding runOf
+    empties-new =
+        record {
+          run =
+              by-check (Check.New n) h
+              ∙ ap (λ r. emptiedBy (releaseRun (countersOf way) way page (indirect (restOf c)) n r)) began
+              ∙ ap emptiedBy (sym (s .run []))
+              ∙ rw queue-after;
+          device = flowed-device c g (f .four) d ∙ ap (λ q. withQueue way q (deviceOf c)) (sym queue-after);
+          ram = kept d g c .0;
+          registers = kept d g c .1;
+          parts = kept d g c .2;
+          fit = with-flow-fit d g c f (rw long at (s .message));
+          long = s .long;
+        }

@@ -1,0 +1,113 @@
+-- The queue's check decides: nothing pending, broken, or its entries given up.
+use mathlib.Core.Path.{_≡_, _∙_, sym}
+use Prim.Native.Nat.{_-_}
+use borrow.Author.Needs.{needs}
+use Rattle.message.specs.Card.{restOf}
+use Rattle.stream.proofs.Fits.{message-fit}
+use Rattle.stream.proofs.Laws.{page-in, indirect-in}
+use Rattle.stream.proofs.Outcomes.{checked, empties-idle, empties-broken, empties-new}
+use Rattle.stream.proofs.empty.Statement.{statement}
+use Rattle.stream.proofs.empty.Tie as tie
+
+-- the code's check is the rules'
+checks : (c : tie.After-check-queue)
+    → let a = c .before .before .before .before .before .before .before .args in
+    c .check-queue .result ≡ checked (a .card) (a .direction) (a .m .now) (c .before .before .before .before .before .before .before .pre .0)
+unfolding restOf
+checks c =
+    rw (
+      c .before .before .queue-size .ensures,
+      c .before .before .before .message-of .ensures,
+      c .before .before .before .before .counters-of .ensures,
+      c .before .before .before .before .before .virtqueue .ensures,
+    ) at (c .check-queue .ensures)
+
+virtqueue-requires : tie.Need-virtqueue-requires
+virtqueue-requires c κs = search needs
+
+counters-of-requires : tie.Need-counters-of-requires
+counters-of-requires c κs = search needs
+
+message-of-requires : tie.Need-message-of-requires
+message-of-requires c κs = search needs
+
+queue-size-requires : tie.Need-queue-size-requires
+queue-size-requires c κs = search needs
+
+check-queue-requires : tie.Need-check-queue-requires
+check-queue-requires c κs = search needs
+
+enum-told : tie.Need-enum-told
+enum-told c = search needs
+
+enum-told-2 : tie.Need-enum-told-2
+enum-told-2 c = search needs
+
+enum-known-new : tie.Need-enum-known-new
+enum-known-new c = search needs
+
+release-requires : tie.Need-release-requires
+release-requires c κs =
+    let s = c .before .before .before .before .before .before .before .before .before .before .before in
+    rw (c .before .before .before .before .before .before .before .message-of .ensures, s .pre .1) (message-fit (s .args .card) (s .args .direction) (s .pre .0))
+
+with-flow-requires : tie.Need-with-flow-requires
+with-flow-requires c κs = search needs
+
+same-length : tie.Need-same-length
+same-length c = search needs
+
+returns : tie.Need-returns
+returns c =
+    let s = c .before .before .before .before .before .before .before .before .before in
+    empties-idle (s .args .card) (s .args .direction) (s .args .m .now) (s .pre .0) (sym (checks (c .before .before)) ∙ c .enum-told .given .1)
+
+same-length-2 : tie.Need-same-length-2
+same-length-2 c = search needs
+
+returns-2 : tie.Need-returns-2
+returns-2 c =
+    let s = c .before .before .before .before .before .before .before .before .before in
+    empties-broken (s .args .card) (s .args .direction) (s .args .m .now) (s .pre .0) _ (sym (checks (c .before .before)) ∙ c .enum-told2 .given .1)
+
+same-length-3 : tie.Need-same-length-3
+same-length-3 c = search needs
+
+returns-3 : tie.Need-returns-3
+returns-3 c =
+    let s = c .before .before .before .before .before .before .before .before .before .before .before .before .before .before .before in
+    let a = s .args in
+    let new = c .before .before .before .before .before .before .new in
+    let f = c .before .before .before .release in
+    let t =
+    rw (
+      c .before .before .before .before .before .before .before .before .before .before .before .message-of .ensures,
+      c .before .before .before .before .before .before .before .before .before .before .before .before .counters-of .ensures,
+      c .before .before .before .before .before .before .before .before .before .before .before .before .before .virtqueue .ensures,
+      page-in (a .card) (a .direction),
+      indirect-in (a .card) (a .direction),
+    ) at (f .ensures) in
+    rw (c .with-flow .ensures)
+    (empties-new (a .card) (a .direction) (a .m .now) (s .pre .0) (new .given .0 .0)
+    (sym (checks (c .before .before .before .before .before .before .before .before)) ∙ new .given .1) (s .pre .1) _ (f .result) t)
+
+pub empty-spec : {M : Type 1} → statement M
+empty-spec =
+    tie.close
+    (tie.spec
+    virtqueue-requires
+    counters-of-requires
+    message-of-requires
+    queue-size-requires
+    check-queue-requires
+    enum-told
+    enum-told-2
+    enum-known-new
+    release-requires
+    with-flow-requires
+    same-length
+    returns
+    same-length-2
+    returns-2
+    same-length-3
+    returns-3)

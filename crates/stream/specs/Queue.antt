@@ -1,0 +1,91 @@
+-- A stream's queue in the card's struct and in the rules' device, and what emptying it leaves.
+use mathlib.Core.Path.{_≡_}
+use mathlib.Core.List.{List}
+use Prim.Native.Nat.{ℕ}
+use lib.ListN.{length, getD, set}
+use Rattle.registers.specs.Rules.{hasBit}
+use Rattle.registers.specs.declared.Registers.{Registers}
+use Rattle.card.specs.Fit.{Fit}
+use Rattle.card.specs.declared.Card.{Card}
+use Rattle.card.specs.declared.Counters.{Counters}
+use Rattle.card.specs.declared.Message.{Message}
+use Rattle.message.specs.Card.{countersAt, restOf, deviceOf}
+use Rattle.message.specs.Message.{directionOf}
+use Rattle.message.specs.declared.Virtqueue.{Virtqueue}
+use Rattle.message.specs.declared.Direction.{Direction}
+use Rattle.message.specs.declared.Direction.the-variants.{Output, Input}
+use Rattle.rules.specs.Calls.{emptied, indirect}
+use Rattle.rules.specs.Counters.{countersOf}
+use Rattle.rules.specs.Device as rules
+use Rattle.transfer.specs.declared.Flow.{Flow}
+use Rattle.stream.specs.declared.Emptied.{Emptied}
+
+-- ---- in the card's struct
+
+-- a card with other registers
+abbrev pub withRegisters : Registers → Card → Card
+withRegisters v c =
+    record { «ram_len» = c .«ram_len»; registers = v; parts = c .parts; queues = c .queues; play = c .play; capture = c .capture }
+
+-- the queue of a stream as the guest laid it out
+abbrev pub queueIn : Card → Direction → Virtqueue
+queueIn c d =
+    record {
+      direction = d;
+      page = getD (c .registers .pages) (rules.queueNumber (directionOf d)) (record { 0 = 0 });
+      indirect = hasBit (c .registers .features) 28;
+    }
+
+-- its counters and message in work
+abbrev pub countersIn : Card → Direction → Counters
+countersIn c d = countersAt c (rules.queueNumber (directionOf d))
+
+abbrev pub messageIn : Card → Direction → Message
+messageIn c Output = c .play
+messageIn c Input = c .capture
+
+-- a card after a flow on the queue of a direction
+abbrev pub withFlow : Direction → Flow → Card → Card
+withFlow Output f c =
+    record {
+      «ram_len» = c .«ram_len»;
+      registers = c .registers;
+      parts = c .parts;
+      queues = set (c .queues) 2 (f .counters);
+      play = f .message;
+      capture = c .capture;
+    }
+withFlow Input f c =
+    record {
+      «ram_len» = c .«ram_len»;
+      registers = c .registers;
+      parts = c .parts;
+      queues = set (c .queues) 3 (f .counters);
+      play = c .play;
+      capture = f .message;
+    }
+
+-- ---- in the rules' device
+
+abbrev pub queueFor : rules.Direction → rules.Device rules.Queue → rules.Queue
+queueFor rules.output b = b .play
+queueFor rules.input b = b .rest .capture
+
+-- the device with another queue of a direction
+abbrev pub withQueue : rules.Direction → rules.Queue → rules.Device rules.Queue → rules.Device rules.Queue
+withQueue rules.output q b = record { rest = b .rest; play = q }
+withQueue rules.input q b = record { rest = rules.withCapture q (b .rest); play = b .play }
+
+-- ---- a queue emptied: the card and memory before, memory and the card after
+
+pub record Empties (d : rules.Direction) (c : Card) (m m′ : List ℕ) (r : Emptied) : Type 0 where
+  -- queue, memory, sound and signal are the rules'
+  pub run : emptied (countersOf d) d (rules.pageOf (restOf c) (rules.queueNumber d)) (indirect (restOf c)) (queueFor d (deviceOf c)) m
+      ≡ record { queue = queueFor d (deviceOf (r .card)); mem = m′; sound = r .sound; signal = r .signal }
+  -- the card is as it was but for that queue
+  pub device : deviceOf (r .card) ≡ withQueue d (queueFor d (deviceOf (r .card))) (deviceOf c)
+  pub ram : r .card .«ram_len» ≡ c .«ram_len»
+  pub registers : r .card .registers ≡ c .registers
+  pub parts : r .card .parts ≡ c .parts
+  pub fit : Fit (r .card)
+  pub long : length m′ ≡ length m

@@ -1,0 +1,137 @@
+// A stream's queue in the card: where the guest laid it out, its counters and message in work, the
+// card with another one, and its emptying by a RELEASE (01, "Control messages").
+ghost use mathlib.Core.Path.{_≡_};
+ghost use lib.ListN.{length};
+ghost use Rattle.card.specs.Fit.{Fit};
+ghost use Rattle.message.specs.Message.{directionOf};
+ghost use Rattle.rules.specs.Calls.{brokenUnless};
+ghost use Rattle.rules.specs.Device.{signalledIf};
+ghost use Rattle.stream.specs.Queue.{queueIn, countersIn, messageIn, withFlow, Empties};
+use card::Card;
+use card::Counters;
+use card::Message;
+use message::Direction;
+use message::Virtqueue;
+use registers::Registers;
+use transfer::Flow;
+
+// What a RELEASE made of a stream's queue: no bad head met, an interrupt wanted, the card.
+pub struct Emptied {
+    pub sound: bool,
+    pub signal: bool,
+    pub card: Card,
+}
+
+// ISR bit 0, where an interrupt is wanted.
+pub fn signal_if(wanted: bool, registers: Registers) -> Registers
+    ensures { λ r. ⌜ r ≡ signalledIf wanted registers ⌝ }
+{
+    if wanted {
+        return registers.signal();
+    }
+    registers
+}
+
+// A breakdown, where a bad head was met.
+pub fn break_unless(sound: bool, registers: Registers) -> Registers
+    ensures { λ r. ⌜ r ≡ brokenUnless sound registers ⌝ }
+{
+    if sound {
+        return registers;
+    }
+    registers.break_down()
+}
+
+// The queue of a stream as the guest laid it out.
+pub fn virtqueue(card: Card, direction: Direction) -> Virtqueue
+    requires { ⌜ Fit card ⌝ }
+    ensures { λ r. ⌜ r ≡ queueIn card direction ⌝ }
+{
+    let registers = card.registers;
+    let pages = registers.pages;
+    let indirect = registers.features / 268435456 % 2 == 1;
+    let page = match direction {
+        Direction::Output => pages[2],
+        Direction::Input => pages[3],
+    };
+    Virtqueue {
+        direction: direction,
+        page: page,
+        indirect: indirect,
+    }
+}
+
+// The counters of a stream's queue.
+fn counters_of(card: Card, direction: Direction) -> Counters
+    requires { ⌜ Fit card ⌝ }
+    ensures { λ r. ⌜ r ≡ countersIn card direction ⌝ }
+{
+    let queues = card.queues;
+    match direction {
+        Direction::Output => queues[2],
+        Direction::Input => queues[3],
+    }
+}
+
+// The message in work of a stream's queue.
+fn message_of(card: Card, direction: Direction) -> Message
+    ensures { λ r. ⌜ r ≡ messageIn card direction ⌝ }
+{
+    match direction {
+        Direction::Output => card.play,
+        Direction::Input => card.capture,
+    }
+}
+
+// The card with the counters and the message that a flow left of a stream's queue.
+pub fn with_flow(card: Card, direction: Direction, f: Flow) -> Card
+    ensures { λ r. ⌜ r ≡ withFlow direction f card ⌝ }
+{
+    let mut next = card;
+    let counters = f.counters;
+    let message = f.message;
+    match direction {
+        Direction::Output => {
+            next.queues[2] = counters;
+            next.play = message;
+            next
+        }
+        Direction::Input => {
+            next.queues[3] = counters;
+            next.capture = message;
+            next
+        }
+    }
+}
+
+// A RELEASE of a stream, past its checks: its queue is checked, its message in work completed, then
+// all entries there. The interrupt is the caller's to set.
+pub fn empty(card: Card, m: &mut [u8], direction: Direction) -> Emptied
+    requires { ⌜ Fit card × (length (now m) ≡ card .«ram_len») ⌝ }
+    ensures { λ r. ⌜ Empties (directionOf direction) card (now (m .entry)) (now (m .exit)) r ⌝ }
+{
+    let q = virtqueue(card, direction);
+    let counters = counters_of(card, direction);
+    let message = message_of(card, direction);
+    let size = message::queue_size(direction);
+    match ring::check_queue(m, q.page, size, counters.taken, message.count) {
+        ring::Check::Idle => Emptied {
+            sound: true,
+            signal: false,
+            card: card,
+        },
+        ring::Check::Broken(_) => Emptied {
+            sound: false,
+            signal: false,
+            card: card,
+        },
+        ring::Check::New(new) => {
+            let f = transfer::release(m, q, counters, message, new);
+            Emptied {
+                sound: f.sound,
+                signal: f.signal,
+                card: with_flow(card, direction, f),
+            }
+        }
+    }
+}
