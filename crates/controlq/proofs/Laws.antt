@@ -2,11 +2,11 @@
 use mathlib.Core.Path.{_≡_, _∙_, refl, sym, ap}
 use mathlib.Core.Bool.{Bool, true, false, cond, _&&_}
 use mathlib.Core.List.{List, [], _∷_}
-use Prim.Native.Nat.{ℕ, zero, suc, _+_, _≤_, _<_}
+use Prim.Native.Nat.{ℕ, zero, suc, _≤_, _<_}
 use native.Mathlib.Omega.{arith}
 use borrow.Author.Tests.{ne-eqb}
 use lib.Dec.{eqb, leb}
-use lib.ListN.{length, getD, set, take, drop, replicate, length-set, length-take}
+use lib.ListN.{length, getD, set, take, replicate, length-set, length-take}
 use lib.Seq.{getD-set-same, getD-set-other, length-take-le, set-out}
 use Rattle.counts.specs.declared.DescriptorNumber.{DescriptorNumber}
 use Rattle.counts.specs.declared.PageNumber.{PageNumber}
@@ -17,7 +17,7 @@ use Rattle.ranges.proofs.Laws.{putAt-nil}
 use Rattle.registers.specs.Answers.{lengthDiffers, notLive}
 use Rattle.registers.specs.Fit.{FitRegisters}
 use Rattle.registers.specs.Map.{sizeOf}
-use Rattle.registers.specs.Rules.{live, broken, hasBit}
+use Rattle.registers.specs.Rules.{live, hasBit}
 use Rattle.registers.specs.declared.Registers.{Registers}
 use Rattle.ring.specs.Rules as ring
 use Rattle.ring.specs.Rules.{Completion, completion, checkOf, postOf, completedOf}

@@ -1,9 +1,9 @@
 -- The control call in terms of the card's struct.
-use mathlib.Core.Bool.{Bool, cond, _&&_}
+use mathlib.Core.Bool.{cond, _&&_}
 use mathlib.Core.List.{List, []}
 use Prim.Native.Nat.{ℕ}
 use lib.Dec.{leb}
-use lib.ListN.{getD, set}
+use lib.ListN.{set}
 use Rattle.chain.specs.Walk.{whole, walkOf}
 use Rattle.counts.specs.declared.DescriptorNumber.{DescriptorNumber}
 use Rattle.ranges.specs.Ranges.{total, allInside}

@@ -1,6 +1,5 @@
 -- The walk's outcome is the rule's; a chain that can't be walked has no reply.
 use mathlib.Core.Path.{_≡_}
-use Prim.Native.Nat.{_-_}
 use borrow.Author.Needs.{needs}
 use Rattle.chain.specs.Walk.{walkOf, outcomeOf}
 use Rattle.registers.specs.Map.{sizeOf}

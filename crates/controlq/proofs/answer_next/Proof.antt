@@ -1,6 +1,5 @@
 -- A bad head breaks the queue; the message at a good one is answered by the card that has taken it.
 use mathlib.Core.Path.{_≡_, _∙_, sym}
-use Prim.Native.Nat.{_-_}
 use borrow.Author.Needs.{needs}
 use Rattle.stream.proofs.Fits.{broken-card-fit}
 use Rattle.controlq.proofs.Laws.{nextHead, next-broken, next-at, held-fit}

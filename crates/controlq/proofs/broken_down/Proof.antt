@@ -1,5 +1,4 @@
 -- The registers break down; all else stays.
-use Prim.Native.Nat.{_-_}
 use borrow.Author.Needs.{needs}
 use Rattle.controlq.proofs.broken_down.Statement.{statement}
 use Rattle.controlq.proofs.broken_down.Tie as tie

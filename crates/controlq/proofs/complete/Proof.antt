@@ -1,5 +1,4 @@
 -- What the ring's completion leaves is counted.
-use Prim.Native.Nat.{_-_}
 use borrow.Author.Needs.{needs}
 use Rattle.ranges.specs.Ranges.{rangesOf}
 use Rattle.controlq.proofs.Laws.{counted-says, counted-fit}

@@ -1,5 +1,4 @@
 -- The counter and the signal are put into the card.
-use Prim.Native.Nat.{_-_}
 use borrow.Author.Needs.{needs}
 use Rattle.controlq.proofs.counted.Statement.{statement}
 use Rattle.controlq.proofs.counted.Tie as tie

@@ -1,12 +1,11 @@
 -- A broken queue is answer 9; else the stream is Released and the message answered.
-use mathlib.Core.Path.{_≡_, _∙_}
-use Prim.Native.Nat.{_-_}
+use mathlib.Core.Path.{_∙_}
 use borrow.Author.Needs.{needs}
 use borrow.Author.Tests.{not-true, not-false}
 use Rattle.card.specs.Fit.{Fit}
 use Rattle.ranges.specs.Ranges.{rangesOf}
 use Rattle.stream.proofs.Fits.{signal-fit, with-registers-fit, broken-card-fit}
-use Rattle.controlq.proofs.Laws.{signalledCard, end-broken, end-replied}
+use Rattle.controlq.proofs.Laws.{end-broken, end-replied}
 use Rattle.controlq.proofs.end_release.Statement.{statement}
 use Rattle.controlq.proofs.end_release.Tie as tie
 

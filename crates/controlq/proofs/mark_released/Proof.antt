@@ -1,5 +1,4 @@
 -- A stream that is there takes the state.
-use Prim.Native.Nat.{_-_}
 use borrow.Author.Needs.{needs}
 use Rattle.controlq.proofs.Laws.{marked-absent, marked-there, marked-fit}
 use Rattle.controlq.proofs.mark_released.Statement.{statement}

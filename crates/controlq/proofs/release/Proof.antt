@@ -1,6 +1,5 @@
 -- The stream's number picks the queue that is emptied.
 use mathlib.Core.Path.{_∙_}
-use Prim.Native.Nat.{_-_}
 use borrow.Author.Needs.{needs}
 use Rattle.ranges.specs.Ranges.{rangesOf}
 use Rattle.controlq.proofs.Laws.{release-output, release-input}

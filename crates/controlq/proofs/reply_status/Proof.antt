@@ -1,5 +1,4 @@
 -- The status is the whole reply.
-use Prim.Native.Nat.{_-_}
 use borrow.Author.Needs.{needs}
 use Rattle.controlq.proofs.Laws.{status-put}
 use Rattle.controlq.proofs.reply_status.Statement.{statement}

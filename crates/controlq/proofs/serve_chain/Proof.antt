@@ -1,12 +1,7 @@
 -- Each step of the reading is the rule's; what the request comes to is replied, or a stream is released.
-use mathlib.Core.Path.{_≡_, _∙_, sym, ap}
-use Prim.Native.Nat.{_-_}
+use mathlib.Core.Path.{_∙_, sym}
 use borrow.Author.Needs.{needs}
 use Rattle.ranges.specs.Ranges.{rangesOf}
-use Rattle.rules.specs.Calls.{Order, Result, ordered, ended, replied}
-use Rattle.rules.specs.Counters.{countersOf}
-use Rattle.rules.specs.Device.{Queue, output}
-use Rattle.message.specs.Card.{restOf, deviceOf}
 use Rattle.controlq.proofs.Laws.{chain-mute, chain-bad, chain-acted, served-play}
 use Rattle.controlq.proofs.serve_chain.Statement.{statement}
 use Rattle.controlq.proofs.serve_chain.Tie as tie

@@ -1,5 +1,4 @@
 -- The registers are put into the card.
-use Prim.Native.Nat.{_-_}
 use borrow.Author.Needs.{needs}
 use Rattle.controlq.proofs.signal_card.Statement.{statement}
 use Rattle.controlq.proofs.signal_card.Tie as tie

@@ -1,5 +1,4 @@
 -- The counter is put into the card.
-use Prim.Native.Nat.{_-_}
 use borrow.Author.Needs.{needs}
 use Rattle.controlq.proofs.take_one.Statement.{statement}
 use Rattle.controlq.proofs.take_one.Tie as tie
