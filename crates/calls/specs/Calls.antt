@@ -1,0 +1,54 @@
+-- Any call of the monitor in the rules' terms: what is asked, what is told, and what is promised of one call.
+use mathlib.Core.Path.{_≡_}
+use mathlib.Core.Bool.{Bool, true, false, cond}
+use mathlib.Core.List.{List, []}
+use Prim.Native.Nat.{ℕ}
+use lib.ListN.{take}
+use Rattle.card.specs.Fit.{Fit}
+use Rattle.card.specs.declared.Card.{Card}
+use Rattle.message.specs.Card.{deviceOf}
+use Rattle.rules.specs.Calls as rules
+use Rattle.rules.specs.Claim.{card}
+use Rattle.calls.specs.declared.Outcome.{Outcome}
+use Rattle.calls.specs.declared.Request.{Request}
+use Rattle.calls.specs.declared.Request.the-variants.{Read, Write, Control, Play, Capture, Event}
+
+-- what is asked: a play is lent the host buffer, a capture the host bytes
+abbrev pub requestOf : Request → List ℕ → rules.Request
+requestOf (Read offset width) host = rules.ReadRegister offset width
+requestOf (Write offset width v) host = rules.WriteRegister offset width v
+requestOf Control host = rules.Control
+requestOf Play host = rules.Play host
+requestOf Capture host = rules.Capture host
+requestOf (Event code data′) host = rules.Event code data′
+
+-- .. and the memory lent
+abbrev pub callOf : Request → List ℕ → List ℕ → rules.Call
+callOf q host m = record { asked = requestOf q host; lent = m }
+
+abbrev pub isPlay : Request → Bool
+isPlay (Read offset width) = false
+isPlay (Write offset width v) = false
+isPlay Control = false
+isPlay Play = true
+isPlay Capture = false
+isPlay (Event code data′) = false
+
+-- what is told, of the host buffer and memory after the call: a play's bytes are the first `count` of its host buffer
+abbrev pub toldOf : Request → Outcome → List ℕ → List ℕ → rules.Told
+toldOf q r host m =
+    rules.toldAll (r .answer) (r .value) (r .rung) (r .count) (cond (isPlay q) (take (r .count) host) []) (cond (isPlay q) host []) m
+
+-- the host buffer after the call, of before and after: a play alone changes it
+abbrev pub hostOf : Request → List ℕ → List ℕ → List ℕ
+hostOf q before after = cond (isPlay q) after before
+
+-- the outcome of a call on a queue: no value, nothing rung
+abbrev pub queueOutcome : ℕ → ℕ → Card → Outcome
+queueOutcome answer count c = record { answer = answer; value = 0; rung = rules.nothingRung; count = count; card = c }
+
+-- what is promised of one call: all that is told (answer, value, queue rung, count, bytes, host buffer, memory) and the card after it
+-- are the rules'; and that card is fit for the next
+pub record Does (c : Card) (k : rules.Call) (t : rules.Told) (n : Card) : Type 0 where
+  pub says : rules.step card (deviceOf c) k ≡ record { state = deviceOf n; told = t }
+  pub fit : Fit n
