@@ -20,7 +20,7 @@ use Rattle.chain.specs.declared.End.the-variants.{Whole, Faulted}
 use Rattle.chain.specs.declared.Descriptor.{Descriptor}
 use Rattle.chain.specs.declared.Chain.{Chain}
 use Rattle.chain.specs.declared.Walked.{Walked}
-use Rattle.chain.specs.Walk.{descriptorAt, descriptors, noDescriptor, hasNext, isWritable, isIndirect, rangeOf, Outcome, whole, faulted, andThen, byEnd, joinedOf, enterOf, onward, inTable, direct, walkOf, outcomeOf, emptyChain, SoundChain, Joins}
+use Rattle.chain.specs.Walk.{descriptorAt, descriptors, noDescriptor, hasNext, isWritable, isIndirect, rangeOf, Outcome, whole, faulted, andThen, byEnd, joinedOf, enterOf, onward, inTable, direct, walkOf, emptyChain, SoundChain, Joins}
 
 -- ---- tables
 

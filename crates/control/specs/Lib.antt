@@ -1,2 +1,2 @@
--- What a control request comes to.
+-- How a control request is decoded and answered.
 pub mod Control

@@ -37,8 +37,9 @@ use Rattle.rules.specs.Control.{status, withState}
 use Rattle.rules.specs.Counters.{countersOf}
 use Rattle.rules.specs.Device.{Device, Queue, output, input, bytesOf, withRegisters, withControl, pageOf, signalledIf, oneTaken}
 use Rattle.rules.specs.Numbers.{controlQueue, sOk, sBadMsg}
-use Rattle.control.specs.Control.{withParts, withStreamAt}
-use Rattle.control.proofs.Laws.{rest-with-stream, fit-with-stream, stream-at}
+use Rattle.control.specs.Control.{withParts}
+use Rattle.commands.specs.Commands.{withStreamAt}
+use Rattle.commands.proofs.Laws.{rest-with-stream, fit-with-stream, stream-at}
 use Rattle.stream.specs.Queue as stream
 use Rattle.stream.specs.Queue.{Empties}
 use Rattle.stream.specs.declared.Emptied.{Emptied}

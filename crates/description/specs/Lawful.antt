@@ -1,6 +1,6 @@
 -- 01, The card at power-up: what the description must be; "Otherwise answer 10."
 use mathlib.Core.List.{List, [], _∷_}
-use mathlib.Core.Bool.{Bool, true, false, cond, _&&_, _||_, not}
+use mathlib.Core.Bool.{Bool, true, cond, _&&_, _||_, not}
 use Prim.Native.Nat.{ℕ, suc, _+_, _^_}
 use lib.Dec.{eqb, leb, ltb}
 use lib.ListN.{take}

@@ -1,8 +1,7 @@
 // What the monitor describes at power-up, and the judgement of it (01, "The card at power-up").
 ghost use mathlib.Core.Path.{_≡_};
-ghost use Prim.Native.Nat.{_+_, _≤_, _<_, _^_};
-ghost use lib.ListN.{length, take, drop};
-ghost use lib.Dec.{ltb};
+ghost use Prim.Native.Nat.{_+_, _≤_, _<_};
+ghost use lib.ListN.{take};
 ghost use Rattle.description.specs.Lawful.{every, lawful, lawfulJack, lawfulMap, lawfulStream, lawfulChannels, lawfulPositions, lawfulPosition, inBits};
 
 #[repr(C)]

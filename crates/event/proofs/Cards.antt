@@ -22,8 +22,9 @@ use Rattle.rules.specs.Counters.{countersOf}
 use Rattle.rules.specs.Device.{Rest, Device, Queue, output, withJacks, streamAt}
 use Rattle.rules.specs.Numbers.{jackConnected, jackDisconnected, eventQueue}
 use Rattle.message.specs.Card.{restOf, deviceOf, stepOf, leaves}
-use Rattle.event.specs.Event.{holding, resultIn, sentOf, cardConnected, cardHolding, withRest}
-use Rattle.event.specs.declared.Attempt.{Attempt}
+use Rattle.event_queue.specs.Attempts.{holding, resultIn, sentOf}
+use Rattle.event.specs.Event.{cardConnected, cardHolding, withRest}
+use Rattle.event_queue.specs.declared.Attempt.{Attempt}
 
 -- ---- jacks and streams
 

@@ -1,3 +1,2 @@
--- Laws of events, and of the card that sends one.
-pub mod Laws
+-- Laws of the card that sends an event.
 pub mod Cards

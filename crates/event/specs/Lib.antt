@@ -1,2 +1,2 @@
--- What the structs of an event stand for in the rules.
+-- What an event changes of a card.
 pub mod Event

@@ -1,5 +1,5 @@
 -- Laws of numbers in memory, each once over the width: the loops' equations, bounds, what lies past the end, and reading back.
-use mathlib.Core.Path.{_≡_, refl, sym, _∙_}
+use mathlib.Core.Path.{_≡_, refl}
 use mathlib.Core.List.{List}
 use mathlib.Core.Logic.{_⊎_, inl, inr}
 use mathlib.Core.Bool.{Bool, true, false}

@@ -1,6 +1,5 @@
 -- Numbers in guest memory, the lowest byte first, once over the width, and the test that a range lies inside it.
 -- A byte past the end reads as 0 (`getD`), and a write there changes nothing (`set`).
-use mathlib.Core.Path.{_≡_, refl}
 use mathlib.Core.List.{List}
 use mathlib.Core.Bool.{Bool, true, cond}
 use Prim.Native.Nat.{ℕ, zero, suc, _+_, _*_, _/_, _%_}

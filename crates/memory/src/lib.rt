@@ -2,7 +2,7 @@
 // past its end reads as 0, and a write there changes nothing.
 ghost use mathlib.Core.Path.{_≡_};
 ghost use Prim.Native.Nat.{_+_, _≤_, _<_, _^_, min};
-ghost use lib.ListN.{length, getD};
+ghost use lib.ListN.{getD};
 ghost use Rattle.memory.specs.Bytes.{le, put, insideOf};
 use counts::GuestAddress;
 

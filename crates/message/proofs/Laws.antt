@@ -1,12 +1,11 @@
 -- What a form says of the ranges, and the bytes of ids and statuses.
 use mathlib.Core.Path.{_≡_, refl, ap}
-use mathlib.Core.List.{List, [], _∷_, _++_}
+use mathlib.Core.List.{List, [], _∷_}
 use mathlib.Core.Bool.{Bool, true, false, cond, _&&_, and-eq-true-iff, false≢true}
-use Prim.Native.Nat.{ℕ, zero, suc, _+_, _-_, _≤_, _<_}
+use Prim.Native.Nat.{ℕ, _-_, _≤_}
 use native.Mathlib.Omega.{arith}
-use native.Mathlib.Numerals.{add-one}
 use lib.Dec.{eqb, leb}
-use lib.ListN.{length, getD, set, take, drop, replicate}
+use lib.ListN.{length, drop, replicate}
 use lib.Seq.{sets}
 use Rattle.chain.specs.Walk.{Outcome, walkOf}
 use Rattle.counts.specs.declared.PageNumber.{PageNumber}
@@ -18,7 +17,7 @@ use Rattle.message.specs.declared.Form.the-variants.{Silent}
 use Rattle.counts.specs.declared.DescriptorNumber.{DescriptorNumber}
 use mathlib.Core.Option.{some}
 use Rattle.memory.specs.Bytes.{le, put}
-use Rattle.ranges.specs.Ranges.{allInside, total, places, bytesAt, noRanges}
+use Rattle.ranges.specs.Ranges.{allInside, total, places, noRanges}
 use Rattle.ranges.specs.declared.Range.{Range}
 use Rattle.rules.specs.Device as rules
 use Rattle.rules.specs.Transfer.{formOf, idOf, sized, isWell, statusBytes, walkedTaking, takingOf}

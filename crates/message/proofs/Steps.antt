@@ -1,23 +1,22 @@
 -- Power-up and the register entries of the card are the rules' start and steps.
-use mathlib.Core.Path.{_≡_, refl, sym, _∙_, ap}
+use mathlib.Core.Path.{_≡_, refl, sym, ap}
 use mathlib.Core.List.{List, [], _∷_, map}
-use mathlib.Core.Bool.{Bool, true, false, cond}
-use Prim.Native.Nat.{ℕ, zero, suc, _≤_, _<_}
+use mathlib.Core.Bool.{true, cond}
+use Prim.Native.Nat.{ℕ, zero, suc, _<_}
 use native.Mathlib.Omega.{arith}
-use lib.Dec.{eqb}
 use lib.ListN.{length, getD, set, take}
 use lib.Seq.{length-take-le, getD-set-same, getD-set-other}
 use Rattle.description.specs.Lawful.{lawful}
 use Rattle.description.specs.declared.Description.{Description}
-use Rattle.registers.specs.Rules.{readOf, writeOf}
+use Rattle.registers.specs.Rules.{writeOf}
 use Rattle.registers.specs.declared.Effect.{Effect}
 use Rattle.registers.specs.declared.Effect.the-variants.{Nothing, Reset, Based, Rung}
 use Rattle.registers.proofs.Queues.{queueNamed, queue-named}
-use Rattle.card.specs.Card.{noCounters, noMessage, withRegisters}
+use Rattle.card.specs.Card.{noCounters, withRegisters}
 use Rattle.card.specs.Fit.{Fit}
 use Rattle.card.specs.Rules.{poweredOf, readCard, writeCard, affected, resetCard, basedCard, rungOf, jackReset, streamReset}
 use Rattle.card.specs.declared.Card.{Card}
-use Rattle.rules.specs.Calls.{ReadRegister, WriteRegister, Step, toldAll, nothingRung, readStep, writeStep, affectedRest, clearsPlay, configOf}
+use Rattle.rules.specs.Calls.{ReadRegister, WriteRegister, toldAll, nothingRung, readStep, writeStep, affectedRest, clearsPlay}
 use Rattle.rules.specs.Claim.{start}
 use Rattle.rules.specs.Counters.{countersOf}
 use Rattle.rules.specs.Device as rules

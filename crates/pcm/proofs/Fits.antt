@@ -15,7 +15,7 @@ use Rattle.rules.specs.Calls.{isRunning}
 use Rattle.rules.specs.Device.{signalledIf}
 use Rattle.stream.specs.Queue.{withRegisters}
 use Rattle.stream.proofs.Fits.{signal-fit, unless-fit, with-registers-fit, with-flow-fit}
-use Rattle.transfer.specs.declared.Flow.{Flow}
+use Rattle.flow.specs.declared.Flow.{Flow}
 use Rattle.pcm.specs.Entry.{refusalOf, flowedCard, registersAfter}
 
 -- a call that is not refused has memory of the right length

@@ -1,8 +1,8 @@
 -- A play's bytes and the host buffer: what the rules leave of the buffer is its part past the bytes handed on.
-use mathlib.Core.Path.{_≡_, refl, sym, _∙_, ap}
-use mathlib.Core.List.{List, [], _∷_, _++_}
-use mathlib.Core.Bool.{Bool, true, false, cond, _&&_, not}
-use Prim.Native.Nat.{ℕ, zero, suc, _+_, _-_, _≤_, _<_}
+use mathlib.Core.Path.{_≡_, refl, sym}
+use mathlib.Core.List.{List}
+use mathlib.Core.Bool.{Bool, _&&_, not}
+use Prim.Native.Nat.{ℕ, zero, suc, _≤_}
 use native.Mathlib.Nat.{zero-add}
 use native.Mathlib.Omega.{arith}
 use lib.Dec.{ltb}
@@ -15,7 +15,7 @@ use Rattle.ring.specs.Rules.{headAt}
 use Rattle.registers.specs.Map.{sizeOf}
 use Rattle.rules.specs.Device as rules
 use Rattle.rules.specs.Loop.{loop}
-use Rattle.rules.specs.Transfer.{Ops, Run, begun, completed, moved, settled, worked, entered, taking, met, next, takingOf, transferMore, transferRun, isNil, isWell}
+use Rattle.rules.specs.Transfer.{Ops, Run, begun, completed, moved, worked, entered, taking, met, next, takingOf, transferMore, transferRun, isNil, isWell}
 
 -- what every step of a loop keeps, the loop keeps
 loop-keeps : {S : Type 0} (P : S → Type 0) (work : S → S) (more : S → Bool) (step : S → S) → ((s : S) → P s → P (work s)) → ((s : S) → P s → P (step s))

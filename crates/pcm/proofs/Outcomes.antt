@@ -1,11 +1,10 @@
 -- The play entry's outcomes, each as the rules' step.
-use mathlib.Core.Path.{_≡_, refl, sym, _∙_, ap}
+use mathlib.Core.Path.{_≡_, sym, _∙_, ap}
 use mathlib.Core.List.{List, []}
-use mathlib.Core.Bool.{Bool, true, false, cond}
+use mathlib.Core.Bool.{cond}
 use Prim.Native.Nat.{ℕ, _≤_}
 use native.Mathlib.Omega.{arith}
 use lib.ListN.{length, take, drop, length-take}
-use lib.Seq.{sets}
 use Rattle.registers.specs.Answers.{done, queueBroken}
 use Rattle.registers.specs.Rules.{broken}
 use Rattle.registers.specs.Map.{sizeOf}
@@ -16,16 +15,16 @@ use Rattle.card.specs.Fit.{Fit}
 use Rattle.card.specs.declared.Card.{Card}
 use Rattle.message.specs.Card.{queueOf, countersAt, restOf, deviceOf, stepOf, leaves}
 use Rattle.message.specs.declared.Direction.the-variants.{Output, Input}
-use Rattle.rules.specs.Calls.{Play, Capture, playStep, ended, captured, transferred, transferFound, transferredBy, untouched, indirect}
+use Rattle.rules.specs.Calls.{Play, Capture, playStep, ended, captured, transferred, transferFound, transferredBy, indirect}
 use Rattle.rules.specs.Counters.{countersOf}
 use Rattle.rules.specs.Device as rules
-use Rattle.rules.specs.Transfer.{Run, begun, found, transferRun}
-use Rattle.transfer.specs.Flow.{runOf}
-use Rattle.transfer.specs.declared.Flow.{Flow}
+use Rattle.rules.specs.Transfer.{Run, begun, transferRun}
+use Rattle.flow.specs.Flow.{runOf}
+use Rattle.flow.specs.declared.Flow.{Flow}
 use Rattle.stream.specs.Queue.{withRegisters}
 use Rattle.stream.proofs.Laws.{found-check, flowed-device}
 use Rattle.pcm.specs.Entry.{refusalOf, flowedCard, registersAfter}
-use Rattle.pcm.proofs.Host.{Past, run-past, host-after}
+use Rattle.pcm.proofs.Host.{run-past, host-after}
 use Rattle.pcm.proofs.Laws.{refused-transfer, passed-transfer}
 
 module _ (c : Card) (m host : List ℕ) where

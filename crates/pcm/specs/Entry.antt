@@ -1,5 +1,5 @@
 -- What the play and capture entries decide and leave, in terms of the card's struct.
-use mathlib.Core.Bool.{Bool, cond}
+use mathlib.Core.Bool.{cond}
 use Prim.Native.Nat.{ℕ}
 use lib.Dec.{eqb}
 use Rattle.registers.specs.Answers.{done, lengthDiffers, notLive, notRunning, queueBroken}
@@ -10,7 +10,7 @@ use Rattle.message.specs.declared.Direction.{Direction}
 use Rattle.rules.specs.Calls.{isRunning, brokenUnless}
 use Rattle.rules.specs.Device as rules
 use Rattle.stream.specs.Queue.{withRegisters, withFlow}
-use Rattle.transfer.specs.declared.Flow.{Flow}
+use Rattle.flow.specs.declared.Flow.{Flow}
 use Rattle.pcm.specs.declared.TransferAnswer.{TransferAnswer}
 
 -- "Play and capture: 1, 5, 6": the answer that refuses a call, or 0

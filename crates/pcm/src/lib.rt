@@ -1,10 +1,9 @@
 // The play and capture calls of the card (01, "Play, capture, events").
 ghost use mathlib.Core.Path.{_≡_};
-ghost use mathlib.Core.Bool.{cond, _&&_};
 ghost use mathlib.Core.List.{[]};
-ghost use lib.ListN.{length, take};
+ghost use lib.ListN.{take};
 ghost use Rattle.card.specs.Fit.{Fit};
-ghost use Rattle.message.specs.Card.{restOf, deviceOf, stepOf, leaves};
+ghost use Rattle.message.specs.Card.{restOf, stepOf, leaves};
 ghost use Rattle.rules.specs.Calls.{Request, isRunning};
 ghost use Rattle.pcm.specs.Entry.{refusalOf, flowedCard, brokenAnswer, flowAnswer};
 use card::Card;

@@ -2,12 +2,11 @@
 -- a byte string is read from or written to these addresses one byte after the other, also where ranges overlap.
 use mathlib.Core.Path.{_≡_}
 use mathlib.Core.List.{List, [], _∷_, _++_, map}
-use mathlib.Core.Bool.{Bool, true, false, cond, _&&_}
+use mathlib.Core.Bool.{Bool, true, cond, _&&_}
 use Prim.Native.Nat.{ℕ, zero, suc, _+_, _^_, _≤_}
 use lib.Dec.{ltb}
 use lib.ListN.{length, getD, set, take, replicate}
 use Rattle.memory.specs.Bytes.{insideOf}
-use Rattle.counts.specs.declared.GuestAddress.{GuestAddress}
 use Rattle.ranges.specs.declared.Range.{Range}
 use Rattle.ranges.specs.declared.Ranges.{Ranges}
 

@@ -5,15 +5,13 @@ use Prim.Native.Nat.{ℕ, _+_, _*_, _/_, _%_, _^_, _≤_, _<_}
 use native.Mathlib.Omega.{arith}
 use borrow.Author.Tests.{eq-eqb, eqb-true, eqb-false, ltb-true}
 use lib.Dec.{eqb, ltb}
-use lib.ListN.{length, set, length-set}
+use lib.ListN.{length-set}
 use Rattle.registers.specs.Fit.{FitRegisters}
-use Rattle.registers.specs.Map.{registerAt}
-use Rattle.registers.specs.Rules.{readOf, writeOf, readRegister, writeRegister, powerOn, signalled, broken, isrRead, refusedWrite, wrote, wroteFeatures, wrotePage, wroteSelector, wroteNotify, wroteStatus, fitting, storedStatus, onlyOffered, featuresOk, hasBit, withBit, withFeatures, withStatus, withPage, withIsr}
+use Rattle.register_map.specs.Map.{registerAt}
+use Rattle.registers.specs.Rules.{readOf, writeOf, readRegister, writeRegister, powerOn, signalled, broken, isrRead, wroteFeatures, wrotePage, wroteSelector, wroteNotify, wroteStatus, fitting, storedStatus, onlyOffered, featuresOk, hasBit, withBit, withStatus, withIsr}
 use Rattle.registers.specs.declared.Config.{Config}
-use Rattle.registers.specs.declared.Effect.{Effect}
-use Rattle.registers.specs.declared.Effect.the-variants.{Nothing, Reset, Based, Rung}
-use Rattle.registers.specs.declared.Register.{Register}
-use Rattle.registers.specs.declared.Register.the-variants.{HostFeatures, GuestFeatures, QueuePfn, QueueNum, QueueSel, QueueNotify, Status, Isr, DeviceConfig, Absent}
+use Rattle.register_map.specs.declared.Register.{Register}
+use Rattle.register_map.specs.declared.Register.the-variants.{HostFeatures, GuestFeatures, QueuePfn, QueueNum, QueueSel, QueueNotify, Status, Isr, DeviceConfig, Absent}
 use Rattle.registers.specs.declared.Registers.{Registers}
 use Rattle.registers.specs.declared.Written.{Written}
 

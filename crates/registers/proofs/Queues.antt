@@ -4,12 +4,12 @@ use Prim.Native.Nat.{ℕ, _^_, _<_}
 use native.Mathlib.Omega.{arith}
 use borrow.Author.Tests.{ltb-true}
 use lib.Dec.{eqb, ltb}
-use Rattle.registers.specs.Map.{registerAt}
+use Rattle.register_map.specs.Map.{registerAt}
 use Rattle.registers.specs.Rules.{writeOf, writeRegister, wroteFeatures, wrotePage, wroteSelector, wroteNotify, wroteStatus, fitting, driverOk}
 use Rattle.registers.specs.declared.Effect.{Effect}
 use Rattle.registers.specs.declared.Effect.the-variants.{Nothing, Reset, Based, Rung}
-use Rattle.registers.specs.declared.Register.{Register}
-use Rattle.registers.specs.declared.Register.the-variants.{HostFeatures, GuestFeatures, QueuePfn, QueueNum, QueueSel, QueueNotify, Status, Isr, DeviceConfig, Absent}
+use Rattle.register_map.specs.declared.Register.{Register}
+use Rattle.register_map.specs.declared.Register.the-variants.{HostFeatures, GuestFeatures, QueuePfn, QueueNum, QueueSel, QueueNotify, Status, Isr, DeviceConfig, Absent}
 use Rattle.registers.specs.declared.Registers.{Registers}
 use Rattle.registers.specs.declared.Written.{Written}
 use Rattle.registers.proofs.Keeps.{by-cond}

@@ -1,7 +1,7 @@
 -- What every register file that the card holds is: the part of `Fit` that registers have.
 use mathlib.Core.Path.{_≡_}
 use mathlib.Core.Bool.{true}
-use Prim.Native.Nat.{ℕ, _/_, _%_, _≤_, _<_}
+use Prim.Native.Nat.{_/_, _%_, _≤_, _<_}
 use lib.ListN.{length}
 use Rattle.registers.specs.Rules.{featuresOk, onlyOffered}
 use Rattle.registers.specs.declared.Registers.{Registers}

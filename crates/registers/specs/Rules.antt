@@ -1,15 +1,14 @@
 -- 01, Registers (002, 1.3 to 2.1): what a read and a write do, sentence by sentence.
-use mathlib.Core.List.{List, [], _∷_}
-use mathlib.Core.Bool.{Bool, true, false, cond, _&&_, _||_, not}
+use mathlib.Core.List.{List}
+use mathlib.Core.Bool.{Bool, cond, _&&_, _||_, not}
 use Prim.Native.Nat.{ℕ, _+_, _*_, _/_, _%_, _^_}
-use lib.Dec.{eqb, leb, ltb}
+use lib.Dec.{eqb, ltb}
 use lib.ListN.{getD, set, replicate}
 use Rattle.memory.specs.Bytes.{le, put}
-use Rattle.counts.specs.declared.PageNumber.{PageNumber}
 use Rattle.registers.specs.Answers.{done, noSuchAccess, wrongDirection, valueTooWide}
-use Rattle.registers.specs.Map.{registerAt, sizeOf}
-use Rattle.registers.specs.declared.Register.{Register}
-use Rattle.registers.specs.declared.Register.the-variants.{HostFeatures, GuestFeatures, QueuePfn, QueueNum, QueueSel, QueueNotify, Status, Isr, DeviceConfig, Absent}
+use Rattle.register_map.specs.Map.{registerAt, sizeOf}
+use Rattle.register_map.specs.declared.Register.{Register}
+use Rattle.register_map.specs.declared.Register.the-variants.{HostFeatures, GuestFeatures, QueuePfn, QueueNum, QueueSel, QueueNotify, Status, Isr, DeviceConfig, Absent}
 use Rattle.registers.specs.declared.Effect.{Effect}
 use Rattle.registers.specs.declared.Effect.the-variants.{Nothing, Reset, Based, Rung}
 use Rattle.registers.specs.declared.Registers.{Registers}

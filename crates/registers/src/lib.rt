@@ -1,13 +1,15 @@
 // The register file of the legacy transport (002, 1.3 to 2.1): a struct with methods by value that
 // hand the next state back. What a write means for the rest of the card is told as an effect.
 ghost use mathlib.Core.Path.{_≡_};
-ghost use Prim.Native.Nat.{_+_, _*_, _/_, _%_, _≤_, _<_, _^_};
-ghost use Rattle.registers.specs.Map.{registerAt, exactly, configAt, sizeOf};
+ghost use Prim.Native.Nat.{_+_, _*_, _/_, _%_, _<_};
 ghost use Rattle.registers.specs.Rules.{readOf, writeOf, powerOn, live, raised, signalled, broken};
 ghost use Rattle.registers.specs.Rules.{refusedRead, valueRead, pageRead, isrRead, configBytes, configValue};
 ghost use Rattle.registers.specs.Rules.{refusedWrite, wrote, fitting, wroteFeatures, wrotePage, wroteSelector, wroteNotify, wroteStatus};
 ghost use Rattle.registers.specs.Rules.{hasBit, withBit, onlyOffered, storedStatus};
 use counts::PageNumber;
+pub use register_map::Register;
+pub use register_map::queue_size;
+pub use register_map::register_at;
 
 mod answers;
 
@@ -44,20 +46,6 @@ pub struct Config {
     pub chmaps: u32,
 }
 
-// What an access reaches.
-pub enum Register {
-    HostFeatures,
-    GuestFeatures,
-    QueuePfn,
-    QueueNum,
-    QueueSel,
-    QueueNotify,
-    Status,
-    Isr,
-    DeviceConfig(usize),
-    Absent,
-}
-
 // What a write asks of the rest of the card.
 pub enum Effect {
     Nothing,
@@ -76,72 +64,6 @@ pub struct Written {
     pub answer: u8,
     pub effect: Effect,
     pub registers: Registers,
-}
-
-// The register that an access of `width` bytes at `offset` reaches.
-pub fn register_at(offset: u64, width: u64) -> Register
-    ensures { λ r. ⌜ r ≡ registerAt offset width ⌝ }
-{
-    match offset {
-        0 => exact(width, 4, Register::HostFeatures),
-        4 => exact(width, 4, Register::GuestFeatures),
-        8 => exact(width, 4, Register::QueuePfn),
-        12 => exact(width, 2, Register::QueueNum),
-        14 => exact(width, 2, Register::QueueSel),
-        16 => exact(width, 2, Register::QueueNotify),
-        18 => exact(width, 1, Register::Status),
-        19 => exact(width, 1, Register::Isr),
-        _ => config_at(offset, width),
-    }
-}
-
-// A register is there for an access of exactly its width.
-fn exact(width: u64, size: u64, register: Register) -> Register
-    ensures { λ r. ⌜ r ≡ exactly width size register ⌝ }
-{
-    if width == size {
-        return register;
-    }
-    Register::Absent
-}
-
-// The device's configuration takes 1, 2 or 4 bytes wholly inside 0x14 to 0xFF.
-fn config_at(offset: u64, width: u64) -> Register
-    ensures { λ r. ⌜ r ≡ configAt offset width ⌝ }
-{
-    if offset < 20 {
-        return Register::Absent;
-    }
-    if 256 <= offset {
-        return Register::Absent;
-    }
-    if 256 - offset < width {
-        return Register::Absent;
-    }
-    let place = (offset - 20) as usize;
-    if width == 1 {
-        return Register::DeviceConfig(place);
-    }
-    if width == 2 {
-        return Register::DeviceConfig(place);
-    }
-    if width == 4 {
-        return Register::DeviceConfig(place);
-    }
-    Register::Absent
-}
-
-// How many descriptors a queue has; none for a number that no queue has.
-pub fn queue_size(queue: u16) -> u16
-    ensures { λ r. ⌜ r ≡ sizeOf queue ⌝ }
-{
-    match queue {
-        0 => 64,
-        1 => 64,
-        2 => 256,
-        3 => 64,
-        _ => 0,
-    }
 }
 
 // Bit `i` of a register.

@@ -12,4 +12,3 @@ pub mod Reading
 pub mod Release
 pub mod Drained
 pub mod Table
-pub mod Examples

@@ -12,7 +12,7 @@ use Rattle.message.specs.declared.Direction.{Direction}
 use Rattle.message.specs.declared.Direction.the-variants.{Output, Input}
 use Rattle.rules.specs.Calls.{brokenUnless}
 use Rattle.rules.specs.Device.{signalledIf}
-use Rattle.transfer.specs.declared.Flow.{Flow}
+use Rattle.flow.specs.declared.Flow.{Flow}
 use Rattle.stream.specs.Queue.{withRegisters, withFlow, messageIn}
 
 pub signal-fit : (b : Bool) (g : Registers) → FitRegisters g → FitRegisters (signalledIf b g)

@@ -22,8 +22,8 @@ use Rattle.rules.specs.Calls.{indirect}
 use Rattle.rules.specs.Counters.{countersOf, isNone}
 use Rattle.rules.specs.Device as rules
 use Rattle.rules.specs.Transfer.{begun, found}
-use Rattle.transfer.specs.Flow.{runOf, freshFlow}
-use Rattle.transfer.specs.declared.Flow.{Flow}
+use Rattle.flow.specs.Flow.{runOf, freshFlow}
+use Rattle.flow.specs.declared.Flow.{Flow}
 use Rattle.stream.specs.Queue.{queueIn, countersIn, messageIn, withFlow, queueFor, withQueue}
 
 -- ---- where it is

@@ -19,8 +19,8 @@ use Rattle.rules.specs.Calls.{emptied, emptiedFound, emptiedBy, indirect}
 use Rattle.rules.specs.Counters.{countersOf}
 use Rattle.rules.specs.Device as rules
 use Rattle.rules.specs.Transfer.{begun, found, releaseRun}
-use Rattle.transfer.specs.Flow.{runOf, freshFlow, Steps}
-use Rattle.transfer.specs.declared.Flow.{Flow}
+use Rattle.flow.specs.Flow.{runOf, freshFlow, Steps}
+use Rattle.flow.specs.declared.Flow.{Flow}
 use Rattle.stream.specs.Queue.{countersIn, messageIn, withFlow, queueFor, withQueue, Empties}
 use Rattle.stream.proofs.Fits.{message-fit, with-flow-fit}
 use Rattle.stream.proofs.Laws.{queue-in, found-check, fresh-run, flowed-device, with-own-queue, queue-for-with}

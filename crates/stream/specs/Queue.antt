@@ -17,7 +17,7 @@ use Rattle.message.specs.declared.Direction.the-variants.{Output, Input}
 use Rattle.rules.specs.Calls.{emptied, indirect}
 use Rattle.rules.specs.Counters.{countersOf}
 use Rattle.rules.specs.Device as rules
-use Rattle.transfer.specs.declared.Flow.{Flow}
+use Rattle.flow.specs.declared.Flow.{Flow}
 use Rattle.stream.specs.declared.Emptied.{Emptied}
 
 -- ---- in the card's struct

@@ -1,4 +1,4 @@
--- Laws of flows.
+-- Laws of the loops over new entries.
 pub mod Laws
 pub mod Whiles
 pub mod Rest

@@ -8,9 +8,10 @@ use Rattle.counts.specs.declared.PageNumber.{PageNumber}
 use Rattle.rules.specs.Counters.{countersOf}
 use Rattle.rules.specs.Device as rules
 use Rattle.rules.specs.Transfer.{worked, givenUp, transferMore, releaseMore, next}
-use Rattle.transfer.specs.Flow.{runOf, goesOn, releaseGoesOn}
+use Rattle.flow.specs.Flow.{runOf}
+use Rattle.transfer.specs.Whiles.{goesOn, releaseGoesOn}
 use Rattle.transfer.specs.Whiles.{restRun, releaseRest}
-use Rattle.transfer.specs.declared.Flow.{Flow}
+use Rattle.flow.specs.declared.Flow.{Flow}
 use Rattle.transfer.proofs.Laws.{goes-on, release-goes-on}
 use Rattle.transfer.proofs.Whiles.{whiles-none, whiles-stop, whiles-more}
 

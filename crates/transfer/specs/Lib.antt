@@ -1,3 +1,2 @@
--- What the structs of the transfer code stand for in the rules.
-pub mod Flow
+-- The loops over new entries.
 pub mod Whiles

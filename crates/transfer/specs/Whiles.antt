@@ -1,7 +1,9 @@
 -- The rules' loop as a `while` runs it, on a state that is worked already.
-use mathlib.Core.Bool.{Bool, cond}
+use mathlib.Core.Bool.{Bool, cond, _&&_}
 use Prim.Native.Nat.{ℕ, zero, suc}
+use lib.Dec.{eqb, ltb}
 use Rattle.counts.specs.declared.PageNumber.{PageNumber}
+use Rattle.flow.specs.declared.Flow.{Flow}
 use Rattle.rules.specs.Counters.{countersOf}
 use Rattle.rules.specs.Device as rules
 use Rattle.rules.specs.Transfer.{Run, worked, givenUp, transferMore, releaseMore, next}
@@ -19,3 +21,14 @@ module _ (d : rules.Direction) (page : PageNumber) (negotiated : Bool) where
   abbrev pub releaseRest : ℕ → Run rules.Queue → Run rules.Queue
   releaseRest n r =
       whiles (givenUp (countersOf d) d page negotiated) (releaseMore (countersOf d) d page negotiated) (next (countersOf d) d page negotiated) n r
+
+-- a transfer goes on with the next entry
+abbrev pub goesOn : Flow → ℕ → Bool
+goesOn f room = f .sound && ltb (f .moved) room && eqb (f .message .count) 0
+
+abbrev pub releaseGoesOn : Flow → Bool
+releaseGoesOn f = f .sound && eqb (f .message .count) 0
+
+-- the next entry, then work on it
+abbrev pub turned : (Run rules.Queue → Run rules.Queue) → (Run rules.Queue → Run rules.Queue) → Run rules.Queue → Run rules.Queue
+turned work next r = work (next r)

@@ -1,5 +1,4 @@
 -- Each request has its function.
-use Prim.Native.Nat.{_-_}
 use borrow.Author.Needs.{needs}
 use Rattle.control.specs.Control.{answerOf}
 use Rattle.control.proofs.answer.Statement.{statement}

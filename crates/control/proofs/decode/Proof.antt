@@ -1,5 +1,4 @@
 -- Each code has its request.
-use Prim.Native.Nat.{_-_}
 use native.Mathlib.Omega.{arith}
 use borrow.Author.Tests.{ne-eqb}
 use Rattle.control.specs.Control.{decodedOf}

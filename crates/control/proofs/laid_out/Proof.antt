@@ -1,5 +1,4 @@
 -- The comparison tells.
-use Prim.Native.Nat.{_-_}
 use borrow.Author.Needs.{needs}
 use borrow.Author.Tests.{le-leb, lt-leb}
 use Rattle.control.proofs.laid_out.Statement.{statement}

@@ -1,6 +1,5 @@
 -- The first bytes tell code, layout and request; all else of the request is passed over.
 use mathlib.Core.Path.{_≡_, _∙_, sym}
-use Prim.Native.Nat.{_-_}
 use mathlib.Core.Bool.{true, false}
 use native.Mathlib.Omega.{arith}
 use borrow.Author.Needs.{needs}
@@ -10,7 +9,8 @@ use Rattle.ranges.specs.Ranges.{rangesOf, places, bytesAt}
 use Rattle.rules.specs.Control.{word}
 use Rattle.control.specs.Control.{decodedOf, layoutOf}
 use Rattle.control.specs.declared.Decoded.the-variants.{Known, Unknown}
-use Rattle.control.proofs.Laws.{words-agree, answers-agree, length-request, served-unknown, served-short, served-whole, serves-refusal, check-passed, check-failed}
+use Rattle.requests.proofs.Laws.{serves-refusal, check-passed, check-failed}
+use Rattle.control.proofs.Laws.{words-agree, answers-agree, length-request, served-unknown, served-short, served-whole}
 use Rattle.control.proofs.serve.Statement.{statement}
 use Rattle.control.proofs.serve.Tie as tie
 

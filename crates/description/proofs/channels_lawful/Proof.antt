@@ -1,5 +1,4 @@
 -- Three comparisons, in the definition's order.
-use Prim.Native.Nat.{_-_}
 use borrow.Author.Tests.{le-leb, lt-leb}
 use Rattle.description.proofs.channels_lawful.Statement.{statement}
 use Rattle.description.proofs.channels_lawful.Tie as tie

@@ -1,5 +1,5 @@
 -- A mask below 2 ^ n has at least 64 - n leading zeros, and one that is not has fewer.
-use Prim.Native.Nat.{_-_, _^_}
+use Prim.Native.Nat.{_^_}
 use native.Mathlib.Omega.{arith}
 use borrow.Author.Needs.{needs}
 use borrow.Author.Tests.{lt-ltb, le-ltb, eq-eqb, ne-eqb}

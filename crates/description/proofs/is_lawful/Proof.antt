@@ -1,6 +1,5 @@
 -- The tests stand in the definition's order; the counts are judged before the lists are gone through.
 use mathlib.Core.Path.{_∙_, sym}
-use Prim.Native.Nat.{_-_}
 use borrow.Author.Needs.{needs}
 use borrow.Author.Tests.{le-leb, lt-leb, eq-eqb, ne-eqb, not-true, not-false}
 use Rattle.description.specs.Lawful.{lawful, lawfulCounts}

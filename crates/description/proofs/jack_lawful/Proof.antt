@@ -1,5 +1,4 @@
 -- Two comparisons.
-use Prim.Native.Nat.{_-_}
 use borrow.Author.Tests.{le-leb, lt-leb}
 use Rattle.description.specs.Lawful.{lawfulJack}
 use Rattle.description.proofs.jack_lawful.Statement.{statement}

@@ -1,5 +1,4 @@
 -- The tests stand in the definition's order.
-use Prim.Native.Nat.{_-_}
 use borrow.Author.Needs.{needs}
 use borrow.Author.Tests.{le-leb, lt-leb}
 use Rattle.description.specs.Lawful.{lawfulMap}

@@ -1,5 +1,4 @@
 -- Inside the channels at most 36, behind them 0.
-use Prim.Native.Nat.{_-_}
 use borrow.Author.Tests.{lt-ltb, le-ltb, le-leb, lt-leb, eq-eqb, ne-eqb}
 use Rattle.description.proofs.position_lawful.Statement.{statement}
 use Rattle.description.proofs.position_lawful.Tie as tie

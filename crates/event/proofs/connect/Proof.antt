@@ -1,5 +1,4 @@
 -- The jack is there, so its place is below four.
-use Prim.Native.Nat.{_-_}
 use native.Mathlib.Omega.{arith}
 use borrow.Author.Needs.{needs}
 use Rattle.event.proofs.Cards.{jacks-there}

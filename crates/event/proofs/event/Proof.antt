@@ -1,6 +1,5 @@
 -- The tests stand in the rule's order; an event that is allowed is sent from the card in which it is recorded.
 use mathlib.Core.Path.{_∙_, sym}
-use Prim.Native.Nat.{_-_}
 use borrow.Author.Needs.{needs}
 use borrow.Author.Tests.{eq-eqb, ne-eqb, not-true, not-false}
 use Rattle.event.proofs.Cards.{event-refused, event-sent}

@@ -1,5 +1,4 @@
 -- The jacks that are there are the first so many.
-use Prim.Native.Nat.{_-_}
 use borrow.Author.Tests.{lt-ltb, le-ltb}
 use Rattle.event.proofs.Cards.{jacks-there}
 use Rattle.event.proofs.has_jack.Statement.{statement}

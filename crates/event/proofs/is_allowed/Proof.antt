@@ -1,5 +1,4 @@
 -- The code picks the rule.
-use Prim.Native.Nat.{_-_}
 use borrow.Author.Needs.{needs}
 use borrow.Author.Tests.{ne-eqb}
 use Rattle.rules.specs.Calls.{eventAllowed}

@@ -1,6 +1,5 @@
 -- An allowed event of a jack names one that is there; an XRUN records nothing.
 use mathlib.Core.Path.{refl}
-use Prim.Native.Nat.{_-_}
 use borrow.Author.Tests.{ne-eqb}
 use Rattle.message.specs.Card.{restOf, deviceOf}
 use Rattle.rules.specs.Calls.{recorded}

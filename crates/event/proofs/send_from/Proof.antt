@@ -1,5 +1,4 @@
 -- What was sent with the registers and the event queue's counters of the card is put back.
-use Prim.Native.Nat.{_-_}
 use borrow.Author.Needs.{needs}
 use Rattle.message.specs.Card.{restOf}
 use Rattle.event.proofs.Cards.{sent-leaves, held-fit}

@@ -1,5 +1,4 @@
 -- The tests stand in the definition's order; a stream that is there is the array's.
-use Prim.Native.Nat.{_-_}
 use borrow.Author.Needs.{needs}
 use borrow.Author.Tests.{lt-ltb, le-ltb, eq-eqb, ne-eqb}
 use Rattle.event.proofs.Cards.{streams-there, stream-at}

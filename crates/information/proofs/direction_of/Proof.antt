@@ -1,5 +1,4 @@
 -- The number tells the direction.
-use Prim.Native.Nat.{_-_}
 use borrow.Author.Tests.{ne-eqb}
 use Rattle.information.proofs.direction_of.Statement.{statement}
 use Rattle.information.proofs.direction_of.Tie as tie

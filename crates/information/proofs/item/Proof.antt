@@ -1,6 +1,6 @@
 -- The item is that of the part with its number, then zeros. `t1` is the parameter `parts`.
 use mathlib.Core.Path.{refl}
-use Prim.Native.Nat.{_-_, _<_}
+use Prim.Native.Nat.{_<_}
 use native.Mathlib.Omega.{arith}
 use borrow.Author.Needs.{needs}
 use lib.ListN.{length, getD}

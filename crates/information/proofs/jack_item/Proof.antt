@@ -1,5 +1,4 @@
 -- The numbers stand one behind the other, zeros behind them.
-use Prim.Native.Nat.{_-_}
 use borrow.Author.Needs.{needs}
 use Rattle.memory.specs.Bytes.{put}
 use Rattle.rules.specs.Device.{bytesOf}

@@ -1,7 +1,6 @@
 -- The numbers stand one behind the other, the positions behind them, then zeros. Owning the map tells the length of its
 -- positions (`good`: its fields one after the other).
 use mathlib.Core.Path.{_≡_, _∙_, sym}
-use Prim.Native.Nat.{_-_}
 use native.Mathlib.Omega.{arith}
 use borrow.Author.Needs.{needs}
 use lib.ListN.{length}

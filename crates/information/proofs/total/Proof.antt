@@ -1,5 +1,4 @@
 -- Each list has as many items as there are parts.
-use Prim.Native.Nat.{_-_}
 use native.Mathlib.Omega.{arith}
 use borrow.Author.Needs.{needs}
 use lib.ListN.{length-take, length-map}

@@ -1,6 +1,6 @@
 -- A byte past the end is 0, and no sum of `at` and `i` is formed before both are known to be inside.
 use mathlib.Core.Path.{sym}
-use Prim.Native.Nat.{_+_, _-_}
+use Prim.Native.Nat.{_+_}
 use native.Mathlib.Omega.{arith}
 use borrow.Author.Needs.{needs}
 use lib.ListN.{List·getD-eq-default}

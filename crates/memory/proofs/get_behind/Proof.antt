@@ -1,6 +1,5 @@
 -- Reading at the place is reading at the address.
 use mathlib.Core.Path.{_∙_}
-use Prim.Native.Nat.{_-_}
 use borrow.Author.Needs.{needs}
 use Rattle.memory.proofs.Laws.{le-place}
 use Rattle.memory.proofs.get_behind.Statement.{statement}

@@ -1,5 +1,5 @@
 -- Each answer is the comparison that led to it; no sum of address and length is formed.
-use Prim.Native.Nat.{_+_, _-_}
+use Prim.Native.Nat.{_+_}
 use native.Mathlib.Omega.{arith}
 use borrow.Author.Tests.{le-leb, lt-leb, eq-eqb, ne-eqb}
 use Rattle.memory.proofs.inside.Statement.{statement}

@@ -1,6 +1,5 @@
 -- Storing at the place is storing at the address.
 use mathlib.Core.Path.{_∙_}
-use Prim.Native.Nat.{_-_}
 use borrow.Author.Needs.{needs}
 use Rattle.memory.proofs.Laws.{put-place}
 use Rattle.memory.proofs.store_behind.Statement.{statement}

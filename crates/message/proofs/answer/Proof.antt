@@ -1,6 +1,5 @@
 -- Without a status only the used entry is written; else the status goes before it, to the reply's last eight bytes.
 use mathlib.Core.Path.{_∙_}
-use Prim.Native.Nat.{_-_}
 use borrow.Author.Needs.{needs}
 use Rattle.message.specs.Message.{answeredOf, directionOf}
 use Rattle.message.proofs.Laws.{completed-answer}

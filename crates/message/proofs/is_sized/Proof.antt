@@ -1,5 +1,4 @@
 -- The direction picks the rule.
-use Prim.Native.Nat.{_-_}
 use borrow.Author.Needs.{needs}
 use borrow.Author.Tests.{le-leb, lt-leb, eq-eqb, ne-eqb}
 use Rattle.message.proofs.is_sized.Statement.{statement}

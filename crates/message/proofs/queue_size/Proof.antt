@@ -1,5 +1,4 @@
 -- The direction picks the queue.
-use Prim.Native.Nat.{_-_}
 use borrow.Author.Needs.{needs}
 use Rattle.message.proofs.queue_size.Statement.{statement}
 use Rattle.message.proofs.queue_size.Tie as tie

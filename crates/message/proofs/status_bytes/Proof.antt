@@ -1,6 +1,5 @@
 -- The code is stored before four zeros.
 use mathlib.Core.Path.{_∙_}
-use Prim.Native.Nat.{_-_}
 use borrow.Author.Needs.{needs}
 use Rattle.message.proofs.Laws.{status-put}
 use Rattle.message.proofs.status_bytes.Statement.{statement}

@@ -1,5 +1,4 @@
 -- The first four bytes are gathered into four zeros.
-use Prim.Native.Nat.{_-_}
 use native.Mathlib.Omega.{arith}
 use borrow.Author.Needs.{needs}
 use lib.ListN.{length-map, length-take}

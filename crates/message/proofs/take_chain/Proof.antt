@@ -1,6 +1,5 @@
 -- The walk's outcome is the rule's; a whole chain is judged, one that can't be walked has no ranges.
 use mathlib.Core.Path.{_≡_, _∙_, sym, ap}
-use Prim.Native.Nat.{_-_}
 use borrow.Author.Needs.{needs}
 use Rattle.chain.specs.Walk.{walkOf, faulted, whole, outcomeOf}
 use Rattle.ranges.specs.Ranges.{rangesOf}

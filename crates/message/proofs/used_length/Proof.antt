@@ -1,5 +1,4 @@
 -- The direction picks the length.
-use Prim.Native.Nat.{_-_}
 use borrow.Author.Needs.{needs}
 use Rattle.message.proofs.used_length.Statement.{statement}
 use Rattle.message.proofs.used_length.Tie as tie

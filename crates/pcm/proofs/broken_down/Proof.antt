@@ -1,5 +1,4 @@
 -- Only the registers change.
-use Prim.Native.Nat.{_-_}
 use borrow.Author.Needs.{needs}
 use Rattle.pcm.proofs.broken_down.Statement.{statement}
 use Rattle.pcm.proofs.broken_down.Tie as tie

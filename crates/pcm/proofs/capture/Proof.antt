@@ -1,6 +1,5 @@
 -- Each check, then the queue, then its entries: each outcome is the rules' step.
 use mathlib.Core.Path.{_≡_, _∙_, sym}
-use Prim.Native.Nat.{_-_}
 use borrow.Author.Needs.{needs}
 use lib.ListN.{length}
 use Rattle.message.specs.Card.{restOf, countersAt}

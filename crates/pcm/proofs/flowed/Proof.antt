@@ -1,5 +1,4 @@
 -- The registers first, then the queue.
-use Prim.Native.Nat.{_-_}
 use borrow.Author.Needs.{needs}
 use Rattle.pcm.proofs.flowed.Statement.{statement}
 use Rattle.pcm.proofs.flowed.Tie as tie

@@ -1,6 +1,5 @@
 -- The tests stand in the definition's order.
 use mathlib.Core.Path.{_∙_, sym}
-use Prim.Native.Nat.{_-_}
 use borrow.Author.Needs.{needs}
 use borrow.Author.Tests.{eq-eqb, ne-eqb, not-true, not-false}
 use Rattle.message.specs.Card.{restOf}

@@ -1,6 +1,5 @@
 -- A bad head is answer 9; what came before it stands and is counted.
 use mathlib.Core.Path.{_≡_}
-use Prim.Native.Nat.{_-_}
 use mathlib.Core.Bool.{false}
 use borrow.Author.Needs.{needs}
 use Rattle.pcm.proofs.transferred.Statement.{statement}

@@ -1,5 +1,4 @@
 -- Three numbers stored one after the other.
-use Prim.Native.Nat.{_-_}
 use borrow.Author.Needs.{needs}
 use Rattle.registers.specs.Rules.{configBytes}
 use Rattle.registers.proofs.config_bytes.Statement.{statement}

@@ -1,5 +1,4 @@
 -- Bit 1 is added where it is clear.
-use Prim.Native.Nat.{_-_}
 use borrow.Author.Needs.{needs}
 use borrow.Author.Tests.{eq-eqb, ne-eqb}
 use Rattle.registers.proofs.config_changed.Statement.{statement}

@@ -1,5 +1,4 @@
 -- The width picks the number that is read.
-use Prim.Native.Nat.{_-_}
 use borrow.Author.Needs.{needs}
 use borrow.Author.Tests.{eq-eqb, ne-eqb}
 use Rattle.registers.specs.Rules.{configValue}

@@ -1,5 +1,4 @@
 -- Two values have no bit outside the one offered.
-use Prim.Native.Nat.{_-_}
 use borrow.Author.Tests.{eq-eqb, ne-eqb}
 use Rattle.registers.proofs.only_offered.Statement.{statement}
 use Rattle.registers.proofs.only_offered.Tie as tie

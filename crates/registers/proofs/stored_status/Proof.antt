@@ -1,6 +1,5 @@
 -- The bits' places are apart, so their sum fits and is the same in any order.
 use mathlib.Core.Path.{_≡_}
-use Prim.Native.Nat.{_-_}
 use mathlib.Core.Bool.{false}
 use native.Mathlib.Omega.{arith}
 use borrow.Author.Needs.{needs}

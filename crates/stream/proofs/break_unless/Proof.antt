@@ -1,6 +1,5 @@
 -- Sound or not.
 use mathlib.Core.Path.{_≡_}
-use Prim.Native.Nat.{_-_}
 use mathlib.Core.Bool.{false}
 use borrow.Author.Needs.{needs}
 use Rattle.stream.proofs.break_unless.Statement.{statement}

@@ -1,5 +1,4 @@
 -- The direction picks the counters.
-use Prim.Native.Nat.{_-_}
 use borrow.Author.Needs.{needs}
 use Rattle.stream.proofs.counters_of.Statement.{statement}
 use Rattle.stream.proofs.counters_of.Tie as tie

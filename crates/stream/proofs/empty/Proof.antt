@@ -1,6 +1,5 @@
 -- The queue's check decides: nothing pending, broken, or its entries given up.
 use mathlib.Core.Path.{_≡_, _∙_, sym}
-use Prim.Native.Nat.{_-_}
 use borrow.Author.Needs.{needs}
 use Rattle.message.specs.Card.{restOf}
 use Rattle.stream.proofs.Fits.{message-fit}

@@ -1,5 +1,4 @@
 -- Wanted or not.
-use Prim.Native.Nat.{_-_}
 use borrow.Author.Needs.{needs}
 use Rattle.stream.proofs.signal_if.Statement.{statement}
 use Rattle.stream.proofs.signal_if.Tie as tie

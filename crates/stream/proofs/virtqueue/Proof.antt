@@ -1,5 +1,4 @@
 -- The direction picks the page.
-use Prim.Native.Nat.{_-_}
 use borrow.Author.Needs.{needs}
 use Rattle.stream.proofs.virtqueue.Statement.{statement}
 use Rattle.stream.proofs.virtqueue.Tie as tie

@@ -1,5 +1,4 @@
 -- The direction picks the queue.
-use Prim.Native.Nat.{_-_}
 use borrow.Author.Needs.{needs}
 use Rattle.stream.proofs.with_flow.Statement.{statement}
 use Rattle.stream.proofs.with_flow.Tie as tie

@@ -5,7 +5,7 @@ use native.Mathlib.Omega.{arith}
 use borrow.Author.Tests.{not-true, not-false}
 use lib.ListN.{length}
 use Rattle.rules.specs.Device as rules
-use Rattle.transfer.specs.Flow.{runOf, FitFlow}
+use Rattle.flow.specs.Flow.{runOf, FitFlow}
 use Rattle.transfer.specs.Whiles.{restRun}
 use Rattle.transfer.proofs.Laws.{goes-idle}
 use Rattle.transfer.proofs.Rest.{rest-none, rest-stop, rest-more}

@@ -1,8 +1,7 @@
 -- The next entry, then work on it.
 use mathlib.Core.Path.{_∙_}
-use Prim.Native.Nat.{_-_}
 use borrow.Author.Needs.{needs}
-use Rattle.transfer.proofs.Laws.{fit-beside}
+use Rattle.flow.proofs.Laws.{fit-beside}
 use Rattle.transfer.proofs.capture_turn.Statement.{statement}
 use Rattle.transfer.proofs.capture_turn.Tie as tie
 

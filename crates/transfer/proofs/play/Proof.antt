@@ -1,8 +1,6 @@
 -- The message in work first, then the new entries.
 use mathlib.Core.Path.{_∙_}
-use Prim.Native.Nat.{_-_}
 use borrow.Author.Needs.{needs}
-use Rattle.rules.specs.Device as rules
 use Rattle.rules.specs.Transfer.{transferRun}
 use Rattle.transfer.proofs.Laws.{fresh-fit}
 use Rattle.transfer.proofs.Whiles.{loop-whiles}

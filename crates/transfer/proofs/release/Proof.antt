@@ -1,6 +1,5 @@
 -- The message in work first, then the new entries.
 use mathlib.Core.Path.{_∙_}
-use Prim.Native.Nat.{_-_}
 use borrow.Author.Needs.{needs}
 use Rattle.rules.specs.Transfer.{releaseRun}
 use Rattle.transfer.proofs.Whiles.{loop-whiles}

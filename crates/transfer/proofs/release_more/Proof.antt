@@ -1,6 +1,5 @@
 -- The tests stand in the definition's order.
 use mathlib.Core.Path.{_≡_}
-use Prim.Native.Nat.{_-_}
 use mathlib.Core.Bool.{true, false}
 use borrow.Author.Tests.{eq-eqb, ne-eqb, not-true, not-false}
 use Rattle.transfer.proofs.release_more.Statement.{statement}

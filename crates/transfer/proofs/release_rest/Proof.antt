@@ -7,7 +7,7 @@ use lib.ListN.{length}
 use mathlib.Core.List.{List}
 use Rattle.card.specs.Fit.{FitMessage}
 use Rattle.message.specs.Message.{directionOf}
-use Rattle.transfer.specs.Flow.{runOf}
+use Rattle.flow.specs.Flow.{runOf}
 use Rattle.transfer.specs.Whiles.{releaseRest}
 use Rattle.transfer.proofs.Laws.{release-goes-idle}
 use Rattle.transfer.proofs.Rest.{release-none, release-stop, release-more}

@@ -1,6 +1,5 @@
 -- The next entry, then its end.
 use mathlib.Core.Path.{_∙_}
-use Prim.Native.Nat.{_-_}
 use borrow.Author.Needs.{needs}
 use Rattle.transfer.proofs.release_turn.Statement.{statement}
 use Rattle.transfer.proofs.release_turn.Tie as tie

@@ -1,5 +1,4 @@
 -- The bits are handed out, and cleared.
-use Prim.Native.Nat.{_-_}
 use borrow.Author.Needs.{needs}
 use Rattle.registers.specs.Rules.{isrRead}
 use Rattle.registers.proofs.Registers.acknowledged.Statement.{statement}

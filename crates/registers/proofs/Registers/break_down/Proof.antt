@@ -1,5 +1,4 @@
 -- Both registers by their own functions.
-use Prim.Native.Nat.{_-_}
 use borrow.Author.Needs.{needs}
 use Rattle.registers.specs.Rules.{broken}
 use Rattle.registers.proofs.Registers.break_down.Statement.{statement}

@@ -1,5 +1,4 @@
 -- The line is a test of ISR against 0.
-use Prim.Native.Nat.{_-_}
 use borrow.Author.Tests.{eq-eqb, ne-eqb}
 use Rattle.registers.specs.Rules.{raised}
 use Rattle.registers.proofs.Registers.line.Statement.{statement}

@@ -1,6 +1,5 @@
 -- Decode, then the register's own rule; an arm a register.
 use mathlib.Core.Path.{_∙_, sym}
-use Prim.Native.Nat.{_-_}
 use borrow.Author.Needs.{needs}
 use Rattle.registers.specs.Rules.{readOf}
 use Rattle.registers.proofs.Registers.read.Statement.{statement}

@@ -1,6 +1,5 @@
 -- Stored unless FEATURES_OK is set.
 use mathlib.Core.Path.{_∙_, sym}
-use Prim.Native.Nat.{_-_}
 use borrow.Author.Needs.{needs}
 use borrow.Author.Tests.{lt-ltb, le-ltb, not-true, not-false}
 use Rattle.registers.specs.Rules.{wroteFeatures}

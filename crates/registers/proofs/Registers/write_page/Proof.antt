@@ -1,6 +1,5 @@
 -- Stored where the selector names a queue and DRIVER_OK is clear.
 use mathlib.Core.Path.{_∙_, sym}
-use Prim.Native.Nat.{_-_}
 use borrow.Author.Needs.{needs}
 use borrow.Author.Tests.{lt-ltb, le-ltb}
 use Rattle.registers.specs.Rules.{wrotePage}

@@ -1,5 +1,4 @@
 -- Stored as it is.
-use Prim.Native.Nat.{_-_}
 use borrow.Author.Needs.{needs}
 use borrow.Author.Tests.{lt-ltb, le-ltb}
 use Rattle.registers.specs.Rules.{wroteSelector}

@@ -1,5 +1,4 @@
 -- 0 resets; another value is stored bit by bit.
-use Prim.Native.Nat.{_-_}
 use borrow.Author.Needs.{needs}
 use borrow.Author.Tests.{lt-ltb, le-ltb, eq-eqb, ne-eqb}
 use Rattle.registers.specs.Rules.{wroteStatus}

@@ -1,0 +1,2 @@
+-- Laws of PCM commands.
+pub mod Laws

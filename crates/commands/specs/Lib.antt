@@ -1,0 +1,2 @@
+-- PCM commands.
+pub mod Commands

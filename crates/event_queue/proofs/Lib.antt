@@ -1,0 +1,2 @@
+-- Laws of completions on the event queue.
+pub mod Laws

@@ -1,0 +1,55 @@
+-- 01, Play, capture, events, third paragraph: what the structs of an event's attempts stand for. An attempt changes the
+-- registers and the event queue's counters of a card; the rules see both as parts of the `Rest`.
+use mathlib.Core.Bool.{Bool, cond}
+use mathlib.Core.List.{List}
+use mathlib.Core.Option.{Option, none, some}
+use Prim.Native.Nat.{ℕ}
+use lib.ListN.{length}
+use Rattle.counts.specs.declared.PageNumber.{PageNumber}
+use Rattle.ranges.specs.Ranges.{rangesOf, places, putAt}
+use Rattle.ranges.specs.declared.Range.{Range}
+use Rattle.registers.specs.Answers.{done}
+use Rattle.registers.specs.Map.{sizeOf}
+use Rattle.registers.specs.declared.Registers.{Registers}
+use Rattle.ring.specs.Rules.{Completion, baseOf, nextOf, postedOf, interrupts, checkOf}
+use Rattle.ring.specs.declared.Posted.{Posted}
+use Rattle.card.specs.declared.Counters.{Counters}
+use Rattle.rules.specs.Calls.{Result, Tried, Ended, Further, eventFound}
+use Rattle.rules.specs.Device.{Rest, withRegisters, withEvent, pageOf, signalledIf, oneTaken}
+use Rattle.rules.specs.Numbers.{eventQueue}
+use Rattle.event_queue.specs.declared.Attempt.{Attempt}
+use Rattle.event_queue.specs.declared.Room.{Room}
+
+-- the rest with these registers and these counters of the event queue
+abbrev pub holding : Registers → Counters → Rest → Rest
+holding g q r = withRegisters g (withEvent q r)
+
+-- what an attempt makes of the rest
+abbrev pub resultIn : Rest → Attempt → List ℕ → Result
+resultIn r a m = record { rest = holding (a .registers) (a .counters) r; answer = a .answer; count = 0; mem = m }
+
+abbrev pub triedIn : Rest → Attempt → List ℕ → Tried
+triedIn r a m = cond (a .ended) (Ended (resultIn r a m)) (Further (resultIn r a m))
+
+abbrev pub roomIn : Room → Option (List Range)
+roomIn r = cond (r .fits) (some (rangesOf (r .reply))) none
+
+-- a chain of the event queue completed with these bytes in its reply
+unfoldable pub postingOf : List ℕ → PageNumber → ℕ → ℕ → List Range → List ℕ → Completion
+postingOf m page completed head reply bytes =
+    let after : List ℕ = postedOf (putAt m (places reply) bytes) (baseOf page) (sizeOf eventQueue) completed head (length bytes) in
+    record { memory = after; completed = nextOf completed; interrupt = interrupts after (baseOf page) (sizeOf eventQueue) }
+
+-- one entry taken and completed
+abbrev pub attemptOf : Bool → Registers → Counters → Posted → Attempt
+attemptOf over g q p =
+    record {
+      ended = over;
+      answer = done;
+      registers = signalledIf (p .interrupt) g;
+      counters = record { taken = oneTaken q .taken; completed = p .completed };
+    }
+
+-- an event that may be sent, over the rest in which its state is recorded
+abbrev pub sentOf : ℕ → ℕ → Rest → List ℕ → Result
+sentOf code data′ r m = eventFound code data′ r m (checkOf m (pageOf r eventQueue) (sizeOf eventQueue) (r .event .taken) 0)

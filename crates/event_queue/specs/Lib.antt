@@ -1,0 +1,2 @@
+-- What the structs of an event's attempts stand for in the rules.
+pub mod Attempts

@@ -1,0 +1,241 @@
+// The event queue (01, "Play, capture, events", third paragraph): an event goes into the next chain
+// that has room for it.
+ghost use mathlib.Core.Path.{_≡_};
+ghost use mathlib.Core.Bool.{cond};
+ghost use mathlib.Core.List.{[]};
+ghost use mathlib.Core.Option.{none, some};
+ghost use Rattle.chain.specs.Walk.{whole, walkOf};
+ghost use Rattle.ranges.specs.Ranges.{rangesOf, Sound};
+ghost use Rattle.registers.specs.Fit.{FitRegisters};
+ghost use Rattle.registers.specs.Map.{sizeOf};
+ghost use Rattle.ring.specs.Rules.{baseOf, completion};
+ghost use Rattle.rules.specs.Calls.{eventRoom, eventBytes, tried, eventRun};
+ghost use Rattle.rules.specs.Device.{Rest};
+ghost use Rattle.rules.specs.Numbers.{eventQueue};
+ghost use Rattle.event_queue.specs.Attempts.{holding, roomIn, postingOf, attemptOf, resultIn, triedIn, sentOf};
+use card::Counters;
+use counts::DescriptorNumber;
+use counts::PageNumber;
+use ranges::Ranges;
+use registers::Registers;
+use ring::Posted;
+
+// The number of the event queue.
+pub const NUMBER: usize = 1;
+
+// Where an event stands after an entry was tried: `ended`, it was delivered or can't be.
+pub struct Attempt {
+    pub ended: bool,
+    pub answer: u8,
+    pub registers: Registers,
+    pub counters: Counters,
+}
+
+// What a chain of the event queue offers: its reply, where an event fits there.
+struct Room {
+    fits: bool,
+    reply: Ranges,
+}
+
+// How many descriptors the event queue has.
+fn queue_size() -> u16
+    ensures { λ r. ⌜ r ≡ sizeOf eventQueue ⌝ }
+{
+    registers::queue_size(1)
+}
+
+// Whether an event fits into a chain that was walked whole.
+fn has_room(m: &[u8], request: Ranges, reply: Ranges) -> bool
+    requires { ⌜ Sound request × Sound reply ⌝ }
+    ensures { λ r. ⌜ cond r (some (rangesOf reply)) none ≡ eventRoom (now (m .entry)) (whole (rangesOf request) (rangesOf reply)) ⌝ }
+{
+    if request.bytes != 0 {
+        return false;
+    }
+    if !ranges::all_inside(m.len(), request) {
+        return false;
+    }
+    if !ranges::all_inside(m.len(), reply) {
+        return false;
+    }
+    if reply.bytes < 8 {
+        return false;
+    }
+    true
+}
+
+// The room of the chain at `head`.
+fn room_at(m: &[u8], page: PageNumber, head: DescriptorNumber, indirect: bool) -> Room
+    ensures { λ r. ⌜ roomIn r
+        ≡ eventRoom (now (m .entry)) (walkOf (now (m .entry)) (baseOf page) (sizeOf eventQueue) (head .0) indirect) ⌝ }
+{
+    let size = queue_size();
+    let walked = chain::walk(m, page.address(), size, head, indirect);
+    let end = walked.end;
+    let chain::End::Whole = end else {
+        return Room {
+            fits: false,
+            reply: Ranges::none(),
+        };
+    };
+    let chain = walked.chain;
+    let request = chain.request;
+    let reply = chain.reply;
+    Room {
+        fits: has_room(m, request, reply),
+        reply: reply,
+    }
+}
+
+// The eight bytes of an event.
+fn event_bytes(code: u32, data: u32) -> [u8; 8]
+    ensures { λ r. ⌜ r ≡ eventBytes code «data» ⌝ }
+{
+    let mut bytes = [0u8; 8];
+    memory::set32(&mut bytes, 0, code);
+    memory::set32(&mut bytes, 4, data);
+    bytes
+}
+
+// The event in the first bytes of the reply, then the used entry.
+fn deliver(
+    m: &mut [u8],
+    page: PageNumber,
+    completed: u16,
+    head: DescriptorNumber,
+    reply: Ranges,
+    code: u32,
+    data: u32,
+) -> Posted
+    ensures { λ r. ⌜ completion (now (m .exit)) r
+        ≡ postingOf (now (m .entry)) page completed (head .0) (rangesOf reply) (eventBytes code «data») ⌝ }
+{
+    let bytes = event_bytes(code, data);
+    let size = queue_size();
+    ring::complete(m, page, size, completed, head, 8, reply, 0, &bytes, 8)
+}
+
+// A chain that has no room, completed with length 0.
+fn pass_over(m: &mut [u8], page: PageNumber, completed: u16, head: DescriptorNumber) -> Posted
+    ensures { λ r. ⌜ completion (now (m .exit)) r ≡ postingOf (now (m .entry)) page completed (head .0) [] [] ⌝ }
+{
+    let size = queue_size();
+    ring::post(m, page, size, completed, head, 0)
+}
+
+// One entry taken and completed; the guest may want an interrupt.
+fn counted(ended: bool, registers: Registers, counters: Counters, posted: Posted) -> Attempt
+    requires { ⌜ FitRegisters registers ⌝ }
+    ensures { λ r. ⌜ (r ≡ attemptOf ended registers counters posted) × FitRegisters (r .registers) ⌝ }
+{
+    let after = Counters {
+        taken: std::num::wrapping_add_u16(counters.taken, 1),
+        completed: posted.completed,
+    };
+    if posted.interrupt {
+        return Attempt {
+            ended: ended,
+            answer: registers::DONE,
+            registers: registers.signal(),
+            counters: after,
+        };
+    }
+    Attempt {
+        ended: ended,
+        answer: registers::DONE,
+        registers: registers,
+        counters: after,
+    }
+}
+
+// The next entry of the event queue, tried.
+fn try_entry(
+    m: &mut [u8],
+    registers: Registers,
+    counters: Counters,
+    code: u32,
+    data: u32,
+) -> Attempt
+    requires { ⌜ FitRegisters registers ⌝ }
+    ensures { λ r. ⌜ ((rest : Rest) → tried code «data» (holding registers counters rest) (now (m .entry)) ≡ triedIn rest r (now (m .exit)))
+        × FitRegisters (r .registers) ⌝ }
+{
+    let page = registers.pages[NUMBER];
+    let size = queue_size();
+    let next = ring::next_head(m, page, size, counters.taken);
+    let ring::Head::At(head) = next else {
+        return Attempt {
+            ended: true,
+            answer: registers::QUEUE_BROKEN,
+            registers: registers.break_down(),
+            counters: counters,
+        };
+    };
+    let indirect = registers.features / registers::HOST_FEATURES % 2 == 1;
+    let room = room_at(m, page, head, indirect);
+    if room.fits {
+        let posted = deliver(m, page, counters.completed, head, room.reply, code, data);
+        return counted(true, registers, counters, posted);
+    }
+    let posted = pass_over(m, page, counters.completed, head);
+    counted(false, registers, counters, posted)
+}
+
+// At most `new` entries, tried one after the other.
+fn try_entries(
+    m: &mut [u8],
+    registers: Registers,
+    counters: Counters,
+    new: u16,
+    code: u32,
+    data: u32,
+) -> Attempt
+    requires { ⌜ FitRegisters registers ⌝ }
+    ensures { λ r. ⌜ ((rest : Rest) → eventRun code «data» new (holding registers counters rest) (now (m .entry)) ≡ resultIn rest r (now (m .exit)))
+        × FitRegisters (r .registers) ⌝ }
+{
+    let mut file = registers;
+    let mut counts = counters;
+    let mut left = new;
+    while 0 < left {
+        let attempt = try_entry(m, file, counts, code, data);
+        if attempt.ended {
+            return attempt;
+        }
+        file = attempt.registers;
+        counts = attempt.counters;
+        left -= 1;
+    }
+    Attempt {
+        ended: true,
+        answer: registers::NO_EVENT_BUFFER,
+        registers: file,
+        counters: counts,
+    }
+}
+
+// The event queue is checked, then its new entries are tried.
+pub fn send(m: &mut [u8], registers: Registers, counters: Counters, code: u32, data: u32) -> Attempt
+    requires { ⌜ FitRegisters registers ⌝ }
+    ensures { λ r. ⌜ ((rest : Rest) → sentOf code «data» (holding registers counters rest) (now (m .entry)) ≡ resultIn rest r (now (m .exit)))
+        × FitRegisters (r .registers) ⌝ }
+{
+    let page = registers.pages[NUMBER];
+    let size = queue_size();
+    let found = ring::check_queue(m, page, size, counters.taken, 0);
+    match found {
+        ring::Check::Idle => Attempt {
+            ended: true,
+            answer: registers::NO_EVENT_BUFFER,
+            registers: registers,
+            counters: counters,
+        },
+        ring::Check::Broken(_) => Attempt {
+            ended: true,
+            answer: registers::QUEUE_BROKEN,
+            registers: registers.break_down(),
+            counters: counters,
+        },
+        ring::Check::New(new) => try_entries(m, registers, counters, new, code, data),
+    }
+}

@@ -1,0 +1,2 @@
+-- The rules run on small cases.
+pub mod Examples

@@ -1,0 +1,278 @@
+-- A flow's steps as the rules have them: moving bytes on both sides.
+use mathlib.Core.Path.{_≡_, refl, sym, _∙_}
+use mathlib.Core.List.{List, [], _∷_, _++_}
+use mathlib.Core.Bool.{Bool, true, false, cond, _&&_, not}
+use Prim.Native.Nat.{ℕ, zero, suc, _+_, _-_, _≤_, _<_, min}
+use native.Mathlib.Nat.{sub-zero, min-eq-left}
+use native.Mathlib.Omega.{arith}
+use lib.Dec.{ltb}
+use borrow.Author.Tests.{lt-ltb}
+use lib.ListN.{length, take, drop, length-take, length-drop, length-map, length-append}
+use lib.Seq.{sets, sets-eq, length-sets, drop-drop, take-all, take-at, drop-at, take-nil, take-add}
+use Rattle.ranges.specs.Ranges.{Sound, rangesOf, total, places, bytesAt, putAt}
+use Rattle.ranges.proofs.Laws.{length-places, take-min}
+use Rattle.card.specs.Fit.{FitMessage}
+use Rattle.card.specs.declared.Message.{Message}
+use Rattle.counts.specs.declared.PageNumber.{PageNumber}
+use Rattle.rules.specs.Counters.{countersOf, isNone}
+use Rattle.rules.specs.Device as rules
+use Rattle.rules.specs.Transfer.{Run, worked, moved, payloadOf, takingOf, statusOf, completed, settled, entered, next, givenUp, isNil, isWell}
+use Rattle.message.specs.Card.{takingIn, messageOf}
+use Rattle.message.specs.Message as message
+use Rattle.message.specs.Message.{answeredOf, FitTaken}
+use Rattle.message.specs.declared.Form.the-variants.{WellFormed}
+use Rattle.message.specs.declared.Taken.{Taken}
+use Rattle.registers.specs.Map.{sizeOf}
+use Rattle.counts.specs.declared.DescriptorNumber.{DescriptorNumber}
+use Rattle.ring.specs.declared.Cause.{Cause}
+use Rattle.ring.specs.declared.Head.{Head}
+use Rattle.ring.specs.Rules.{Completion, headOf}
+use mathlib.Core.Option.{Option, some}
+use Rattle.flow.specs.Flow.{payloadBytes, runOf, advancedBy, endedBy, refusedBy, refusedIn, begunWith, stoppedFlow, Busy, FitFlow}
+use Rattle.flow.specs.declared.Flow.{Flow}
+
+-- ---- parts of lists
+
+module _ {A : Type 0} where
+  -- no more can be taken than there are
+  pub take-least : (room : ℕ) (l : List A) → take room l ≡ take (min room (length l)) l
+  take-least room l = sym (take-min room (length l) l ∙ take-all (length l) (take room l) (rw length-take (omega arith)))
+
+  -- the first part of a list in which some places were written
+  pub take-sets : (l vs : List A) (k : ℕ) → k + length vs ≤ length l → take (k + length vs) (sets l k vs) ≡ take k l ++ vs
+  take-sets l vs k h =
+      rw (sets-eq vs l k h)
+      (take-at (take k l ++ vs) (drop (k + length vs) l) (k + length vs) (rw (length-append, length-take) (omega arith)))
+
+  pub drop-sets : (l vs : List A) (k : ℕ) → k + length vs ≤ length l → drop (k + length vs) (sets l k vs) ≡ drop (k + length vs) l
+  drop-sets l vs k h =
+      rw (sets-eq vs l k h)
+      (drop-at (take k l ++ vs) (drop (k + length vs) l) (k + length vs) (rw (length-append, length-take) (omega arith)))
+
+  -- what is dropped and taken changes places
+  pub drop-take : (n k : ℕ) (l : List A) → drop n (take k l) ≡ take (k - n) (drop n l)
+  drop-take zero k l = rw sub-zero
+  drop-take (suc n) zero l = let e : 0 - suc n ≡ 0 = omega arith in rw e
+  drop-take (suc n) (suc k) [] = rw take-nil
+  drop-take (suc n) (suc k) (x ∷ l) = let e : suc k - suc n ≡ k - n = omega arith in rw (e, drop-take n k l)
+
+at-most : (n a b : ℕ) → n ≡ min a b → n ≤ b
+at-most n a b e = omega arith
+
+sub-both : (a b c : ℕ) → a - (b + c) ≡ a - b - c
+sub-both a b c = omega arith
+
+reaches : (n bytes framing done : ℕ) → n ≤ bytes - framing - done → n ≤ bytes - (framing + done)
+reaches n bytes framing done h = omega arith
+
+reaches-past : (n bytes framing done : ℕ) → n ≤ bytes - framing - done → n ≤ bytes - done
+reaches-past n bytes framing done h = omega arith
+
+module _ (page : PageNumber) (negotiated : Bool) (m host : List ℕ) (f : Flow) (n : ℕ) (busy : Busy f) (inside : f .moved ≤ length host) where
+  -- handing on, in the rules' terms
+  pub handed-on : Sound (f .message .request) → n ≡ min (length host - f .moved) (f .message .request .bytes - 4 - f .message .done)
+      → runOf (advancedBy n f) m (sets host (f .moved) (bytesAt m (take n (drop (4 + f .message .done) (places (rangesOf (f .message .request)))))))
+      ≡ moved (countersOf rules.output) rules.output page negotiated (runOf f m host)
+  unfolding runOf moved payloadOf
+  handed-on s e =
+      let P = places (rangesOf (f .message .request)) in
+      let done = f .message .done in
+      let xs = take n (drop (4 + done) P) in
+      let long : length P ≡ f .message .request .bytes = length-places (rangesOf (f .message .request)) ∙ sym (s .sum) in
+      let k : min (length host - f .moved) (length P - (4 + done)) ≡ n = omega arith in
+      let same : take (length host - f .moved) (drop done (drop 4 P)) ≡ xs =
+      rw (drop-drop, take-least (length host - f .moved) (drop (4 + done) P), length-drop, k) in
+      let few : n ≤ f .message .request .bytes - 4 - done = at-most n _ _ e in
+      let size : length xs ≡ n = rw (length-take, length-drop, long) (min-eq-left (reaches n (f .message .request .bytes) 4 done few)) in
+      let bytes : length (bytesAt m xs) ≡ n = length-map xs _ ∙ size in
+      let a : take (f .moved + n) (sets host (f .moved) (bytesAt m xs)) ≡ take (f .moved) host ++ bytesAt m xs =
+      rw bytes at (take-sets host (bytesAt m xs) (f .moved) (omega arith)) in
+      let b : drop (f .moved + n) (sets host (f .moved) (bytesAt m xs)) ≡ drop n (drop (f .moved) host) =
+      rw bytes at (drop-sets host (bytesAt m xs) (f .moved) (omega arith)) ∙ sym (drop-drop n (f .moved) host) in
+      let c : length (sets host (f .moved) (bytesAt m xs)) - (f .moved + n) ≡ length host - f .moved - n = rw length-sets (sub-both (length host) (f .moved) n) in
+      rw (busy, same, size, a, b, c)
+
+  -- filling, in the rules' terms
+  pub filled : Sound (f .message .reply) → n ≡ min (length host - f .moved) (f .message .reply .bytes - 8 - f .message .done)
+      → runOf (advancedBy n f) (putAt m (take n (drop (f .message .done) (places (rangesOf (f .message .reply))))) (drop (f .moved) host)) host
+      ≡ moved (countersOf rules.input) rules.input page negotiated (runOf f m host)
+  unfolding runOf moved payloadOf
+  filled s e =
+      let P = places (rangesOf (f .message .reply)) in
+      let done = f .message .done in
+      let xs = take n (drop done P) in
+      let long : length P ≡ f .message .reply .bytes = length-places (rangesOf (f .message .reply)) ∙ sym (s .sum) in
+      let t : total (rangesOf (f .message .reply)) ≡ f .message .reply .bytes = sym (s .sum) in
+      let k : min (f .message .reply .bytes - 8 - done) (length host - f .moved) ≡ n = omega arith in
+      let same : take (length host - f .moved) (drop done (take (total (rangesOf (f .message .reply)) - 8) P)) ≡ xs =
+      rw (t, drop-take, ← (take-min (f .message .reply .bytes - 8 - done) (length host - f .moved) (drop done P)), k) in
+      let few : n ≤ f .message .reply .bytes - 8 - done = at-most n _ _ e in
+      let size : length xs ≡ n = rw (length-take, length-drop, long) (min-eq-left (reaches-past n (f .message .reply .bytes) 8 done few)) in
+      let a : take (f .moved) host ++ take n (drop (f .moved) host) ≡ take (f .moved + n) host = sym (take-add (f .moved) n host) in
+      let b : drop n (drop (f .moved) host) ≡ drop (f .moved + n) host = drop-drop n (f .moved) host in
+      let c : length host - f .moved - n ≡ length host - (f .moved + n) = sym (sub-both (length host) (f .moved) n) in
+      rw (busy, same, size, a, b, c)
+
+-- what a message moved keeps
+stays-short : (done bytes framing n : ℕ) → done ≤ 1048576 → bytes ≤ 1048576 → n ≤ bytes - framing - done → done + n ≤ 1048576
+stays-short done bytes framing n h k l = omega arith
+
+stays-inside : (moved room n b : ℕ) → moved ≤ room → n ≡ min (room - moved) b → moved + n ≤ room
+stays-inside moved room n b h e = omega arith
+
+pub advanced-fit : (len room : ℕ) (f : Flow) (n bytes framing : ℕ) → FitFlow len room f → bytes ≤ 1048576
+    → n ≡ min (room - f .moved) (bytes - framing - f .message .done) → FitFlow len room (advancedBy n f)
+advanced-fit len room f n bytes framing t b e =
+    let g = t .message in
+    let h = stays-short (f .message .done) bytes framing n (g .moved) b (at-most n _ _ e) in
+    let k = stays-inside (f .moved) room n _ (t .inside) e in
+    record {
+      message =
+          record {
+            one = g .one;
+            request = g .request;
+            reply = g .reply;
+            few = g .few;
+            short-request = g .short-request;
+            short-reply = g .short-reply;
+            moved = h;
+            request-inside = g .request-inside;
+            reply-inside = g .reply-inside;
+          };
+      inside = k;
+    }
+
+-- ---- a completion
+
+-- the message's count gone, with the counters and the interrupt of a completion
+pub ended-run : (d : rules.Direction) (page : PageNumber) (negotiated : Bool) (e : rules.Ending) (code : ℕ) (m host : List ℕ) (f : Flow) → Busy f
+    → some code ≡ statusOf d e rules.wellFormed
+    → runOf (endedBy (answeredOf d m page (f .counters .completed) (f .message .head .0) (rangesOf (f .message .reply)) (some code) (f .message .done)) f)
+    (answeredOf d m page (f .counters .completed) (f .message .head .0) (rangesOf (f .message .reply)) (some code) (f .message .done) .memory) host
+    ≡ completed (countersOf d) d page negotiated e (runOf f m host)
+unfolding runOf completed answeredOf
+ended-run d page negotiated e code m host f busy s = rw (busy, ← s)
+
+pub ended-fit : (len : ℕ) (c : Completion) (f : Flow) → FitMessage len (f .message) → FitMessage len (endedBy c f .message)
+ended-fit len c f g =
+    record {
+      one = omega arith;
+      request = g .request;
+      reply = g .reply;
+      few = g .few;
+      short-request = g .short-request;
+      short-reply = g .short-reply;
+      moved = g .moved;
+      request-inside = g .request-inside;
+      reply-inside = g .reply-inside;
+    }
+
+-- what waits of a message in work
+pub left-length : (d : rules.Direction) (message : Message) → Sound (message .request) → Sound (message .reply)
+    → length (drop (message .done) (payloadOf d (takingIn message))) ≡ payloadBytes d message - message .done
+unfolding payloadOf
+left-length rules.output message s t = rw (length-drop, length-drop, length-places, ← (s .sum))
+left-length rules.input message s t = rw (length-drop, length-take, length-places, ← (t .sum)) (omega arith)
+
+nil-of : (l : List ℕ) → length l ≡ 0 → isNil l ≡ true
+nil-of [] h = refl
+nil-of (x ∷ l) h = absurd (omega arith)
+
+not-nil : (l : List ℕ) → 0 < length l → isNil l ≡ false
+not-nil [] h = absurd (omega arith)
+not-nil (x ∷ l) h = refl
+
+module _ (d : rules.Direction) (page : PageNumber) (negotiated : Bool) (m host : List ℕ) (f : Flow) (busy : Busy f) (g : FitMessage (length m) (f .message)) where
+  pub settled-now : payloadBytes d (f .message) - f .message .done ≡ 0
+      → settled (countersOf d) d page negotiated (runOf f m host) ≡ completed (countersOf d) d page negotiated rules.finished (runOf f m host)
+  unfolding runOf
+  settled-now h = rw (busy, nil-of (drop (f .message .done) (payloadOf d (takingIn (f .message)))) (left-length d (f .message) (g .request) (g .reply) ∙ h))
+
+  pub settled-later : 0 < payloadBytes d (f .message) - f .message .done → settled (countersOf d) d page negotiated (runOf f m host) ≡ runOf f m host
+  unfolding runOf
+  settled-later h = rw (busy, not-nil (drop (f .message .done) (payloadOf d (takingIn (f .message)))) (rw (left-length d (f .message) (g .request) (g .reply)) h))
+
+-- an ill-formed chain
+pub refused-run : (d : rules.Direction) (page : PageNumber) (negotiated : Bool) (t : rules.Taking) (status : Option ℕ) (m host : List ℕ) (f : Flow)
+    → f .message .count ≡ 0 → status ≡ statusOf d rules.illFormed (t .form)
+    → runOf (refusedBy (answeredOf d m page (f .counters .completed) (t .head) (t .reply) status 0) f)
+    (answeredOf d m page (f .counters .completed) (t .head) (t .reply) status 0 .memory) host
+    ≡ refusedIn d page negotiated t (runOf f m host)
+unfolding runOf completed answeredOf
+refused-run d page negotiated t status m host f free s = rw (free, s)
+
+-- a well-formed message begun
+pub begun-run : (d : rules.Direction) (page : PageNumber) (negotiated : Bool) (t : Taken) (m host : List ℕ) (f : Flow) → t .form ≡ WellFormed
+    → runOf (begunWith t f) m host ≡ entered (countersOf d) d page negotiated (message.takingIn t) (runOf f m host)
+unfolding runOf entered
+begun-run d page negotiated t m host f w = rw w
+
+pub begun-fit : (len : ℕ) (t : Taken) (f : Flow) → t .form ≡ WellFormed → FitTaken len t → FitMessage len (begunWith t f .message)
+begun-fit len t f w g =
+    record {
+      one = omega arith;
+      request = g .request;
+      reply = g .reply;
+      few = g .few;
+      short-request = g .short-request;
+      short-reply = g .short-reply;
+      moved = omega arith;
+      request-inside = g .request-inside w;
+      reply-inside = g .reply-inside w;
+    }
+
+-- an ill-formed one refused
+pub refused-entered : (d : rules.Direction) (page : PageNumber) (negotiated : Bool) (t : rules.Taking) (r : Run rules.Queue) → isWell (t .form) ≡ false
+    → entered (countersOf d) d page negotiated t r ≡ refusedIn d page negotiated t r
+unfolding entered
+refused-entered d page negotiated t r w = rw w
+
+-- the next entry by its head
+module _ (d : rules.Direction) (page : PageNumber) (negotiated : Bool) (m host : List ℕ) (f : Flow) where
+  pub next-taken : (n : DescriptorNumber) → headOf m page (sizeOf (rules.queueNumber d)) (f .counters .taken) ≡ Head.At n
+      → next (countersOf d) d page negotiated (runOf f m host)
+      ≡ entered (countersOf d) d page negotiated (takingOf d m page negotiated (n .0)) (runOf f m host)
+  unfolding next runOf
+  next-taken n h = rw h
+
+  pub next-stopped : (cause : Cause) → headOf m page (sizeOf (rules.queueNumber d)) (f .counters .taken) ≡ Head.Broken cause
+      → next (countersOf d) d page negotiated (runOf f m host) ≡ runOf (stoppedFlow f) m host
+  unfolding next runOf
+  next-stopped cause h = rw h
+
+-- a Release of the message in work
+module _ (d : rules.Direction) (page : PageNumber) (negotiated : Bool) (m host : List ℕ) (f : Flow) where
+  pub given-none : f .message .count ≡ 0 → givenUp (countersOf d) d page negotiated (runOf f m host) ≡ runOf f m host
+  unfolding runOf
+  given-none h = rw h
+
+  pub given-one : f .message .count ≡ 1
+      → givenUp (countersOf d) d page negotiated (runOf f m host) ≡ completed (countersOf d) d page negotiated rules.released (runOf f m host)
+  unfolding runOf
+  given-one h = rw h
+
+-- work by what there is: no room, no message, or both
+module _ (d : rules.Direction) (page : PageNumber) (negotiated : Bool) (m host : List ℕ) (f : Flow) where
+  pub worked-full : length host ≤ f .moved → worked (countersOf d) d page negotiated (runOf f m host) ≡ runOf f m host
+  unfolding runOf
+  worked-full h = let z : length host - f .moved ≡ 0 = omega arith in rw z
+
+  pub worked-idle : f .message .count ≡ 0 → worked (countersOf d) d page negotiated (runOf f m host) ≡ runOf f m host
+  unfolding runOf
+  worked-idle h = by (ltb 0 (length host - f .moved)) where
+    by : (b : Bool) → cond (b && not (isNone (messageOf (f .message)))) (settled (countersOf d) d page negotiated (moved (countersOf d) d page negotiated (runOf f m host))) (runOf f m host) ≡ runOf f m host
+    by true = rw h
+    by false = refl
+
+  pub worked-busy : f .moved < length host → f .message .count ≡ 1
+      → worked (countersOf d) d page negotiated (runOf f m host) ≡ settled (countersOf d) d page negotiated (moved (countersOf d) d page negotiated (runOf f m host))
+  unfolding runOf
+  worked-busy h b = rw (lt-ltb 0 (length host - f .moved) (omega arith), b)
+
+-- a count of at most one that is not none
+pub one-left : (n : ℕ) → n ≤ 1 → (n ≡ 0 → ⊥) → n ≡ 1
+one-left n h k = omega arith
+
+-- a flow after a step beside the host
+pub fit-beside : (len room moved : ℕ) (r : Flow) → FitMessage len (r .message) → r .moved ≡ moved → moved ≤ room → FitFlow len room r
+fit-beside len room moved r g e h = record { message = g; inside = rw e h }

@@ -1,0 +1,2 @@
+-- Laws of flows.
+pub mod Laws

@@ -1,0 +1,50 @@
+-- One completion, whose counters and interrupt the flow takes over.
+use mathlib.Core.Path.{_≡_, refl, ap}
+use borrow.Author.Needs.{needs}
+use mathlib.Core.Option.{some}
+use Rattle.message.specs.Message.{directionOf, answeredOf}
+use Rattle.ranges.specs.Ranges.{rangesOf}
+use Rattle.ring.specs.Rules.{Completion, completion}
+use Rattle.flow.specs.Flow.{endingOf}
+use Rattle.flow.proofs.Laws.{ended-run, ended-fit}
+use Rattle.flow.proofs.end_message.Statement.{statement}
+use Rattle.flow.proofs.end_message.Tie as tie
+
+status-of-requires : tie.Need-status-of-requires
+status-of-requires c κs = search needs
+
+answer-requires : tie.Need-answer-requires
+answer-requires c κs = search needs
+
+either-requires : tie.Need-either-requires
+either-requires c κs = search needs
+
+same-length : tie.Need-same-length
+same-length c = search needs
+
+returns : tie.Need-returns
+returns c =
+    let s = c .before .before .before .before .before .before .before .before .before .before in
+    let a = s .args in
+    let f = a .f in
+    let code = c .before .before .before .before .before .before .status-of .result in
+    let k : Completion =
+    answeredOf (directionOf (a .q .direction)) (a .m .now) (a .q .page) (f .counters .completed) (f .message .head .0) (rangesOf (f .message .reply)) (some code) (f .message .done) in
+    let e : completion (c .before .before .before .answer .last .0) (c .before .before .before .answer .result) ≡ k = c .before .before .before .answer .ensures in
+    let em : c .before .before .before .answer .last .0 ≡ k .memory = ap (λ (x : Completion). x .memory) e in
+    let ec : c .before .before .before .answer .result .completed ≡ k .completed = ap (λ (x : Completion). x .completed) e in
+    let ei : c .before .before .before .answer .result .interrupt ≡ k .interrupt = ap (λ (x : Completion). x .interrupt) e in
+    record {
+      steps = record {
+        run = λ host. rw (c .either .ensures, em, ec, ei)
+            (ended-run (directionOf (a .q .direction)) (a .q .page) (a .q .indirect) (endingOf (a .ending)) code (a .m .now) host f (s .pre .0) (c .before .before .before .before .before .before .status-of .ensures));
+        message = ended-fit _ k f (s .pre .1);
+        moved = refl;
+        long = c .before .before .before .answer .kept .0;
+      };
+      free = refl;
+    }
+
+pub end-message-spec : {M : Type 1} → statement M
+end-message-spec =
+    tie.close (tie.spec status-of-requires answer-requires either-requires same-length returns)

@@ -1,0 +1,87 @@
+-- The form decides.
+use mathlib.Core.Path.{_∙_, sym, refl}
+use borrow.Author.Needs.{needs}
+use Rattle.message.specs.Message.{directionOf, takingIn}
+use Rattle.flow.proofs.Laws.{begun-run, begun-fit, refused-entered}
+use Rattle.flow.proofs.enter.Statement.{statement}
+use Rattle.flow.proofs.enter.Tie as tie
+
+enum-told : tie.Need-enum-told
+enum-told c = search needs
+
+begin-requires : tie.Need-begin-requires
+begin-requires c κs = search needs
+
+enum-told-2 : tie.Need-enum-told-2
+enum-told-2 c = search needs
+
+refuse-requires : tie.Need-refuse-requires
+refuse-requires c κs =
+    let s = c .before .before .before .before in (s .pre .1, s .pre .2, rw (c .before .enum-told2 .given .1))
+
+enum-told-3 : tie.Need-enum-told-3
+enum-told-3 c = search needs
+
+refuse-requires-2 : tie.Need-refuse-requires-2
+refuse-requires-2 c κs =
+    let s = c .before .before .before .before in (s .pre .1, s .pre .2, rw (c .before .enum-told3 .given .1))
+
+returns : tie.Need-returns
+returns c =
+    let s = c .before .before .before .before in
+    let a = s .args in
+    let w = c .before .enum-told .given .1 in
+    record {
+      run = λ host. rw (c .begin .ensures) (begun-run (directionOf (a .q .direction)) (a .q .page) (a .q .indirect) (a .taken) (a .m .now) host (a .f) w);
+      message = rw (c .begin .ensures) (begun-fit _ (a .taken) (a .f) w (s .pre .1));
+      moved = rw (c .begin .ensures);
+      long = refl;
+    }
+
+same-length : tie.Need-same-length
+same-length c = search needs
+
+returns-2 : tie.Need-returns-2
+returns-2 c =
+    let s = c .before .before .before .before .before .before .before in
+    let a = s .args in
+    let t = c .before .before .refuse .ensures (s .pre .0) in
+    record {
+      run = λ host. t .run host
+          ∙ sym (refused-entered (directionOf (a .q .direction)) (a .q .page) (a .q .indirect) (takingIn (a .taken)) _ (rw (c .before .before .before .before .enum-told2 .given .1)));
+      message = t .message;
+      moved = t .moved;
+      long = t .long;
+    }
+
+same-length-2 : tie.Need-same-length-2
+same-length-2 c = search needs
+
+returns-3 : tie.Need-returns-3
+returns-3 c =
+    let s = c .before .before .before .before .before .before .before in
+    let a = s .args in
+    let t = c .before .before .refuse2 .ensures (s .pre .0) in
+    record {
+      run = λ host. t .run host
+          ∙ sym (refused-entered (directionOf (a .q .direction)) (a .q .page) (a .q .indirect) (takingIn (a .taken)) _ (rw (c .before .before .before .before .enum-told3 .given .1)));
+      message = t .message;
+      moved = t .moved;
+      long = t .long;
+    }
+
+pub enter-spec : {M : Type 1} → statement M
+enter-spec =
+    tie.close
+    (tie.spec
+    enum-told
+    begin-requires
+    enum-told-2
+    refuse-requires
+    enum-told-3
+    refuse-requires-2
+    returns
+    same-length
+    returns-2
+    same-length-2
+    returns-3)

@@ -1,0 +1,55 @@
+-- The bytes scattered are the rule's, and host and message move on together.
+use mathlib.Core.Path.{_≡_}
+use Prim.Native.Nat.{_-_, min}
+use borrow.Author.Needs.{needs}
+use lib.ListN.{length}
+use Rattle.flow.proofs.Laws.{filled, advanced-fit}
+use Rattle.flow.proofs.fill.Statement.{statement}
+use Rattle.flow.proofs.fill.Tie as tie
+
+sub-least : tie.Need-sub-least
+sub-least c = search needs
+
+waiting-requires : tie.Need-waiting-requires
+waiting-requires c κs = search needs
+
+least-requires : tie.Need-least-requires
+least-requires c κs = search needs
+
+cast-scatter : tie.Need-cast-scatter
+cast-scatter c = search needs
+
+scatter-requires : tie.Need-scatter-requires
+scatter-requires c κs = search needs
+
+advanced-requires : tie.Need-advanced-requires
+advanced-requires c κs = search needs
+
+same-length : tie.Need-same-length
+same-length c = search needs
+
+returns : tie.Need-returns
+returns c =
+    let s = c .before .before .before .before .before .before .before .before .before .before .before .before in
+    let a = s .args in
+    let f = a .f in
+    let n = c .before .before .before .before .before .before .least .result in
+    let e : n ≡ min (length (a .host .now) - f .moved) (f .message .reply .bytes - 8 - f .message .done) = rw (← (c .before .before .before .before .before .before .before .waiting .ensures)) (c .before .before .before .before .before .before .least .ensures) in (
+      rw (c .advanced .ensures, c .before .before .before .scatter .ensures)
+          (filled (a .q .page) (a .q .indirect) (a .m .now) (a .host .now) f n (s .pre .0) (s .pre .1 .inside) (s .pre .1 .message .reply) e),
+      rw (c .advanced .ensures) (s .pre .0),
+      rw (c .advanced .ensures) (advanced-fit _ _ f n _ 8 (s .pre .1) (s .pre .1 .message .short-reply) e),
+    )
+
+pub fill-spec : {M : Type 1} → statement M
+fill-spec =
+    tie.close
+    (tie.spec
+    sub-least
+    waiting-requires
+    least-requires
+    cast-scatter
+    scatter-requires
+    advanced-requires
+    same-length
+    returns)

@@ -1,0 +1,46 @@
+-- One completion beside the message in work, which there is none of.
+use mathlib.Core.Path.{_≡_, refl, ap}
+use borrow.Author.Needs.{needs}
+use Rattle.message.specs.Message.{directionOf, takingIn, statusIn, answeredOf}
+use Rattle.ranges.specs.Ranges.{rangesOf}
+use Rattle.ring.specs.Rules.{Completion, completion}
+use Rattle.flow.proofs.Laws.{refused-run}
+use Rattle.flow.proofs.refuse.Statement.{statement}
+use Rattle.flow.proofs.refuse.Tie as tie
+
+answer-requires : tie.Need-answer-requires
+answer-requires c κs = search needs
+
+wrapping-add-u16-requires : tie.Need-wrapping-add-u16-requires
+wrapping-add-u16-requires c κs = search needs
+
+either-requires : tie.Need-either-requires
+either-requires c κs = search needs
+
+same-length : tie.Need-same-length
+same-length c = search needs
+
+returns : tie.Need-returns
+returns c =
+    let s = c .before .before .before .before .before .before .before .before .before .before in
+    let a = s .args in
+    let f = a .f in
+    let k : Completion =
+    answeredOf (directionOf (a .q .direction)) (a .m .now) (a .q .page) (f .counters .completed) (a .taken .head .0) (rangesOf (a .taken .reply)) (statusIn (a .status)) 0 in
+    let e : completion (c .before .before .before .before .answer .last .0) (c .before .before .before .before .answer .result) ≡ k = c .before .before .before .before .answer .ensures in
+    let em : c .before .before .before .before .answer .last .0 ≡ k .memory = ap (λ (x : Completion). x .memory) e in
+    let ec : c .before .before .before .before .answer .result .completed ≡ k .completed = ap (λ (x : Completion). x .completed) e in
+    let ei : c .before .before .before .before .answer .result .interrupt ≡ k .interrupt = ap (λ (x : Completion). x .interrupt) e in
+    λ free.
+    record {
+      run = λ host. rw (c .either .ensures, c .before .wrapping-add-u16 .ensures, em, ec, ei)
+          (refused-run (directionOf (a .q .direction)) (a .q .page) (a .q .indirect) (takingIn (a .taken)) (statusIn (a .status)) (a .m .now) host f free (s .pre .2));
+      message = s .pre .1;
+      moved = refl;
+      long = c .before .before .before .before .answer .kept .0;
+    }
+
+pub refuse-spec : {M : Type 1} → statement M
+refuse-spec =
+    tie.close
+    (tie.spec answer-requires wrapping-add-u16-requires either-requires same-length returns)

@@ -1,0 +1,57 @@
+-- Without bytes or message nothing happens; else the message is filled and settled.
+use mathlib.Core.Path.{_∙_, sym, refl}
+use borrow.Author.Needs.{needs}
+use Rattle.rules.specs.Device as rules
+use Rattle.flow.proofs.Laws.{worked-full, worked-idle, worked-busy, one-left, fit-beside}
+use Rattle.flow.proofs.work_capture.Statement.{statement}
+use Rattle.flow.proofs.work_capture.Tie as tie
+
+returns : tie.Need-returns
+returns c =
+    let s = c .before .before .before .before in
+    let a = s .args in
+    record {
+      run = sym (worked-full rules.input (a .q .page) (a .q .indirect) (a .m .now) (a .host .now) (a .f) (c .if1 .taken));
+      fit = s .pre .1;
+      long = refl;
+      host-long = refl;
+    }
+
+returns-2 : tie.Need-returns-2
+returns-2 c =
+    let s = c .before .before .before .before .before .before in
+    let a = s .args in
+    record {
+      run = sym (worked-idle rules.input (a .q .page) (a .q .indirect) (a .m .now) (a .host .now) (a .f) (c .if2 .taken));
+      fit = s .pre .1;
+      long = refl;
+      host-long = refl;
+    }
+
+fill-requires : tie.Need-fill-requires
+fill-requires c κs = search needs
+
+settle-requires : tie.Need-settle-requires
+settle-requires c κs = let h = c .before .before .before .fill in (h .ensures .1, rw (h .kept .0) (h .ensures .2 .message))
+
+same-length : tie.Need-same-length
+same-length c = search needs
+
+returns-3 : tie.Need-returns-3
+returns-3 c =
+    let s = c .before .before .before .before .before .before .before .before .before .before .before .before .before .before in
+    let a = s .args in
+    let h = c .before .before .before .before .before .before .fill in
+    let t = c .before .before .settle .ensures in
+    let busy = one-left (a .f .message .count) (s .pre .1 .message .one) (c .before .before .before .before .before .before .before .before .if2 .left) in
+    let w = worked-busy rules.input (a .q .page) (a .q .indirect) (a .m .now) (a .host .now) (a .f) (c .before .before .before .before .before .before .before .before .before .before .if1 .left) busy in
+    record {
+      run = rw (w, ← (h .ensures .0)) (rw (s .pre .0) at (t .run (a .host .now)));
+      fit = fit-beside _ _ _ (c .before .before .settle .result) (rw (h .kept .0) at (t .message)) (t .moved) (h .ensures .2 .inside);
+      long = t .long ∙ h .kept .0;
+      host-long = refl;
+    }
+
+pub work-capture-spec : {M : Type 1} → statement M
+work-capture-spec =
+    tie.close (tie.spec returns returns-2 fill-requires settle-requires same-length returns-3)

@@ -1,0 +1,68 @@
+-- Without room or message nothing happens; else the message is handed on and settled.
+use mathlib.Core.Path.{sym, refl}
+use borrow.Author.Needs.{needs}
+use Rattle.rules.specs.Device as rules
+use Rattle.flow.proofs.Laws.{worked-full, worked-idle, worked-busy, one-left, fit-beside}
+use Rattle.flow.proofs.work_play.Statement.{statement}
+use Rattle.flow.proofs.work_play.Tie as tie
+
+returns : tie.Need-returns
+returns c =
+    let s = c .before .before .before .before in
+    let a = s .args in
+    record {
+      run = sym (worked-full rules.output (a .q .page) (a .q .indirect) (a .m .now) (a .host .now) (a .f) (c .if1 .taken));
+      fit = s .pre .1;
+      long = refl;
+      host-long = refl;
+    }
+
+returns-2 : tie.Need-returns-2
+returns-2 c =
+    let s = c .before .before .before .before .before .before in
+    let a = s .args in
+    record {
+      run = sym (worked-idle rules.output (a .q .page) (a .q .indirect) (a .m .now) (a .host .now) (a .f) (c .if2 .taken));
+      fit = s .pre .1;
+      long = refl;
+      host-long = refl;
+    }
+
+hand-on-requires : tie.Need-hand-on-requires
+hand-on-requires c κs = search needs
+
+settle-requires : tie.Need-settle-requires
+settle-requires c κs = search needs
+
+same-length : tie.Need-same-length
+same-length c = search needs
+
+same-length-2 : tie.Need-same-length-2
+same-length-2 c = search needs
+
+returns-3 : tie.Need-returns-3
+returns-3 c =
+    let s = c .before .before .before .before .before .before .before .before .before .before .before .before .before .before .before in
+    let a = s .args in
+    let h = c .before .before .before .before .before .before .hand-on in
+    let t = c .before .before .settle .ensures in
+    let busy = one-left (a .f .message .count) (s .pre .1 .message .one) (c .before .before .before .before .before .before .before .before .before .if2 .left) in
+    let w = worked-busy rules.output (a .q .page) (a .q .indirect) (a .m .now) (a .host .now) (a .f) (c .before .before .before .before .before .before .before .before .before .before .before .if1 .left) busy in
+    record {
+      run = rw (w, ← (h .ensures .0)) (rw (s .pre .0) at (t .run (h .last .1 .0)));
+      fit = fit-beside _ _ _ (c .before .before .settle .result) (t .message) (t .moved) (h .ensures .2 .inside);
+      long = t .long;
+      host-long = h .kept .1 .0;
+    }
+
+pub work-play-spec : {M : Type 1} → statement M
+work-play-spec =
+    tie.close
+    (tie.spec
+    returns
+    returns-2
+    hand-on-requires
+    settle-requires
+    same-length
+    same-length-2
+    returns-3)

@@ -1,0 +1,139 @@
+-- What the code's structs stand for: a stream's queue and a call's progress on it, as the rules' `Queue` and `Run`.
+use mathlib.Core.Path.{_≡_}
+use mathlib.Core.Bool.{Bool, true, false, _||_}
+use mathlib.Core.List.{List}
+use Prim.Native.Nat.{ℕ, _+_, _-_, _%_, _≤_}
+use lib.ListN.{length, take, drop}
+use Rattle.ring.specs.Rules.{Completion}
+use Rattle.card.specs.Fit.{FitMessage}
+use Rattle.card.specs.declared.Counters.{Counters}
+use Rattle.card.specs.declared.Message.{Message}
+use Rattle.message.specs.Card.{queueOf}
+use Rattle.message.specs.declared.Taken.{Taken}
+use Rattle.rules.specs.Device as rules
+use Rattle.rules.specs.Transfer.{Run, completed, taking}
+use Rattle.rules.specs.Counters.{countersOf}
+use Rattle.counts.specs.declared.PageNumber.{PageNumber}
+use Rattle.flow.specs.declared.Ending.{Ending}
+use Rattle.flow.specs.declared.Ending.the-variants.{Finished, Released}
+use Rattle.flow.specs.declared.Flow.{Flow}
+
+-- ---- messages
+
+abbrev pub endingOf : Ending → rules.Ending
+endingOf Finished = rules.finished
+endingOf Released = rules.released
+
+-- how long the payload is: "the request past 4 bytes, for capture the reply before its last 8"
+abbrev pub payloadBytes : rules.Direction → Message → ℕ
+payloadBytes rules.output m = m .request .bytes - 4
+payloadBytes rules.input m = m .reply .bytes - 8
+
+-- ---- a call's progress: memory and the host buffer as they are now; the first `moved` of the host's bytes are done
+
+unfoldable pub runOf : Flow → List ℕ → List ℕ → Run rules.Queue
+runOf f m host =
+    record {
+      queue = queueOf (f .counters) (f .message);
+      mem = m;
+      bytes = take (f .moved) host;
+      host = drop (f .moved) host;
+      room = length host - f .moved;
+      sound = f .sound;
+      signal = f .signal;
+    }
+
+-- a message is in work
+abbrev pub Busy : Flow → Type 0
+Busy f = f .message .count ≡ 1
+
+-- what holds of a flow between two steps, over a memory of `len` bytes and a host buffer of `room`: the message is fit, no
+-- more was moved than the host has
+pub record FitFlow (len room : ℕ) (f : Flow) : Type 0 where
+  pub message : FitMessage len (f .message)
+  pub inside : f .moved ≤ room
+
+-- a flow that begins
+abbrev pub freshFlow : Counters → Message → Flow
+freshFlow c m = record { counters = c; message = m; moved = 0; sound = true; signal = false }
+
+-- n bytes more of the message and of the host
+abbrev pub advancedBy : ℕ → Flow → Flow
+advancedBy n f =
+    record {
+      counters = f .counters;
+      message =
+          record {
+            count = f .message .count;
+            head = f .message .head;
+            done = f .message .done + n;
+            request = f .message .request;
+            reply = f .message .reply;
+          };
+      moved = f .moved + n;
+      sound = f .sound;
+      signal = f .signal;
+    }
+
+-- the message in work gone, with the counters and the interrupt of its completion
+abbrev pub endedBy : Completion → Flow → Flow
+endedBy c f =
+    record {
+      counters = record { taken = f .counters .taken; completed = c .completed };
+      message =
+          record { count = 0; head = f .message .head; done = f .message .done; request = f .message .request; reply = f .message .reply };
+      moved = f .moved;
+      sound = f .sound;
+      signal = f .signal || c .interrupt;
+    }
+
+-- a well-formed message in work, nothing of it moved
+abbrev pub begunWith : Taken → Flow → Flow
+begunWith t f =
+    record {
+      counters = record { taken = (f .counters .taken + 1) % 65536; completed = f .counters .completed };
+      message = record { count = 1; head = t .head; done = 0; request = t .request; reply = t .reply };
+      moved = f .moved;
+      sound = f .sound;
+      signal = f .signal;
+    }
+
+-- a bad head was met
+abbrev pub stoppedFlow : Flow → Flow
+stoppedFlow f = record { counters = f .counters; message = f .message; moved = f .moved; sound = false; signal = f .signal }
+
+-- an entry taken and completed, no message in work
+abbrev pub refusedBy : Completion → Flow → Flow
+refusedBy c f =
+    record {
+      counters = record { taken = (f .counters .taken + 1) % 65536; completed = c .completed };
+      message = f .message;
+      moved = f .moved;
+      sound = f .sound;
+      signal = f .signal || c .interrupt;
+    }
+
+-- ---- what a step of the code does, for any host buffer: the rules' step, the message fit, the host as it was
+
+pub record Steps (step : Run rules.Queue → Run rules.Queue) (m : List ℕ) (f : Flow) (m′ : List ℕ) (r : Flow) : Type 0 where
+  pub run : (host : List ℕ) → runOf r m′ host ≡ step (runOf f m host)
+  pub message : FitMessage (length m) (r .message)
+  pub moved : r .moved ≡ f .moved
+  pub long : length m′ ≡ length m
+
+-- the same where the host's buffer takes part
+pub record StepsOn (step : Run rules.Queue → Run rules.Queue) (m host : List ℕ) (f : Flow) (m′ host′ : List ℕ) (r : Flow) : Type 0 where
+  pub run : runOf r m′ host′ ≡ step (runOf f m host)
+  pub fit : FitFlow (length m) (length host) r
+  pub long : length m′ ≡ length m
+  pub host-long : length host′ ≡ length host
+
+-- a message in work completed: no message is in work after it
+pub record Ends (d : rules.Direction) (page : PageNumber) (negotiated : Bool) (e : rules.Ending) (m : List ℕ) (f : Flow) (m′ : List ℕ) (r : Flow) : Type 0 where
+  pub steps : Steps (completed (countersOf d) d page negotiated e) m f m′ r
+  pub free : r .message .count ≡ 0
+
+-- an ill-formed chain taken and completed
+abbrev pub refusedIn : rules.Direction → PageNumber → Bool → rules.Taking → Run rules.Queue → Run rules.Queue
+refusedIn d page negotiated t r =
+    completed (countersOf d) d page negotiated rules.illFormed (taking (countersOf d) d page negotiated t r)

@@ -1,0 +1,2 @@
+-- What the structs of a flow stand for in the rules.
+pub mod Flow

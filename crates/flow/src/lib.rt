@@ -1,0 +1,304 @@
+// The steps of a stream's queue (01, "Play, capture, events"): the next entry is taken, the message in
+// work handed to the host or filled from it, completed where nothing of it waits, or ended by a
+// Release. Payload moves in runs.
+ghost use mathlib.Core.Path.{_≡_};
+ghost use Prim.Native.Nat.{_+_, _-_, _≤_, _<_, min};
+ghost use lib.ListN.{length};
+ghost use Rattle.message.specs.Message.{directionOf, formIn, statusIn, takingIn, FitTaken};
+ghost use Rattle.rules.specs.Counters.{countersOf};
+ghost use Rattle.rules.specs.Device.{output, input, wellFormed, illFormed};
+ghost use Rattle.card.specs.Fit.{FitMessage};
+ghost use mathlib.Core.Option.{some};
+ghost use mathlib.Core.Bool.{_||_};
+ghost use Rattle.rules.specs.Transfer.{moved, settled, entered, worked, givenUp, next, statusOf};
+ghost use Rattle.flow.specs.Flow.{runOf, FitFlow, Busy, payloadBytes, endingOf, advancedBy, begunWith, Steps, StepsOn, Ends, refusedIn};
+use card::Counters;
+use card::Message;
+use counts::DescriptorNumber;
+use message::Direction;
+use message::Form;
+use message::Status;
+use message::Taken;
+use message::Virtqueue;
+
+// A call's progress on a queue: its counters and message in work, the host bytes moved so far, no
+// bad head met, an interrupt wanted.
+pub struct Flow {
+    pub counters: Counters,
+    pub message: Message,
+    pub moved: usize,
+    pub sound: bool,
+    pub signal: bool,
+}
+
+// Why a message in work is completed: its payload was moved, or a Release ends it.
+pub enum Ending {
+    Finished,
+    Released,
+}
+
+fn least(a: usize, b: usize) -> usize
+    ensures { λ r. ⌜ r ≡ min a b ⌝ }
+{
+    if a <= b {
+        return a;
+    }
+    b
+}
+
+// How many bytes of the message's payload wait.
+fn waiting(d: Direction, message: Message) -> usize
+    ensures { λ r. ⌜ r ≡ payloadBytes (directionOf d) message - message .done ⌝ }
+{
+    let request = message.request;
+    let reply = message.reply;
+    match d {
+        Direction::Output => beyond(request.bytes, 4, message.done),
+        Direction::Input => beyond(reply.bytes, 8, message.done),
+    }
+}
+
+// `bytes` less `framing`, less `done`, as far as there are any.
+fn beyond(bytes: u32, framing: u32, done: u32) -> usize
+    ensures { λ r. ⌜ r ≡ bytes - framing - done ⌝ }
+{
+    if bytes < framing {
+        return 0;
+    }
+    let payload = bytes - framing;
+    if payload < done {
+        return 0;
+    }
+    (payload - done) as usize
+}
+
+// The message in work handed on, as far as the host has room.
+fn hand_on(m: &[u8], host: &mut [u8], q: Virtqueue, f: Flow) -> Flow
+    requires { ⌜ Busy f × FitFlow (length (now m)) (length (now host)) f ⌝ }
+    ensures { λ r. ⌜ (runOf r (now (m .entry)) (now (host .exit))
+        ≡ moved (countersOf output) output (q .page) (q .indirect) (runOf f (now (m .entry)) (now (host .entry))))
+        × Busy r × FitFlow (length (now (m .entry))) (length (now (host .entry))) r ⌝ }
+{
+    let message = f.message;
+    let request = message.request;
+    let at = f.moved;
+    let n = least(host.len() - at, waiting(Direction::Output, message));
+    ranges::gather(m, request, 4 + message.done as usize, host, at, n);
+    advanced(f, n)
+}
+
+// The message in work filled, as far as the host has bytes.
+fn fill(m: &mut [u8], host: &[u8], q: Virtqueue, f: Flow) -> Flow
+    requires { ⌜ Busy f × FitFlow (length (now m)) (length (now host)) f ⌝ }
+    ensures { λ r. ⌜ (runOf r (now (m .exit)) (now (host .entry))
+        ≡ moved (countersOf input) input (q .page) (q .indirect) (runOf f (now (m .entry)) (now (host .entry))))
+        × Busy r × FitFlow (length (now (m .entry))) (length (now (host .entry))) r ⌝ }
+{
+    let message = f.message;
+    let reply = message.reply;
+    let at = f.moved;
+    let n = least(host.len() - at, waiting(Direction::Input, message));
+    ranges::scatter(m, reply, message.done as usize, host, at, n);
+    advanced(f, n)
+}
+
+// `n` bytes more of the message and of the host.
+fn advanced(f: Flow, n: usize) -> Flow
+    requires { ⌜ (f .message .done + n ≤ 1048576) × (f .moved + n < 18446744073709551616) ⌝ }
+    ensures { λ r. ⌜ r ≡ advancedBy n f ⌝ }
+{
+    let mut message = f.message;
+    message.done += n as u32;
+    let mut next = f;
+    next.message = message;
+    next.moved = f.moved + n;
+    next
+}
+
+fn either(a: bool, b: bool) -> bool
+    ensures { λ r. ⌜ r ≡ a || b ⌝ }
+{
+    if a {
+        return true;
+    }
+    b
+}
+
+// The status that ends a message in work.
+fn status_of(d: Direction, ending: Ending) -> u32
+    ensures { λ r. ⌜ some r ≡ statusOf (directionOf d) (endingOf ending) wellFormed ⌝ }
+{
+    match ending {
+        Ending::Finished => message::OK,
+        Ending::Released => match d {
+            Direction::Output => message::IO_ERR,
+            Direction::Input => message::OK,
+        },
+    }
+}
+
+// The message in work completed.
+fn end_message(m: &mut [u8], q: Virtqueue, f: Flow, ending: Ending) -> Flow
+    requires { ⌜ Busy f × FitMessage (length (now m)) (f .message) ⌝ }
+    ensures { λ r. ⌜ Ends (directionOf (q .direction)) (q .page) (q .indirect) (endingOf ending) (now (m .entry)) f (now (m .exit)) r ⌝ }
+{
+    let direction = q.direction;
+    let mut message = f.message;
+    let mut counters = f.counters;
+    let code = status_of(direction, ending);
+    let reply = message.reply;
+    let posted = message::answer(
+        m,
+        q,
+        counters.completed,
+        message.head,
+        reply,
+        Status::Code(code),
+        message.done,
+    );
+    counters.completed = posted.completed;
+    message.count = 0;
+    Flow {
+        counters: counters,
+        message: message,
+        moved: f.moved,
+        sound: f.sound,
+        signal: either(f.signal, posted.interrupt),
+    }
+}
+
+// The message in work completed where nothing of its payload waits.
+fn settle(m: &mut [u8], q: Virtqueue, f: Flow) -> Flow
+    requires { ⌜ Busy f × FitMessage (length (now m)) (f .message) ⌝ }
+    ensures { λ r. ⌜ Steps (settled (countersOf (directionOf (q .direction))) (directionOf (q .direction)) (q .page) (q .indirect))
+        (now (m .entry)) f (now (m .exit)) r ⌝ }
+{
+    let message = f.message;
+    let direction = q.direction;
+    if 0 < waiting(direction, message) {
+        return f;
+    }
+    end_message(m, q, f, Ending::Finished)
+}
+
+// An ill-formed chain completed as soon as it is taken.
+fn refuse(m: &mut [u8], q: Virtqueue, f: Flow, taken: Taken, status: Status) -> Flow
+    requires { ⌜ FitTaken (length (now m)) taken × FitMessage (length (now m)) (f .message)
+        × (statusIn status ≡ statusOf (directionOf (q .direction)) illFormed (formIn (taken .form))) ⌝ }
+    ensures { λ r. ⌜ (f .message .count ≡ 0
+        → Steps (refusedIn (directionOf (q .direction)) (q .page) (q .indirect) (takingIn taken)) (now (m .entry)) f (now (m .exit)) r) ⌝ }
+{
+    let mut counters = f.counters;
+    let message = f.message;
+    let reply = taken.reply;
+    let posted = message::answer(m, q, counters.completed, taken.head, reply, status, 0);
+    counters.taken = std::num::wrapping_add_u16(counters.taken, 1);
+    counters.completed = posted.completed;
+    Flow {
+        counters: counters,
+        message: message,
+        moved: f.moved,
+        sound: f.sound,
+        signal: either(f.signal, posted.interrupt),
+    }
+}
+
+// An entry that was taken: a well-formed message is in work, an ill-formed one completed at once.
+fn enter(m: &mut [u8], q: Virtqueue, f: Flow, taken: Taken) -> Flow
+    requires { ⌜ (f .message .count ≡ 0) × FitTaken (length (now m)) taken × FitMessage (length (now m)) (f .message) ⌝ }
+    ensures { λ r. ⌜ Steps (entered (countersOf (directionOf (q .direction))) (directionOf (q .direction)) (q .page) (q .indirect) (takingIn taken))
+        (now (m .entry)) f (now (m .exit)) r ⌝ }
+{
+    let form = taken.form;
+    match form {
+        Form::WellFormed => begin(f, taken),
+        Form::Refused => refuse(m, q, f, taken, Status::Code(message::IO_ERR)),
+        Form::Silent => refuse(m, q, f, taken, Status::Nothing),
+    }
+}
+
+// A well-formed message is in work, nothing of it moved.
+fn begin(f: Flow, taken: Taken) -> Flow
+    ensures { λ r. ⌜ r ≡ begunWith taken f ⌝ }
+{
+    let mut counters = f.counters;
+    counters.taken = std::num::wrapping_add_u16(counters.taken, 1);
+    let head = taken.head;
+    let request = taken.request;
+    let reply = taken.reply;
+    Flow {
+        counters: counters,
+        message: Message {
+            count: 1,
+            head: head,
+            done: 0,
+            request: request,
+            reply: reply,
+        },
+        moved: f.moved,
+        sound: f.sound,
+        signal: f.signal,
+    }
+}
+
+// The next new entry; a bad head is not taken, and stops the flow.
+pub fn meet(m: &mut [u8], q: Virtqueue, f: Flow) -> Flow
+    requires { ⌜ (f .message .count ≡ 0) × FitMessage (length (now m)) (f .message) ⌝ }
+    ensures { λ r. ⌜ Steps (next (countersOf (directionOf (q .direction))) (directionOf (q .direction)) (q .page) (q .indirect))
+        (now (m .entry)) f (now (m .exit)) r ⌝ }
+{
+    let direction = q.direction;
+    let counters = f.counters;
+    let size = message::queue_size(direction);
+    let ring::Head::At(number) = ring::next_head(m, q.page, size, counters.taken) else {
+        let mut stopped = f;
+        stopped.sound = false;
+        return stopped;
+    };
+    let taken = message::take_chain(m, q, number);
+    enter(m, q, f, taken)
+}
+
+// A Release ends the message in work.
+pub fn give_up(m: &mut [u8], q: Virtqueue, f: Flow) -> Flow
+    requires { ⌜ FitMessage (length (now m)) (f .message) ⌝ }
+    ensures { λ r. ⌜ Steps (givenUp (countersOf (directionOf (q .direction))) (directionOf (q .direction)) (q .page) (q .indirect))
+        (now (m .entry)) f (now (m .exit)) r ⌝ }
+{
+    if f.message.count == 0 {
+        return f;
+    }
+    end_message(m, q, f, Ending::Released)
+}
+
+// While the host has room the message in work is handed on.
+pub fn work_play(m: &mut [u8], host: &mut [u8], q: Virtqueue, f: Flow) -> Flow
+    requires { ⌜ (q .direction ≡ Direction.Output) × FitFlow (length (now m)) (length (now host)) f ⌝ }
+    ensures { λ r. ⌜ StepsOn (worked (countersOf output) output (q .page) (q .indirect))
+        (now (m .entry)) (now (host .entry)) f (now (m .exit)) (now (host .exit)) r ⌝ }
+{
+    if host.len() <= f.moved {
+        return f;
+    }
+    if f.message.count == 0 {
+        return f;
+    }
+    let handed = hand_on(m, host, q, f);
+    settle(m, q, handed)
+}
+
+// While the host has bytes the message in work is filled.
+pub fn work_capture(m: &mut [u8], host: &[u8], q: Virtqueue, f: Flow) -> Flow
+    requires { ⌜ (q .direction ≡ Direction.Input) × FitFlow (length (now m)) (length (now host)) f ⌝ }
+    ensures { λ r. ⌜ StepsOn (worked (countersOf input) input (q .page) (q .indirect))
+        (now (m .entry)) (now (host .entry)) f (now (m .exit)) (now (host .entry)) r ⌝ }
+{
+    if host.len() <= f.moved {
+        return f;
+    }
+    if f.message.count == 0 {
+        return f;
+    }
+    let filled = fill(m, host, q, f);
+    settle(m, q, filled)
+}

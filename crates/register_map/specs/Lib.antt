@@ -1,0 +1,2 @@
+-- Registers and queue sizes by their numbers.
+pub mod Map

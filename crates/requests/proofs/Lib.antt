@@ -1,0 +1,2 @@
+-- Laws of replies, jacks and information.
+pub mod Laws

@@ -1,0 +1,2 @@
+-- What a control request comes to.
+pub mod Requests
