@@ -1,0 +1,4 @@
+// The replay program, on all the vectors.
+fn main() {
+    replay_run::run();
+}

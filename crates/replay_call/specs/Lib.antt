@@ -1,0 +1,2 @@
+-- The calls of the replay program: what each prints and leaves.
+pub mod Shown

@@ -1,0 +1,2 @@
+-- The description that a script collects, part by part.
+pub mod Parts

@@ -1,0 +1,62 @@
+-- "One more jack", "one more channel map", "output stream 0", "input stream 1". "More than four jacks or maps are
+-- counted, and the card's description carries the count."
+use mathlib.Core.List.{List}
+use mathlib.Core.Bool.{cond}
+use Prim.Native.Nat.{ℕ, _+_}
+use lib.Dec.{ltb}
+use lib.ListN.{set, replicate, drop}
+use Rattle.description.specs.declared.Description.{Description}
+use Rattle.description.specs.declared.JackInfo.{JackInfo}
+use Rattle.description.specs.declared.MapInfo.{MapInfo}
+use Rattle.description.specs.declared.StreamInfo.{StreamInfo}
+use Rattle.replay_field.specs.Hex.{bytesOfHex, poured}
+use Rattle.replay_line.specs.declared.Part.{Part}
+use Rattle.replay_line.specs.declared.Part.the-variants.{Jack, Map, Output, Input}
+
+-- counts of jacks, maps, outputs and inputs, and the parts
+abbrev pub describes : ℕ → ℕ → ℕ → ℕ → List JackInfo → List MapInfo → List StreamInfo → Description
+describes j m o i js ms ss =
+    record { «jack_count» = j; «map_count» = m; «output_count» = o; «input_count» = i; jacks = js; maps = ms; streams = ss }
+
+abbrev pub noDescription : Description
+noDescription =
+    describes 0 0 0 0
+    (replicate 4 (record { nid = 0; features = 0; defconf = 0; caps = 0; connected = 0 }))
+    (replicate 4 (record { nid = 0; direction = 0; channels = 0; positions = replicate 18 0 }))
+    (replicate 2 (record { nid = 0; features = 0; formats = 0; rates = 0; «channels_min» = 0; «channels_max» = 0 }))
+
+-- one more, as far as 32 bits count
+abbrev pub oneMore : ℕ → ℕ
+oneMore n = cond (ltb n 4294967295) (n + 1) n
+
+-- the first four are kept
+unfoldable pub withJack : Description → JackInfo → Description
+withJack d info =
+    describes (oneMore (d .«jack_count»)) (d .«map_count») (d .«output_count») (d .«input_count»)
+    (cond (ltb (d .«jack_count») 4) (set (d .jacks) (d .«jack_count») info) (d .jacks)) (d .maps) (d .streams)
+
+unfoldable pub withMap : Description → MapInfo → Description
+withMap d map =
+    describes (d .«jack_count») (oneMore (d .«map_count»)) (d .«output_count») (d .«input_count»)
+    (d .jacks) (cond (ltb (d .«map_count») 4) (set (d .maps) (d .«map_count») map) (d .maps)) (d .streams)
+
+-- "POSITIONS is HEX of exactly 18 bytes", which stands at `at` in the line
+unfoldable pub mapAt : List ℕ → ℕ → ℕ → ℕ → ℕ → MapInfo
+mapAt s nid direction channels at =
+    record { nid = nid; direction = direction; channels = channels; positions = poured (bytesOfHex (drop at s)) (replicate 18 0) 0 }
+
+-- of several the last is kept
+unfoldable pub withOutput : Description → StreamInfo → Description
+withOutput d info =
+    describes (d .«jack_count») (d .«map_count») (oneMore (d .«output_count»)) (d .«input_count») (d .jacks) (d .maps) (set (d .streams) 0 info)
+
+unfoldable pub withInput : Description → StreamInfo → Description
+withInput d info =
+    describes (d .«jack_count») (d .«map_count») (d .«output_count») (oneMore (d .«input_count»)) (d .jacks) (d .maps) (set (d .streams) 1 info)
+
+-- one more part, described by the line s
+abbrev pub withPart : Description → Part → List ℕ → Description
+withPart d (Jack info) s = withJack d info
+withPart d (Map nid direction channels at) s = withMap d (mapAt s nid direction channels at)
+withPart d (Output info) s = withOutput d info
+withPart d (Input info) s = withInput d info

@@ -1,0 +1,129 @@
+// The description that the lines of a script collect for the next power-up.
+ghost use mathlib.Core.Path.{_≡_};
+ghost use Rattle.replay_description.specs.Parts.{noDescription, oneMore, withJack, withMap, mapAt, withOutput, withInput, withPart};
+use description::Description;
+use description::JackInfo;
+use description::MapInfo;
+use description::StreamInfo;
+use replay_line::Part;
+
+// Nothing described yet.
+pub fn no_description() -> Description
+    ensures { λ r. ⌜ r ≡ noDescription ⌝ }
+{
+    let jack = JackInfo {
+        nid: 0,
+        features: 0,
+        defconf: 0,
+        caps: 0,
+        connected: 0,
+    };
+    let map = MapInfo {
+        nid: 0,
+        direction: 0,
+        channels: 0,
+        positions: [0; 18],
+    };
+    let stream = StreamInfo {
+        nid: 0,
+        features: 0,
+        formats: 0,
+        rates: 0,
+        channels_min: 0,
+        channels_max: 0,
+    };
+    Description {
+        jack_count: 0,
+        map_count: 0,
+        output_count: 0,
+        input_count: 0,
+        jacks: [jack; 4],
+        maps: [map; 4],
+        streams: [stream; 2],
+    }
+}
+
+// One more of a kind of part; no script has so many that the count is full.
+fn one_more(count: u32) -> u32
+    ensures { λ r. ⌜ r ≡ oneMore count ⌝ }
+{
+    if count < 4294967295 {
+        return count + 1;
+    }
+    count
+}
+
+// One more jack. Past the fourth only the count is kept.
+fn with_jack(d: Description, info: JackInfo) -> Description
+    ensures { λ r. ⌜ r ≡ withJack d info ⌝ }
+{
+    let mut next = d;
+    next.jack_count = one_more(d.jack_count);
+    let i = d.jack_count as usize;
+    if 4 <= i {
+        return next;
+    }
+    next.jacks[i] = info;
+    next
+}
+
+// One more channel map. Past the fourth only the count is kept.
+fn with_map(d: Description, map: MapInfo) -> Description
+    ensures { λ r. ⌜ r ≡ withMap d map ⌝ }
+{
+    let mut next = d;
+    next.map_count = one_more(d.map_count);
+    let i = d.map_count as usize;
+    if 4 <= i {
+        return next;
+    }
+    next.maps[i] = map;
+    next
+}
+
+// A channel map whose positions stand in the line from `at` on.
+fn map_at(s: &[u8], nid: u32, direction: u8, channels: u8, at: usize) -> MapInfo
+    ensures { λ r. ⌜ r ≡ mapAt (now (s .entry)) nid direction channels at ⌝ }
+{
+    let mut positions = [0u8; 18];
+    replay_field::pour_hex(s, at, &mut positions, 0);
+    MapInfo {
+        nid: nid,
+        direction: direction,
+        channels: channels,
+        positions: positions,
+    }
+}
+
+// Of several streams of one direction the last is kept; the count says how many there were.
+fn with_output(d: Description, info: StreamInfo) -> Description
+    ensures { λ r. ⌜ r ≡ withOutput d info ⌝ }
+{
+    let mut next = d;
+    next.streams[0] = info;
+    next.output_count = one_more(d.output_count);
+    next
+}
+
+fn with_input(d: Description, info: StreamInfo) -> Description
+    ensures { λ r. ⌜ r ≡ withInput d info ⌝ }
+{
+    let mut next = d;
+    next.streams[1] = info;
+    next.input_count = one_more(d.input_count);
+    next
+}
+
+// One more part, described by the line `s`.
+pub fn with_part(d: Description, part: Part, s: &[u8]) -> Description
+    ensures { λ r. ⌜ r ≡ withPart d part (now (s .entry)) ⌝ }
+{
+    match part {
+        Part::Jack(info) => with_jack(d, info),
+        Part::Map(nid, direction, channels, at) => {
+            with_map(d, map_at(s, nid, direction, channels, at))
+        }
+        Part::Output(info) => with_output(d, info),
+        Part::Input(info) => with_input(d, info),
+    }
+}

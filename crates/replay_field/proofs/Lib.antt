@@ -1,0 +1,2 @@
+-- Laws of numbers, HEX and words.
+pub mod Laws

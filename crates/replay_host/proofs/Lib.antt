@@ -1,0 +1,2 @@
+-- Laws of host buffers.
+pub mod Laws

@@ -1,0 +1,2 @@
+-- A table of examples.
+pub mod Examples

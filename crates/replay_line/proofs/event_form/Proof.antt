@@ -1,0 +1,49 @@
+-- The fields are read one after the other, each where the one before it ended.
+use borrow.Author.Needs.{needs}
+use mathlib.Core.Path.{_∙_, sym}
+use Rattle.replay_line.specs.Line.{eventForm}
+use Rattle.replay_field.proofs.Laws.{pair-most}
+use native.Mathlib.Omega.{arith}
+use borrow.Author.Tests.{le-ltb, lt-ltb}
+use Rattle.replay_line.proofs.event_form.Statement.{statement}
+use Rattle.replay_line.proofs.event_form.Tie as tie
+
+pair-at-requires : tie.Need-pair-at-requires
+pair-at-requires c κs = tt
+
+enum-known-code : tie.Need-enum-known-code
+enum-known-code c = search needs
+
+enum-told : tie.Need-enum-told
+enum-told c = search needs
+
+returns : tie.Need-returns
+unfolding eventForm
+returns c = rw (sym (c .before .before .pair-at .ensures) ∙ c .enum-told .given .1)
+
+returns-2 : tie.Need-returns-2
+unfolding eventForm
+returns-2 c = rw (sym (c .before .before .before .before .pair-at .ensures) ∙ c .before .before .code .given .1, lt-ltb _ _ (c .if1 .taken))
+
+cast-t8 : tie.Need-cast-t8
+cast-t8 c = omega (arith, pair-most _ _ _ _ _ _ (sym (c .before .before .before .before .pair-at .ensures) ∙ c .before .before .code .given .1))
+
+cast-t9 : tie.Need-cast-t9
+cast-t9 c = omega (arith, pair-most _ _ _ _ _ _ (sym (c .before .before .before .before .pair-at .ensures) ∙ c .before .before .code .given .1))
+
+returns-3 : tie.Need-returns-3
+unfolding eventForm
+returns-3 c = rw (sym (c .before .before .before .before .pair-at .ensures) ∙ c .before .before .code .given .1, le-ltb _ _ (c .if1 .left))
+
+pub event-form-spec : {M : Type 1} → statement M
+event-form-spec =
+    tie.close
+    (tie.spec
+    pair-at-requires
+    enum-known-code
+    enum-told
+    returns
+    returns-2
+    cast-t8
+    cast-t9
+    returns-3)

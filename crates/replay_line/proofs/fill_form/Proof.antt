@@ -1,0 +1,62 @@
+-- The fields are read one after the other, each where the one before it ended.
+use borrow.Author.Needs.{needs}
+use mathlib.Core.Path.{_∙_, sym}
+use Rattle.replay_line.specs.Line.{fillForm}
+use Rattle.replay_field.proofs.Laws.{field-most}
+use native.Mathlib.Omega.{arith}
+use borrow.Author.Tests.{le-ltb, lt-ltb}
+use Rattle.replay_line.proofs.fill_form.Statement.{statement}
+use Rattle.replay_line.proofs.fill_form.Tie as tie
+
+pair-at-requires : tie.Need-pair-at-requires
+pair-at-requires c κs = tt
+
+enum-known-address : tie.Need-enum-known-address
+enum-known-address c = search needs
+
+enum-told : tie.Need-enum-told
+enum-told c = search needs
+
+returns : tie.Need-returns
+unfolding fillForm
+returns c = rw (sym (c .before .before .pair-at .ensures) ∙ c .enum-told .given .1)
+
+field-at-requires : tie.Need-field-at-requires
+field-at-requires c κs = tt
+
+enum-known-byte : tie.Need-enum-known-byte
+enum-known-byte c = search needs
+
+enum-told-2 : tie.Need-enum-told-2
+enum-told-2 c = search needs
+
+returns-2 : tie.Need-returns-2
+unfolding fillForm
+returns-2 c = rw (sym (c .before .before .before .before .before .before .pair-at .ensures) ∙ c .before .before .before .before .address .given .1, sym (c .before .before .field-at .ensures) ∙ c .enum-told2 .given .1)
+
+returns-3 : tie.Need-returns-3
+unfolding fillForm
+returns-3 c = rw (sym (c .before .before .before .before .before .before .before .before .pair-at .ensures) ∙ c .before .before .before .before .before .before .address .given .1, sym (c .before .before .before .before .field-at .ensures) ∙ c .before .before .byte .given .1, lt-ltb _ _ (c .if1 .taken))
+
+cast-t11 : tie.Need-cast-t11
+cast-t11 c = omega (arith, field-most _ _ _ _ _ (sym (c .before .before .before .before .field-at .ensures) ∙ c .before .before .byte .given .1))
+
+returns-4 : tie.Need-returns-4
+unfolding fillForm
+returns-4 c = rw (sym (c .before .before .before .before .before .before .before .before .pair-at .ensures) ∙ c .before .before .before .before .before .before .address .given .1, sym (c .before .before .before .before .field-at .ensures) ∙ c .before .before .byte .given .1, le-ltb _ _ (c .if1 .left))
+
+pub fill-form-spec : {M : Type 1} → statement M
+fill-form-spec =
+    tie.close
+    (tie.spec
+    pair-at-requires
+    enum-known-address
+    enum-told
+    returns
+    field-at-requires
+    enum-known-byte
+    enum-told-2
+    returns-2
+    returns-3
+    cast-t11
+    returns-4)

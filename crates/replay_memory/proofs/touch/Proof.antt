@@ -1,0 +1,105 @@
+-- Each line works on the first bytes, and the others stay.
+use borrow.Author.Needs.{needs}
+use Rattle.replay_memory.proofs.touch.Statement.{statement}
+use Rattle.replay_memory.proofs.touch.Tie as tie
+
+within-requires : tie.Need-within-requires
+within-requires c κs = search needs
+
+enum-known-guest : tie.Need-enum-known-guest
+enum-known-guest c = search needs
+
+slice-relend-prefix-pour-hex : tie.Need-slice-relend-prefix-pour-hex
+slice-relend-prefix-pour-hex c = search needs
+
+slice-aggregate-pour-hex : tie.Need-slice-aggregate-pour-hex
+slice-aggregate-pour-hex c = search needs
+
+pour-hex-requires : tie.Need-pour-hex-requires
+pour-hex-requires c κs = search needs
+
+enum-known-guest-2 : tie.Need-enum-known-guest-2
+enum-known-guest-2 c = search needs
+
+slice-relend-prefix-fill : tie.Need-slice-relend-prefix-fill
+slice-relend-prefix-fill c = search needs
+
+slice-aggregate-fill : tie.Need-slice-aggregate-fill
+slice-aggregate-fill c = search needs
+
+fill-requires : tie.Need-fill-requires
+fill-requires c κs = search needs
+
+enum-known-guest-3 : tie.Need-enum-known-guest-3
+enum-known-guest-3 c = search needs
+
+fill-requires-2 : tie.Need-fill-requires-2
+fill-requires-2 c κs = search needs
+
+enum-known-guest-4 : tie.Need-enum-known-guest-4
+enum-known-guest-4 c = search needs
+
+slice-reshare-prefix-dump : tie.Need-slice-reshare-prefix-dump
+slice-reshare-prefix-dump c = search needs
+
+slice-aggregate-dump : tie.Need-slice-aggregate-dump
+slice-aggregate-dump c = search needs
+
+dump-requires : tie.Need-dump-requires
+dump-requires c κs = search needs
+
+same-length : tie.Need-same-length
+same-length c = search needs
+
+returns : tie.Need-returns
+returns c =
+    let w = c .before .before .before .before .before .before .before .within .ensures .1 in
+    (rw (c .before .before .before .before .before .guest .given .1, ← w, c .before .before .pour-hex .ensures), rw (c .before .before .before .before .before .guest .given .1) w)
+
+same-length-2 : tie.Need-same-length-2
+same-length-2 c = search needs
+
+returns-2 : tie.Need-returns-2
+returns-2 c =
+    let w = c .before .before .before .before .before .before .before .within .ensures .1 in
+    (rw (c .before .before .before .before .before .guest2 .given .1, ← w, c .before .before .fill .ensures), rw (c .before .before .before .before .before .guest2 .given .1) w)
+
+same-length-3 : tie.Need-same-length-3
+same-length-3 c = search needs
+
+returns-3 : tie.Need-returns-3
+returns-3 c = (rw (c .before .before .before .before .before .guest3 .given .1, c .before .before .fill2 .ensures), rw (c .before .before .before .before .before .guest3 .given .1))
+
+same-length-4 : tie.Need-same-length-4
+same-length-4 c = search needs
+
+returns-4 : tie.Need-returns-4
+returns-4 c = (rw (c .before .before .before .guest4 .given .1), rw (c .before .before .before .guest4 .given .1) (c .before .before .before .before .before .within .ensures .1))
+
+pub touch-spec : {M : Type 1} → statement M
+touch-spec =
+    tie.close
+    (tie.spec
+    within-requires
+    enum-known-guest
+    slice-relend-prefix-pour-hex
+    slice-aggregate-pour-hex
+    pour-hex-requires
+    enum-known-guest-2
+    slice-relend-prefix-fill
+    slice-aggregate-fill
+    fill-requires
+    enum-known-guest-3
+    fill-requires-2
+    enum-known-guest-4
+    slice-reshare-prefix-dump
+    slice-aggregate-dump
+    dump-requires
+    same-length
+    returns
+    same-length-2
+    returns-2
+    same-length-3
+    returns-3
+    same-length-4
+    returns-4)

@@ -1,0 +1,2 @@
+-- The replay program: what its lines do to the memory lent.
+pub mod Session

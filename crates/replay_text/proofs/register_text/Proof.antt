@@ -1,0 +1,36 @@
+-- Its numbers, one behind the other.
+use Rattle.replay_text.proofs.register_text.Statement.{statement}
+use Rattle.replay_text.proofs.register_text.Tie as tie
+
+empty-requires : tie.Need-empty-requires
+empty-requires c κs = tt
+
+with-number-requires : tie.Need-with-number-requires
+with-number-requires c κs = tt
+
+with-number-requires-2 : tie.Need-with-number-requires-2
+with-number-requires-2 c κs = tt
+
+with-number-requires-3 : tie.Need-with-number-requires-3
+with-number-requires-3 c κs = tt
+
+with-rung-requires : tie.Need-with-rung-requires
+with-rung-requires c κs = tt
+
+with-number-requires-4 : tie.Need-with-number-requires-4
+with-number-requires-4 c κs = tt
+
+returns : tie.Need-returns
+returns c = rw (c .with-number4 .ensures, c .before .with-rung .ensures, c .before .before .with-number3 .ensures, c .before .before .before .with-number2 .ensures, c .before .before .before .before .with-number .ensures, c .before .before .before .before .before .empty .ensures)
+
+pub register-text-spec : {M : Type 1} → statement M
+register-text-spec =
+    tie.close
+    (tie.spec
+    empty-requires
+    with-number-requires
+    with-number-requires-2
+    with-number-requires-3
+    with-rung-requires
+    with-number-requires-4
+    returns)
