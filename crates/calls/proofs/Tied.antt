@@ -35,7 +35,7 @@ runs-from c _ _ last f (next {n = n} {t = t} {ks = ks} {ts = ts} d r) =
 -- ---- from power-up
 
 -- only a lawful description is answered 0
-powered-lawful : (d : Description) (len : ℕ) → poweredOf d len .answer ≡ done → lawful d ≡ true
+pub powered-lawful : (d : Description) (len : ℕ) → poweredOf d len .answer ≡ done → lawful d ≡ true
 unfolding poweredOf
 powered-lawful d len e = go (lawful d) refl
   where

@@ -34,10 +34,19 @@ isPlay Play = true
 isPlay Capture = false
 isPlay (Event code data′) = false
 
--- what is told, of the host buffer and memory after the call: a play's bytes are the first `count` of its host buffer
+-- a play or a capture
+abbrev pub isTransfer : Request → Bool
+isTransfer (Read offset width) = false
+isTransfer (Write offset width v) = false
+isTransfer Control = false
+isTransfer Play = true
+isTransfer Capture = true
+isTransfer (Event code data′) = false
+
+-- what is told, of the host buffer and memory after the call: the bytes moved are the first `count` of the host's
 abbrev pub toldOf : Request → Outcome → List ℕ → List ℕ → rules.Told
 toldOf q r host m =
-    rules.toldAll (r .answer) (r .value) (r .rung) (r .count) (cond (isPlay q) (take (r .count) host) []) (cond (isPlay q) host []) m
+    rules.toldAll (r .answer) (r .value) (r .rung) (r .count) (cond (isTransfer q) (take (r .count) host) []) (cond (isPlay q) host []) m
 
 -- the host buffer after the call, of before and after: a play alone changes it
 abbrev pub hostOf : Request → List ℕ → List ℕ → List ℕ

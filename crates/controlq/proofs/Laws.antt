@@ -4,7 +4,7 @@ use mathlib.Core.Bool.{Bool, true, false, cond, _&&_}
 use mathlib.Core.List.{List, [], _∷_}
 use Prim.Native.Nat.{ℕ, zero, suc, _≤_, _<_}
 use native.Mathlib.Omega.{arith}
-use borrow.Author.Tests.{ne-eqb}
+use borrow.Author.Tests.{eq-eqb, ne-eqb}
 use lib.Dec.{eqb, leb}
 use lib.ListN.{length, getD, set, take, replicate, length-set, length-take}
 use lib.Seq.{getD-set-same, getD-set-other, length-take-le, set-out}
@@ -31,11 +31,12 @@ use Rattle.card.specs.declared.Card.{Card}
 use Rattle.card.specs.declared.Counters.{Counters}
 use Rattle.card.specs.declared.Stream.{Stream}
 use Rattle.message.specs.Card.{countersAt, queueOf, restOf, deviceOf, stepOf, leaves}
-use Rattle.rules.specs.Calls.{Result, Order, Step, ended, releasedOf, acted, Done, ReleaseFirst, Control, releaseStep, refused, broke, replied, ordered, orderOf, controlFound, indirect}
+use Rattle.rules.specs.Calls as calls
+use Rattle.rules.specs.Calls.{Result, Order, Pending, Step, ended, virtqueueOf, releasedOf, acted, Done, ReleaseFirst, Control, releaseStep, refused, broke, replied, ordered, orderOf, controlFound, indirect}
 use Rattle.rules.specs.Control as rules
 use Rattle.rules.specs.Control.{status, withState}
 use Rattle.rules.specs.Counters.{countersOf}
-use Rattle.rules.specs.Device.{Device, Queue, output, input, bytesOf, withRegisters, withControl, pageOf, signalledIf, oneTaken}
+use Rattle.rules.specs.Device.{Device, Queue, Rest, Direction, output, input, directionOf, queueFor, withQueue, bytesOf, withRegisters, withControl, pageOf, signalledIf, oneTaken}
 use Rattle.rules.specs.Numbers.{controlQueue, sOk, sBadMsg}
 use Rattle.control.specs.Control.{withParts}
 use Rattle.commands.specs.Commands.{withStreamAt}
@@ -44,7 +45,7 @@ use Rattle.stream.specs.Queue as stream
 use Rattle.stream.specs.Queue.{Empties}
 use Rattle.stream.specs.declared.Emptied.{Emptied}
 use Rattle.stream.proofs.Fits.{signal-fit}
-use Rattle.stream.proofs.Released.{released-ordered, released-input, input-play}
+use Rattle.stream.proofs.Released.{released-ordered}
 use Rattle.controlq.specs.declared.Side.the-variants.{Usable, Unusable}
 use Rattle.controlq.specs.Control.{sideOf, servedChain, pendingOf, endsOn, says, holding, takenCard, countedOf, idleOf, brokenOf, markedOf, walkedAt, headOf}
 
@@ -96,7 +97,7 @@ replied-on c head reply bytes n m h = rw (length-take-le n bytes h, putAt-front 
 
 module _ (c : Card) (f : Fit c) where
   pub held-device : (g : Registers) (q : Counters)
-      → deviceOf (holding g q c) ≡ record { rest = withRegisters g (withControl q (restOf c)); play = deviceOf c .play }
+      → deviceOf (holding g q c) ≡ record { rest = withRegisters g (withControl q (restOf c)); play = deviceOf c .play; capture = deviceOf c .capture }
   unfolding restOf deviceOf
   held-device g q =
       rw (
@@ -124,7 +125,7 @@ module _ (c : Card) (f : Fit c) where
   counted-fit p = held-fit _ _ (signal-fit (p .interrupt) (c .registers) (f .registers))
 
   -- a breakdown
-  pub broken-says : (m : List ℕ) → ordered (countersOf output) (Done (broke (restOf c) m)) (deviceOf c) m ≡ says (brokenOf c) m
+  pub broken-says : (m : List ℕ) → ordered countersOf (Done (broke (restOf c) m)) (deviceOf c) m ≡ says (brokenOf c) m
   unfolding restOf deviceOf
   broken-says m = refl
 
@@ -160,18 +161,18 @@ module _ (c : Card) (head : DescriptorNumber) (reply : List Range) (id : ℕ) (s
   pub end-replied : (n : Card) → deviceOf n ≡ markedOf id (deviceOf signalledCard)
       → endsOn c (releasedOf id (pendingOf c head reply) m true signal) ≡ endsOn n (replied (pendingOf n head reply) (status sOk) m)
   unfolding releasedOf restOf deviceOf
-  end-replied n e = ap (λ (b : Device Queue). ended (countersOf output) (replied (record { rest = b .rest; head = head .0; reply = reply }) (status sOk) m) (b .play)) (sym e)
+  end-replied n e = ap (λ (b : Device Queue). ended (replied (record { rest = b .rest; head = head .0; reply = reply }) (status sOk) m) b) (sym e)
 
 -- the rules' Release of the output, and of any other stream
 module _ (c : Card) (head : DescriptorNumber) (reply : List Range) (id : ℕ) (m m′ : List ℕ) (r : Emptied) where
   abbrev pub toEnd : Step (Device Queue)
   toEnd = endsOn (r .card) (releasedOf id (pendingOf (r .card) head reply) m′ (r .sound) (r .signal))
 
-  pub release-output : id ≡ 0 → Empties output c m m′ r → ordered (countersOf output) (ReleaseFirst id (pendingOf c head reply)) (deviceOf c) m ≡ toEnd
-  release-output n e = released-ordered c m m′ r id (pendingOf c head reply) refl (deviceOf c) output n refl e
+  pub release-output : id ≡ 0 → Empties output c m m′ r → ordered countersOf (ReleaseFirst id (pendingOf c head reply)) (deviceOf c) m ≡ toEnd
+  release-output n e = released-ordered c m m′ r id (pendingOf c head reply) refl output (rw (eq-eqb id 0 n)) e
 
-  pub release-input : (id ≡ 0 → ⊥) → Empties input c m m′ r → ordered (countersOf output) (ReleaseFirst id (pendingOf c head reply)) (deviceOf c) m ≡ toEnd
-  release-input n e = rw (ne-eqb id 0 n, released-input c m m′ r id (pendingOf c head reply) refl e, input-play c m m′ r e)
+  pub release-input : (id ≡ 0 → ⊥) → Empties input c m m′ r → ordered countersOf (ReleaseFirst id (pendingOf c head reply)) (deviceOf c) m ≡ toEnd
+  release-input n e = released-ordered c m m′ r id (pendingOf c head reply) refl input (rw (ne-eqb id 0 n)) e
 
 -- ---- a message that was walked whole
 
@@ -204,41 +205,66 @@ module _ (c : Card) (head : DescriptorNumber) (request reply : List Range) (m : 
           ← e,
         )
 
+-- two devices with the same stream queues
+pub record SameQueues (b b′ : Device Queue) : Type 0 where
+  pub play : b .play ≡ b′ .play
+  pub capture : b .capture ≡ b′ .capture
+
 -- a request changes parts of the card only
-pub served-play : (c n : Card) → n ≡ withParts (n .parts) c → deviceOf n .play ≡ deviceOf c .play
+pub served-queues : (c n : Card) → n ≡ withParts (n .parts) c → SameQueues (deviceOf n) (deviceOf c)
 unfolding deviceOf
-served-play c n e = ap (λ (x : Card). queueOf (countersAt x 2) (x .play)) e
+served-queues c n e =
+    record {
+      play = ap (λ (x : Card). queueOf (countersAt x 2) (x .play)) e;
+      capture = ap (λ (x : Card). queueOf (countersAt x 3) (x .capture)) e;
+    }
 
 -- ---- the next message
 
--- what is ordered needs the play queue only
-ordered-play : (o : Order) (b b′ : Device Queue) (m : List ℕ) → b .play ≡ b′ .play → ordered (countersOf output) o b m ≡ ordered (countersOf output) o b′ m
-unfolding releaseStep
-ordered-play (Done o) b b′ m e = rw e
-ordered-play (ReleaseFirst id p) b b′ m e = rw e
+-- what is ordered needs the stream queues only
+module _ (b b′ : Device Queue) (e : SameQueues b b′) where
+  queue-same : (d : Direction) → queueFor d b ≡ queueFor d b′
+  queue-same output = e .play
+  queue-same input = e .capture
+
+  with-same : (d : Direction) (r : Rest) (q : Queue) → withQueue d r q b ≡ withQueue d r q b′
+  with-same output r q = rw (e .capture)
+  with-same input r q = rw (e .play)
+
+  release-same : (id : ℕ) (p : Pending) (x : calls.Emptied Queue) → releaseStep id p b x ≡ releaseStep id p b′ x
+  unfolding releaseStep
+  release-same id p x = rw (with-same (directionOf id) (releasedOf id p (x .mem) (x .sound) (x .signal) .rest) (x .queue))
+
+  ordered-same : (o : Order) (m : List ℕ) → ordered countersOf o b m ≡ ordered countersOf o b′ m
+  ordered-same (Done o) m = rw (e .play, e .capture)
+  ordered-same (ReleaseFirst id p) m =
+      let d = directionOf id in
+      rw (queue-same d) (release-same id p (calls.emptied (countersOf d) (virtqueueOf (p .rest) d) (queueFor d b′) m))
 
 module _ (c : Card) (f : Fit c) (m : List ℕ) where
   taken-rest : restOf (takenCard c) ≡ withControl (oneTaken (restOf c .control)) (restOf c)
   unfolding restOf deviceOf
   taken-rest = ap (λ (d : Device Queue). d .rest) (held-device c f (c .registers) (oneTaken (countersAt c controlQueue)))
 
-  taken-play : deviceOf (takenCard c) .play ≡ deviceOf c .play
-  taken-play = ap (λ (d : Device Queue). d .play) (held-device c f (c .registers) (oneTaken (countersAt c controlQueue)))
+  taken-queues : SameQueues (deviceOf c) (deviceOf (takenCard c))
+  taken-queues =
+      let e = sym (held-device c f (c .registers) (oneTaken (countersAt c controlQueue))) in
+      record { play = ap (λ (d : Device Queue). d .play) e; capture = ap (λ (d : Device Queue). d .capture) e }
 
   -- the head that the ring has next
   abbrev pub nextHead : Head
   nextHead = ring.headOf m (pageIn c) (sizeOf controlQueue) (countersAt c controlQueue .taken)
 
-  pub next-broken : (cause : Cause) → nextHead ≡ Head.Broken cause → ordered (countersOf output) (headOf c m) (deviceOf c) m ≡ says (brokenOf c) m
+  pub next-broken : (cause : Cause) → nextHead ≡ Head.Broken cause → ordered countersOf (headOf c m) (deviceOf c) m ≡ says (brokenOf c) m
   next-broken cause h = rw (page-in c, h) (broken-says c f m)
 
   pub next-at : (n : DescriptorNumber) → nextHead ≡ Head.At n
-      → ordered (countersOf output) (headOf c m) (deviceOf c) m
-      ≡ ordered (countersOf output) (walkedAt (takenCard c) n m) (deviceOf (takenCard c)) m
+      → ordered countersOf (headOf c m) (deviceOf c) m
+      ≡ ordered countersOf (walkedAt (takenCard c) n m) (deviceOf (takenCard c)) m
   next-at n h =
       let e : headOf c m ≡ walkedAt (takenCard c) n m = rw (taken-rest, page-in c, h, page-in c) in
-      ordered-play (headOf c m) (deviceOf c) (deviceOf (takenCard c)) m (sym taken-play)
-      ∙ ap (λ (o : Order). ordered (countersOf output) o (deviceOf (takenCard c)) m) e
+      ordered-same (deviceOf c) (deviceOf (takenCard c)) taken-queues (headOf c m) m
+      ∙ ap (λ (o : Order). ordered countersOf o (deviceOf (takenCard c)) m) e
 
 -- ---- the call
 
@@ -252,7 +278,7 @@ module _ (c : Card) (m : List ℕ) where
   byTests long is-live =
       cond long (cond is-live (controlFound (restOf c) m checkIn) (Done (refused notLive (restOf c) m))) (Done (refused lengthDiffers (restOf c) m))
 
-  control-by : stepOf c Control m ≡ ordered (countersOf output) (byTests (eqb (length m) (c .«ram_len»)) (live (c .registers))) (deviceOf c) m
+  control-by : stepOf c Control m ≡ ordered countersOf (byTests (eqb (length m) (c .«ram_len»)) (live (c .registers))) (deviceOf c) m
   unfolding orderOf restOf deviceOf
   control-by = refl
 
@@ -278,7 +304,7 @@ module _ (c : Card) (m : List ℕ) where
       unfolding restOf deviceOf
       control-broken cause h = rw (control-by, long, lives, h)
 
-      pub control-next : (n : ℕ) → checkIn ≡ Check.New n → (n ≡ 0 → ⊥) → stepOf c Control m ≡ ordered (countersOf output) (headOf c m) (deviceOf c) m
+      pub control-next : (n : ℕ) → checkIn ≡ Check.New n → (n ≡ 0 → ⊥) → stepOf c Control m ≡ ordered countersOf (headOf c m) (deviceOf c) m
       unfolding restOf
       control-next zero h z = absurd (z refl)
       control-next (suc n) h z = rw (control-by, long, lives, h)

@@ -21,8 +21,7 @@ use Rattle.card.specs.declared.Counters.{Counters}
 use Rattle.message.specs.Card.{countersAt, restOf, deviceOf, leaves}
 use Rattle.rules.specs.Calls.{Result, Step, Pending, Order, ended, indirect, readMessage, controlHead}
 use Rattle.rules.specs.Control.{withState, withStream}
-use Rattle.rules.specs.Counters.{countersOf}
-use Rattle.rules.specs.Device.{Device, Queue, output, pageOf, streamAt, signalledIf, oneTaken}
+use Rattle.rules.specs.Device.{Device, Queue, pageOf, streamAt, signalledIf, oneTaken}
 use Rattle.rules.specs.Numbers.{controlQueue}
 use Rattle.stream.specs.Queue.{withRegisters}
 use Rattle.controlq.specs.declared.ControlAnswer.{ControlAnswer}
@@ -56,9 +55,9 @@ headOf c m =
 
 -- ---- what is left
 
--- a result that leaves the play queue of a card as it is
+-- a result that leaves the stream queues of a card as they are
 abbrev pub endsOn : Card → Result → Step (Device Queue)
-endsOn c o = ended (countersOf output) o (deviceOf c .play)
+endsOn c o = ended o (deviceOf c)
 
 -- what an answer tells, over memory
 abbrev pub says : ControlAnswer → List ℕ → Step (Device Queue)
@@ -97,4 +96,4 @@ brokenOf c = record { answer = queueBroken; count = 0; card = withRegisters (bro
 
 -- "the stream Released"
 abbrev pub markedOf : ℕ → Device Queue → Device Queue
-markedOf id b = record { rest = withStream (b .rest) id (withState releasedState (streamAt (b .rest) id)); play = b .play }
+markedOf id b = record { rest = withStream (b .rest) id (withState releasedState (streamAt (b .rest) id)); play = b .play; capture = b .capture }

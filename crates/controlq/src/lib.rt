@@ -11,7 +11,7 @@ ghost use Rattle.registers.specs.Map.{sizeOf};
 ghost use Rattle.rules.specs.Calls.{Request, ReleaseFirst, ordered, replied, releasedOf};
 ghost use Rattle.rules.specs.Control.{status};
 ghost use Rattle.rules.specs.Counters.{countersOf};
-ghost use Rattle.rules.specs.Device.{output, signalledIf};
+ghost use Rattle.rules.specs.Device.{signalledIf};
 ghost use Rattle.rules.specs.Numbers.{controlQueue};
 ghost use Rattle.stream.specs.Queue.{withRegisters};
 ghost use Rattle.controlq.specs.Control.{pendingOf, endsOn, says, sideOf, takenCard, countedOf, brokenOf, idleOf, markedOf, servedChain, walkedAt, headOf};
@@ -221,7 +221,7 @@ fn release(
     id: u32,
 ) -> ControlAnswer
     requires { ⌜ Fit card × (length (now m) ≡ card .«ram_len») ⌝ }
-    ensures { λ r. ⌜ (ordered (countersOf output) (ReleaseFirst id (pendingOf card head (rangesOf reply))) (deviceOf card) (now (m .entry))
+    ensures { λ r. ⌜ (ordered countersOf (ReleaseFirst id (pendingOf card head (rangesOf reply))) (deviceOf card) (now (m .entry))
         ≡ says r (now (m .exit))) × Fit (r .card) ⌝ }
 {
     if id == 0 {
@@ -241,7 +241,7 @@ fn serve_chain(
     reply: Ranges,
 ) -> ControlAnswer
     requires { ⌜ Fit card × (length (now m) ≡ card .«ram_len») × Sound request × Sound reply ⌝ }
-    ensures { λ r. ⌜ (ordered (countersOf output) (servedChain card head (rangesOf request) (rangesOf reply) (now (m .entry))) (deviceOf card) (now (m .entry))
+    ensures { λ r. ⌜ (ordered countersOf (servedChain card head (rangesOf request) (rangesOf reply) (now (m .entry))) (deviceOf card) (now (m .entry))
         ≡ says r (now (m .exit))) × Fit (r .card) ⌝ }
 {
     let mut out = [0u8; 132];
@@ -263,7 +263,7 @@ fn serve_chain(
 // The message at `head`, taken: one that can't be walked is completed with length 0.
 fn answer_chain(m: &mut [u8], card: Card, head: DescriptorNumber) -> ControlAnswer
     requires { ⌜ Fit card × (length (now m) ≡ card .«ram_len») ⌝ }
-    ensures { λ r. ⌜ (ordered (countersOf output) (walkedAt card head (now (m .entry))) (deviceOf card) (now (m .entry))
+    ensures { λ r. ⌜ (ordered countersOf (walkedAt card head (now (m .entry))) (deviceOf card) (now (m .entry))
         ≡ says r (now (m .exit))) × Fit (r .card) ⌝ }
 {
     let registers = card.registers;
@@ -285,7 +285,7 @@ fn answer_chain(m: &mut [u8], card: Card, head: DescriptorNumber) -> ControlAnsw
 // The next message of the control queue.
 fn answer_next(m: &mut [u8], card: Card) -> ControlAnswer
     requires { ⌜ Fit card × (length (now m) ≡ card .«ram_len») ⌝ }
-    ensures { λ r. ⌜ (ordered (countersOf output) (headOf card (now (m .entry))) (deviceOf card) (now (m .entry))
+    ensures { λ r. ⌜ (ordered countersOf (headOf card (now (m .entry))) (deviceOf card) (now (m .entry))
         ≡ says r (now (m .exit))) × Fit (r .card) ⌝ }
 {
     let registers = card.registers;

@@ -18,7 +18,6 @@ use Rattle.card.specs.declared.Card.{Card}
 use Rattle.card.specs.declared.Jack.{Jack}
 use Rattle.rules.specs.Calls.{Result, Step, Event, ended, refused, withConnected, admitted, eventAllowed, recorded, eventOf}
 use Rattle.rules.specs.Control.{noJack}
-use Rattle.rules.specs.Counters.{countersOf}
 use Rattle.rules.specs.Device.{Rest, Device, Queue, output, withJacks, streamAt}
 use Rattle.rules.specs.Numbers.{jackConnected, jackDisconnected, eventQueue}
 use Rattle.message.specs.Card.{restOf, deviceOf, stepOf, leaves}
@@ -104,7 +103,7 @@ module _ (c : Card) (f : Fit c) where
 
     pub sent-leaves : (code data′ : ℕ) (m after : List ℕ)
         → sentOf code data′ (holding (c .registers) (getD (c .queues) eventQueue noCounters) (restOf c)) m ≡ resultIn (restOf c) a after
-        → ended (countersOf output) (sentOf code data′ (restOf c) m) (deviceOf c .play)
+        → ended (sentOf code data′ (restOf c) m) (deviceOf c)
         ≡ leaves (cardHolding (a .registers) (a .counters) c) (a .answer) 0 [] [] after
     unfolding restOf
     sent-leaves code data′ m after h = rw (h, held-device)
@@ -150,8 +149,8 @@ module _ (c : Card) (code data′ : ℕ) (m : List ℕ) where
   -- an event that is sent, from the card `n` in which it is recorded
   pub event-sent : (n : Card) (o : Step (Device Queue)) → byTests ≡ sentOf code data′ (recorded (restOf c) code data′) m
       → deviceOf n ≡ withRest (recorded (restOf c) code data′) (deviceOf c)
-      → ended (countersOf output) (sentOf code data′ (restOf n) m) (deviceOf n .play) ≡ o
+      → ended (sentOf code data′ (restOf n) m) (deviceOf n) ≡ o
       → stepOf c (Event code data′) m ≡ o
   unfolding deviceOf
   event-sent n o h d x =
-      rw (event-by ∙ h) (ap (λ (v : Device Queue). ended (countersOf output) (sentOf code data′ (v .rest) m) (v .play)) (sym d) ∙ x)
+      rw (event-by ∙ h) (ap (λ (v : Device Queue). ended (sentOf code data′ (v .rest) m) v) (sym d) ∙ x)

@@ -46,4 +46,4 @@ cardHolding g q c =
     }
 
 abbrev pub withRest : Rest → Device Queue → Device Queue
-withRest r d = record { rest = r; play = d .play }
+withRest r d = record { rest = r; play = d .play; capture = d .capture }

@@ -10,8 +10,7 @@ ghost use Rattle.registers.specs.Rules.{hasBit};
 ghost use Rattle.card.specs.Fit.{Fit};
 ghost use Rattle.event_queue.specs.Attempts.{sentOf};
 ghost use Rattle.rules.specs.Calls.{Event, ended, isRunning, eventAllowed, recorded};
-ghost use Rattle.rules.specs.Counters.{countersOf};
-ghost use Rattle.rules.specs.Device.{output, streamAt};
+ghost use Rattle.rules.specs.Device.{streamAt};
 ghost use Rattle.message.specs.Card.{restOf, deviceOf, stepOf, leaves};
 ghost use Rattle.event.specs.Event.{cardConnected, withRest};
 use card::Card;
@@ -32,7 +31,7 @@ pub struct EventAnswer {
 // The event sent from the card, in which its state is recorded.
 fn send_from(card: Card, m: &mut [u8], code: u32, data: u32) -> EventAnswer
     requires { ⌜ Fit card ⌝ }
-    ensures { λ r. ⌜ (ended (countersOf output) (sentOf code «data» (restOf card) (now (m .entry))) (deviceOf card .play)
+    ensures { λ r. ⌜ (ended (sentOf code «data» (restOf card) (now (m .entry))) (deviceOf card)
         ≡ leaves (r .card) (r .answer) 0 [] [] (now (m .exit)))
         × Fit (r .card) ⌝ }
 {

@@ -21,14 +21,16 @@ use Rattle.card.specs.Card.{noCounters, freshStream, freshState, setState, prep
 use Rattle.card.specs.Rules.{poweredOf}
 use Rattle.card.specs.declared.Jack.{Jack}
 use Rattle.card.specs.declared.Stream.{Stream}
-use Rattle.rules.specs.Calls.{Request, ReadRegister, WriteRegister, Control, Play, Capture, Event, Call, Told, toldAll, step, Order as Decided, Done, ReleaseFirst, readMessage, Emptied, eventRoom, replied, orderOf, emptied, releasedOf, releasedInput, transferred, eventAllowed, recorded, eventPosted, tried, eventRun, eventOf, readStep, writeStep, releaseStep, playStep, captured}
+use Rattle.rules.specs.Calls.{Request, ReadRegister, WriteRegister, Control, Play, Capture, Event, Call, Told, toldAll, step, Order as Decided, Done, ReleaseFirst, readMessage, Emptied, eventRoom, replied, orderOf, emptied, releasedOf, transferred, eventAllowed, recorded, eventPosted, tried, eventRun, eventOf, readStep, writeStep, releaseStep, transferStep}
 use Rattle.rules.specs.Claim.{card, toldBy}
 use Rattle.rules.specs.Control.{Served, Reply, Release, joined, information, remap, lawfulFrom, judgedParams, setParams, served}
 use Rattle.rules.specs.Counters.{countersOf}
-use Rattle.rules.specs.Device.{Direction, output, input, Form, wellFormed, refused, silent, Taking, Queue, emptyQueue, Rest, Device, withRegisters, withJacks, withControl, withEvent, withCapture, bytesOf}
+use Rattle.rules.specs.Device.{Virtqueue, Direction, output, input, Form, wellFormed, refused, silent, Taking, Queue, emptyQueue, Rest, Device, withRegisters, withJacks, withControl, withEvent, bytesOf}
 use Rattle.rules.specs.Loop.{loop}
 use Rattle.rules.specs.Numbers.{pcmSetParams, pcmPrepare, pcmRelease, pcmStart, pcmStop, sOk, sBadMsg, sNotSupp}
-use Rattle.rules.specs.Transfer.{Run, formOf, takingOf, payloadOf, completed, moved, entered, next, transferRun, releaseRun}
+use Rattle.rules.specs.Histories as history
+use Rattle.rules.specs.Histories.{handedNow, waiting, took, noted}
+use Rattle.rules.specs.Transfer.{Ops, Run, formOf, takingOf, payloadOf, completed, moved, entered, next, transferRun, releaseRun}
 
 -- ---- memory in blocks
 
@@ -132,28 +134,31 @@ device ram status pages streams =
             streams = streams;
             control = noCounters;
             event = noCounters;
-            capture = emptyQueue;
           };
       play = emptyQueue;
+      capture = emptyQueue;
     }
 
 -- ---- running, with every rule open
 
 -- requests one after the other, each lent the memory that the one before left: what they answered and counted, and what they
 -- left
-pub record Ran : Type 0 where
+pub record Ran (Q : Type 0) : Type 0 where
   pub answers : List ℕ
   pub counts : List ℕ
-  pub state : Device Queue
+  pub state : Device Q
   pub memory : List ℕ
 
-unfoldable pub run : Device Queue → List ℕ → List Request → Ran
-unfolding descriptorAt descriptors joinedOf enterOf inTable direct le put total places upFrom putAt allInside registerAt configAt sizeOf readOf writeOf live signalled broken pageRead configBytes configValue isrRead wroteFeatures wrotePage wroteSelector wroteNotify storedStatus wroteStatus foundOf headAt postedAt interrupts replied orderOf emptied releasedOf releasedInput transferred eventAllowed recorded eventPosted tried eventRun eventOf readStep writeStep releaseStep playStep captured information remap judgedParams setParams served formOf takingOf payloadOf completed moved entered next transferRun releaseRun loop bytesOf toldBy
-run b m [] = record { answers = []; counts = []; state = b; memory = m }
-run b m (q ∷ qs) =
-    let s = step card b (record { asked = q; lent = m }) in
-    let o = run (s .state) (s .told .memory) qs in
+unfoldable pub runs : {Q : Type 0} → (Direction → Ops Q) → Device Q → List ℕ → List Request → Ran Q
+unfolding descriptorAt descriptors joinedOf enterOf inTable direct le put total places upFrom putAt allInside registerAt configAt sizeOf readOf writeOf live signalled broken pageRead configBytes configValue isrRead wroteFeatures wrotePage wroteSelector wroteNotify storedStatus wroteStatus foundOf headAt postedAt interrupts replied orderOf emptied releasedOf transferred eventAllowed recorded eventPosted tried eventRun eventOf readStep writeStep releaseStep transferStep information remap judgedParams setParams served formOf takingOf payloadOf completed moved entered next transferRun releaseRun loop bytesOf toldBy handedNow waiting took noted history.entered
+runs ops b m [] = record { answers = []; counts = []; state = b; memory = m }
+runs ops b m (q ∷ qs) =
+    let s = step ops b (record { asked = q; lent = m }) in
+    let o = runs ops (s .state) (s .told .memory) qs in
     record { answers = s .told .answer ∷ o .answers; counts = s .told .count ∷ o .counts; state = o .state; memory = o .memory }
+
+abbrev pub run : Device Queue → List ℕ → List Request → Ran Queue
+run b m qs = runs card b m qs
 
 abbrev pub call : Request → List ℕ → Call
 call q m = record { asked = q; lent = m }
@@ -172,7 +177,7 @@ pub checks-in-order :
     (map (λ (s : ℕ). asksAll s 7) (15 ∷ 7 ∷ []) ≡ replicate 2 (replicate 7 1))
     × (map (λ (s : ℕ). asksAll s 8) (7 ∷ 11 ∷ 79 ∷ 143 ∷ []) ≡ replicate 4 (replicate 7 5))
     × (asksAll 15 8 ≡ 0 ∷ 0 ∷ 6 ∷ 8 ∷ 7 ∷ 7 ∷ 7 ∷ [])
-unfolding run
+unfolding runs
 checks-in-order = (refl, refl, refl)
 
 -- a queue whose region passes the end of RAM: 6 and 7 come before 9, after which the device is not live
@@ -183,11 +188,11 @@ pub broken-comes-last :
     (pastRam runningState 16 (Capture [] ∷ Event 4096 1 ∷ Control ∷ Control ∷ []) ≡ 6 ∷ 7 ∷ 9 ∷ 5 ∷ [])
     × (pastRam runningState 0 (Event 4353 0 ∷ Play [] ∷ Play [] ∷ []) ≡ 7 ∷ 9 ∷ 5 ∷ [])
     × (pastRam stoppedState 16 (Play [] ∷ Event 4353 0 ∷ Event 4096 0 ∷ Event 4096 0 ∷ []) ≡ 6 ∷ 7 ∷ 9 ∷ 5 ∷ [])
-unfolding run
+unfolding runs
 broken-comes-last = (refl, refl, refl)
 
 -- the control ring at page 1, which ends where RAM ends: 64 new entries, and 65; a head of 64, which is not taken
-abbrev pub offering : ℕ → ℕ → Ran
+abbrev pub offering : ℕ → ℕ → Ran Queue
 offering index head = run (device 5768 15 (1 ∷ 0 ∷ 0 ∷ 0 ∷ []) []) (memory 5768 (block 5120 (available 1 index (head ∷ [])) ∷ [])) (Control ∷ [])
 
 pub control-ring :
@@ -195,7 +200,7 @@ pub control-ring :
     × (offering 65 0 .answers ≡ 9 ∷ [])
     × (offering 1 64 .answers ≡ 9 ∷ [])
     × (offering 1 64 .state .rest .control ≡ noCounters)
-unfolding run
+unfolding runs
 control-ring = (refl, refl, refl, refl)
 
 -- ---- answers 2, 3 and 4: registers
@@ -248,7 +253,7 @@ pub register-accesses :
     ∷ row (WriteRegister 8 4 7) 0 0
     ∷ row (ReadRegister 8 4) 0 7
     ∷ [])
-unfolding run
+unfolding runs
 register-accesses = refl
 
 -- a card in use: a remapped and unplugged jack, streams beyond Fresh, counters moved, a message in work on both stream queues
@@ -273,9 +278,9 @@ inUse status selector page =
             streams = stream runningState 16 ∷ stream stoppedState 16 ∷ [];
             control = record { taken = 2; completed = 1 };
             event = record { taken = 4; completed = 3 };
-            capture = inWork;
           };
       play = inWork;
+      capture = inWork;
     }
 
 abbrev pub writes : ℕ → ℕ → ℕ → Device Queue → Device Queue
@@ -294,21 +299,21 @@ pub a-reset :
             streams = replicate 2 (freshStream streamInfo);
             control = noCounters;
             event = noCounters;
-            capture = emptyQueue;
           };
       play = emptyQueue;
+      capture = emptyQueue;
     })
     × (writes 18 1 64 (inUse 79 3 1) ≡ inUse 64 3 1)
-unfolding run
+unfolding runs
 a-reset = (refl, refl)
 
 -- a base write clears its own queue, here 2 and 0; with DRIVER_OK set, or for a selector above 3, the write is dropped
 pub a-base-write :
-    (writes 8 4 3 (inUse 11 2 1) ≡ record { rest = inUse 11 2 1 .rest; play = emptyQueue })
-    × (writes 8 4 0 (inUse 11 0 1) ≡ record { rest = withControl noCounters (inUse 11 0 0 .rest); play = inWork })
+    (writes 8 4 3 (inUse 11 2 1) ≡ record { rest = inUse 11 2 1 .rest; play = emptyQueue; capture = inWork })
+    × (writes 8 4 0 (inUse 11 0 1) ≡ record { rest = withControl noCounters (inUse 11 0 0 .rest); play = inWork; capture = inWork })
     × (writes 8 4 5 (inUse 15 2 1) ≡ inUse 15 2 1)
     × (writes 8 4 5 (inUse 11 4 1) ≡ inUse 11 4 1)
-unfolding run
+unfolding runs
 a-base-write = (refl, refl, refl, refl)
 
 -- ---- play
@@ -341,7 +346,7 @@ pub play-in-two-calls :
     ∷ toldAll 0 0 255 2 (0 ∷ 99 ∷ []) (0 ∷ 99 ∷ [])
     (memory 10760 (block 200 (xfer ok) ∷ block 302 (99 ∷ []) ∷ twoHeads ∷ block 8710 (used 1 (element 5 8 ∷ [])) ∷ []))
     ∷ []
-unfolding run
+unfolding runs
 play-in-two-calls = refl
 
 -- answer 9, with room to meet the bad head: what came before it stands and is counted
@@ -356,12 +361,13 @@ pub bad-head-when-met :
           record {
             rest = withRegisters (registers 79 3 (0 ∷ 0 ∷ 1 ∷ 0 ∷ [])) (player .rest);
             play = record { taken = 1; completed = 1; work = none };
+            capture = emptyQueue;
           };
       told =
           toldAll 9 0 255 2 (11 ∷ 12 ∷ []) (11 ∷ 12 ∷ 0 ∷ [])
           (oneMessage (block 200 (xfer ok) ∷ []) (block 8710 (used 1 (element 5 8 ∷ [])) ∷ []));
     }
-unfolding run
+unfolding runs
 bad-head-when-met = refl
 
 -- ---- control
@@ -371,7 +377,7 @@ bad-head-when-met = refl
 abbrev pub refusing : Device Queue
 refusing =
     let b = device 5768 15 (1 ∷ 0 ∷ 0 ∷ 0 ∷ []) [] in
-    record { rest = withControl (record { taken = 65534; completed = 65534 }) (b .rest); play = b .play }
+    record { rest = withControl (record { taken = 65534; completed = 65534 }) (b .rest); play = b .play; capture = b .capture }
 
 abbrev pub refusals : List Block → List Block → List Block → List ℕ
 refusals replies low high =
@@ -390,12 +396,12 @@ pub control-refusals :
     ≡ record {
       answers = replicate 4 0;
       counts = 1 ∷ 1 ∷ 1 ∷ 0 ∷ [];
-      state = record { rest = withControl (record { taken = 1; completed = 1 }) (refusing .rest); play = emptyQueue };
+      state = record { rest = withControl (record { taken = 1; completed = 1 }) (refusing .rest); play = emptyQueue; capture = emptyQueue };
       memory =
           refusals (block 16 notSupp ∷ block 24 badMsg ∷ []) (block 5254 (used 1 (element 2 4 ∷ [])) ∷ [])
           (block 5752 (element 0 4 ++ element 1 0) ∷ []);
     }
-unfolding run
+unfolding runs
 control-refusals = refl
 
 -- "Walk fault, writable range outside RAM, or reply under 4 bytes .. Then readable outside RAM or request under 4", in 16 bytes of
@@ -413,7 +419,7 @@ pub control-at-the-borders :
     × (reads (range 0 4 ∷ range 16 1 ∷ []) (range 12 4 ∷ []) ≡ replicate 12 0 ++ badMsg)
     × (reads (range 0 4 ∷ []) (range 12 3 ∷ []) ≡ replicate 16 0)
     × (reads (range 0 4 ∷ []) (range 12 4 ∷ range 16 1 ∷ []) ≡ replicate 16 0)
-unfolding run
+unfolding runs
 control-at-the-borders = (refl, refl, refl, refl, refl)
 
 -- ---- STOP and RELEASE
@@ -445,9 +451,9 @@ pub capture-stop-release :
           record {
             rest =
                 withRegisters (registers 15 1 (1 ∷ 0 ∷ 0 ∷ 2 ∷ []))
-                (withControl (record { taken = 2; completed = 2 })
-                (withCapture (record { taken = 2; completed = 2; work = none }) (recorder releasedState .rest)));
+                (withControl (record { taken = 2; completed = 2 }) (recorder releasedState .rest));
             play = emptyQueue;
+            capture = record { taken = 2; completed = 2; work = none };
           };
       memory =
           recording
@@ -458,7 +464,7 @@ pub capture-stop-release :
           (block 5254 (used 2 (element 0 4 ∷ element 1 4 ∷ [])) ∷ [])
           (block 9350 (used 2 (element 0 11 ∷ element 1 8 ∷ [])) ∷ []);
     }
-unfolding run
+unfolding runs
 capture-stop-release = refl
 
 -- "If the queue breaks, the control message stays taken, uncompleted, and the stream keeps its state"; what came before it stands:
@@ -482,14 +488,18 @@ pub release-of-a-broken-queue :
           record {
             rest =
                 withRegisters (registers 79 3 (1 ∷ 0 ∷ 0 ∷ 2 ∷ []))
-                (withControl (record { taken = 1; completed = 0 })
-                (withCapture (record { taken = 1; completed = 1; work = none }) (recorder preparedState .rest)));
+                (withControl (record { taken = 1; completed = 0 }) (recorder preparedState .rest));
             play = emptyQueue;
+            capture = record { taken = 1; completed = 1; work = none };
           };
       told = toldAll 9 0 255 0 [] [] (badRing (block 41 (xfer ok) ∷ []) (block 9350 (used 1 (element 0 8 ∷ [])) ∷ []));
     }
-unfolding run
+unfolding runs
 release-of-a-broken-queue = refl
+
+-- the play queue at a page, indirect tables negotiated
+abbrev pub playAt : ℕ → Virtqueue
+playAt page = record { direction = output; page = record { 0 = page }; negotiated = true }
 
 -- what a RELEASE does to the play queue, at page 1, with counters about to wrap: a message in work, two of its three bytes
 -- played; behind it, at ring places 255 and 0, heads 1 and 9. The reply to 1 lies over the start of the available ring: the index
@@ -506,7 +516,7 @@ speaking reply start low high =
     ++ high)
 
 pub release-of-the-output :
-    emptied card output (record { 0 = 1 }) true inWork (speaking [] (available 0 1 (9 ∷ [])) [] [])
+    emptied (card output) (playAt 1) inWork (speaking [] (available 0 1 (9 ∷ [])) [] [])
     ≡ record {
       queue = record { taken = 1; completed = 1; work = none };
       mem =
@@ -515,13 +525,13 @@ pub release-of-the-output :
       sound = true;
       signal = true;
     }
-unfolding run
+unfolding runs
 release-of-the-output = refl
 
 -- the used index on each side of the wrap
 pub used-index :
-    (card .usedIndex (record { taken = 65535; completed = 65534; work = none }) ≡ 65535)
-    × (card .usedIndex (record { taken = 65535; completed = 65535; work = none }) ≡ 0)
+    (card output .usedIndex (record { taken = 65535; completed = 65534; work = none }) ≡ 65535)
+    × (card output .usedIndex (record { taken = 65535; completed = 65535; work = none }) ≡ 0)
 used-index = (refl, refl)
 
 -- on an idle queue nothing is pending; one whose region passes the end of RAM is broken, and its message in work stays
@@ -529,9 +539,9 @@ abbrev pub untouched : Bool → Emptied Queue
 untouched sound = record { queue = inWork; mem = replicate 8 0; sound = sound; signal = false }
 
 pub release-without-a-ring :
-    (emptied card output (record { 0 = 0 }) true inWork (replicate 8 0) ≡ untouched true)
-    × (emptied card output (record { 0 = 1 }) true inWork (replicate 8 0) ≡ untouched false)
-unfolding run
+    (emptied (card output) (playAt 0) inWork (replicate 8 0) ≡ untouched true)
+    × (emptied (card output) (playAt 1) inWork (replicate 8 0) ≡ untouched false)
+unfolding runs
 release-without-a-ring = (refl, refl)
 
 -- ---- events
@@ -544,7 +554,7 @@ eventRing =
 abbrev pub listener : ℕ → Device Queue
 listener connected =
     let b = device 5768 15 (0 ∷ 1 ∷ 0 ∷ 0 ∷ []) [] in
-    record { rest = withJacks (jack 1 18956319 connected ∷ []) (b .rest); play = emptyQueue }
+    record { rest = withJacks (jack 1 18956319 connected ∷ []) (b .rest); play = emptyQueue; capture = emptyQueue }
 
 -- the second takes the event; for the next there is none, and its jack state is recorded all the same
 pub event-past-a-bad-chain :
@@ -558,12 +568,13 @@ pub event-past-a-bad-chain :
                 withRegisters (registers 15 1 (0 ∷ 1 ∷ 0 ∷ 0 ∷ []))
                 (withEvent (record { taken = 2; completed = 2 }) (listener 0 .rest));
             play = emptyQueue;
+            capture = emptyQueue;
           };
       memory =
           memory 5768
           (block 24 (words (4096 ∷ 0 ∷ [])) ∷ eventRing ++ block 5254 (used 2 (element 0 0 ∷ element 1 8 ∷ [])) ∷ []);
     }
-unfolding run
+unfolding runs
 event-past-a-bad-chain = refl
 
 -- a chain with readable bytes, a range outside RAM, a reply under 8
@@ -575,7 +586,7 @@ pub event-buffers :
     × (takes (range 0 1 ∷ []) (range 8 8 ∷ []) ≡ none)
     × (takes [] (range 8 7 ∷ []) ≡ none)
     × (takes [] (range 9 8 ∷ []) ≡ none)
-unfolding run
+unfolding runs
 event-buffers = (refl, refl, refl, refl)
 
 -- ---- control messages, decided
@@ -612,7 +623,7 @@ pub params-in-order :
     × (asks freshState (params 8 4 0 2 69 7 0) ≡ some sNotSupp)
     × (asks freshState (params 8 4 0 2 5 71 0) ≡ some sNotSupp)
     × (asks freshState (params 262144 262144 16 1 5 7 0) ≡ some sOk)
-unfolding run
+unfolding runs
 params-in-order = (refl, refl, refl, refl, refl, refl, refl, refl, refl, refl, refl, refl)
 
 -- JACK_REMAP: jack, association, sequence
@@ -625,7 +636,7 @@ pub remap-in-order :
     × (asks freshState (remaps 0 16 0) ≡ some sBadMsg)
     × (asks freshState (remaps 0 0 16) ≡ some sBadMsg)
     × (asks freshState (remaps 0 15 15) ≡ some sOk)
-unfolding run
+unfolding runs
 remap-in-order = (refl, refl, refl, refl, refl)
 
 -- "A request shorter than its layout: BAD_MSG; extra bytes are ignored": each request, one byte longer and one shorter
@@ -650,7 +661,7 @@ pub layouts :
     × (map (λ (q : List ℕ). asks preparedState (take (length q - 1) q)) requests ≡ replicate 8 (some sBadMsg))
     × (asks runningState (words (261 ∷ 0 ∷ [])) ≡ some sOk)
     × (asks runningState (take 7 (words (261 ∷ 0 ∷ []))) ≡ some sBadMsg)
-unfolding run
+unfolding runs
 layouts = (refl, refl, refl, refl, refl)
 
 -- the lifecycle, all 30 pairs: a row for SET_PARAMS, PREPARE, START, STOP, RELEASE, a column for Fresh, Set, Prepared, Running,
@@ -684,7 +695,7 @@ pub lifecycle :
     × (leads 259 0 preparedState ≡ Release 0)
     × (leads 259 0 runningState ≡ Reply (rest runningState 16) badMsg)
     × (served (rest freshState 16) (words (257 ∷ 1 ∷ 8 ∷ 4 ∷ 0 ∷ []) ++ 2 ∷ 5 ∷ 7 ∷ 0 ∷ []) 4 ≡ Reply (rest freshState 16) badMsg)
-unfolding run
+unfolding runs
 lifecycle = (refl, refl, refl, refl, refl, refl, refl)
 
 -- information, byte by byte: the second of two streams (an input), a remapped jack, a channel map
@@ -698,7 +709,6 @@ informed =
       streams = replicate 2 (stream runningState 0);
       control = noCounters;
       event = noCounters;
-      capture = emptyQueue;
     }
 
 abbrev pub informs : ℕ → ℕ → ℕ → ℕ → ℕ → Served
@@ -717,7 +727,7 @@ pub information-items :
     × (informs 1 0 1 24 27 ≡ Reply informed badMsg)
     × (informs 512 0 2 24 52 ≡ Reply informed badMsg)
     × (informs 256 2 0 24 4 ≡ Reply informed badMsg)
-unfolding run
+unfolding runs
 information-items = (refl, refl, refl, refl, refl, refl)
 
 -- ---- messages of the stream queues: "I/O order", in 40 bytes that start with ids 0 and 1
@@ -741,7 +751,7 @@ pub forms-at-the-borders :
     × (forms input (range 4 3 ∷ []) (range 8 8 ∷ []) ≡ refused)
     × (forms input (range 0 4 ∷ []) (range 8 8 ∷ []) ≡ refused)
     × (forms input (range 4 4 ∷ []) (range 8 7 ∷ []) ≡ silent)
-unfolding run
+unfolding runs
 forms-at-the-borders = (refl, refl, refl, refl, refl, refl, refl, refl, refl, refl, refl, refl, refl, refl, refl)
 
 -- the addresses of a payload: the request past 4 bytes, the reply before its last 8; none of an ill-formed message
@@ -750,7 +760,7 @@ pays d form =
     payloadOf d (record { head = 0; request = range 10 3 ∷ range 20 3 ∷ []; reply = range 30 2 ∷ range 40 8 ∷ []; form = form })
 
 pub payloads : (pays output wellFormed ≡ 21 ∷ 22 ∷ []) × (pays input wellFormed ≡ 30 ∷ 31 ∷ []) × (pays input refused ≡ [])
-unfolding run
+unfolding runs
 payloads = (refl, refl, refl)
 
 -- three bytes captured into a payload of two, across descriptors: the third is left for the next message
@@ -768,9 +778,9 @@ capturing done mem bytes host room =
     }
 
 pub capture-moves :
-    moved (countersOf input) input (record { 0 = 1 }) true (capturing 0 (replicate 6 0) [] (7 ∷ 8 ∷ 9 ∷ []) 3)
+    moved (countersOf input) (record { direction = input; page = record { 0 = 1 }; negotiated = true }) (capturing 0 (replicate 6 0) [] (7 ∷ 8 ∷ 9 ∷ []) 3)
     ≡ capturing 2 (0 ∷ 7 ∷ 0 ∷ 0 ∷ 8 ∷ 0 ∷ []) (7 ∷ 8 ∷ []) (9 ∷ []) 1
-unfolding run
+unfolding runs
 capture-moves = refl
 
 -- ---- chains, in a table of 64 at address 0
@@ -806,7 +816,7 @@ pub walk-limits :
     × (walk true 16 (descriptor 0 1 1 64) ≡ faulted PastTable)
     × (walk true 16 (descriptor 0 1 1 256) ≡ faulted PastTable)
     × (walk true 16 (descriptor 18446744073709551615 4 8 7) ≡ whole (range 18446744073709551615 4 ∷ []) [])
-unfolding run
+unfolding runs
 walk-limits = (refl, refl, refl, refl, refl, refl, refl, refl, refl, refl)
 
 -- one direct descriptor, then one that names a table of this address and length, with these flags; 32 bytes at 32, where memory
@@ -824,7 +834,7 @@ pub indirect-tables :
     × (indirect true 32 16 4 (descriptor 32 16 4 0) ≡ faulted Nested)
     × (indirect true 32 16 4 (descriptor 5 2 1 1 ++ descriptor 7 3 2 0) ≡ faulted PastTable)
     × (indirect true 32 32 4 (descriptor 5 2 3 1 ++ descriptor 7 3 0 0) ≡ faulted Order)
-unfolding run
+unfolding runs
 indirect-tables = (refl, refl, refl, refl, refl, refl, refl, refl, refl)
 
 -- ---- answer 10

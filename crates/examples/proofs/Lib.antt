@@ -1,2 +1,3 @@
--- The rules run on small cases.
+-- The rules run on small cases; the account run once.
 pub mod Examples
+pub mod Account

@@ -13,22 +13,21 @@ use Rattle.ranges.specs.Ranges.{Sound, rangesOf, total, places, bytesAt, putAt}
 use Rattle.ranges.proofs.Laws.{length-places, take-min}
 use Rattle.card.specs.Fit.{FitMessage}
 use Rattle.card.specs.declared.Message.{Message}
-use Rattle.counts.specs.declared.PageNumber.{PageNumber}
 use Rattle.rules.specs.Counters.{countersOf, isNone}
 use Rattle.rules.specs.Device as rules
 use Rattle.rules.specs.Transfer.{Run, worked, moved, payloadOf, takingOf, statusOf, completed, settled, entered, next, givenUp, isNil, isWell}
 use Rattle.message.specs.Card.{takingIn, messageOf}
 use Rattle.message.specs.Message as message
-use Rattle.message.specs.Message.{answeredOf, FitTaken}
+use Rattle.message.specs.Message.{virtqueueAs, answeredOf, FitTaken}
 use Rattle.message.specs.declared.Form.the-variants.{WellFormed}
 use Rattle.message.specs.declared.Taken.{Taken}
-use Rattle.registers.specs.Map.{sizeOf}
+use Rattle.message.specs.declared.Virtqueue.{Virtqueue}
 use Rattle.counts.specs.declared.DescriptorNumber.{DescriptorNumber}
 use Rattle.ring.specs.declared.Cause.{Cause}
 use Rattle.ring.specs.declared.Head.{Head}
 use Rattle.ring.specs.Rules.{Completion, headOf}
 use mathlib.Core.Option.{Option, some}
-use Rattle.flow.specs.Flow.{payloadBytes, runOf, advancedBy, endedBy, refusedBy, refusedIn, begunWith, stoppedFlow, Busy, FitFlow}
+use Rattle.flow.specs.Flow.{payloadBytes, runOf, advancedBy, endedBy, refusedBy, refusedIn, begunWith, stoppedFlow, Busy, FitFlow, Steps}
 use Rattle.flow.specs.declared.Flow.{Flow}
 
 -- ---- parts of lists
@@ -68,11 +67,11 @@ reaches n bytes framing done h = omega arith
 reaches-past : (n bytes framing done : ℕ) → n ≤ bytes - framing - done → n ≤ bytes - done
 reaches-past n bytes framing done h = omega arith
 
-module _ (page : PageNumber) (negotiated : Bool) (m host : List ℕ) (f : Flow) (n : ℕ) (busy : Busy f) (inside : f .moved ≤ length host) where
+module _ (q : Virtqueue) (m host : List ℕ) (f : Flow) (n : ℕ) (busy : Busy f) (inside : f .moved ≤ length host) where
   -- handing on, in the rules' terms
   pub handed-on : Sound (f .message .request) → n ≡ min (length host - f .moved) (f .message .request .bytes - 4 - f .message .done)
       → runOf (advancedBy n f) m (sets host (f .moved) (bytesAt m (take n (drop (4 + f .message .done) (places (rangesOf (f .message .request)))))))
-      ≡ moved (countersOf rules.output) rules.output page negotiated (runOf f m host)
+      ≡ moved (countersOf rules.output) (virtqueueAs rules.output q) (runOf f m host)
   unfolding runOf moved payloadOf
   handed-on s e =
       let P = places (rangesOf (f .message .request)) in
@@ -95,7 +94,7 @@ module _ (page : PageNumber) (negotiated : Bool) (m host : List ℕ) (f : Flow) 
   -- filling, in the rules' terms
   pub filled : Sound (f .message .reply) → n ≡ min (length host - f .moved) (f .message .reply .bytes - 8 - f .message .done)
       → runOf (advancedBy n f) (putAt m (take n (drop (f .message .done) (places (rangesOf (f .message .reply))))) (drop (f .moved) host)) host
-      ≡ moved (countersOf rules.input) rules.input page negotiated (runOf f m host)
+      ≡ moved (countersOf rules.input) (virtqueueAs rules.input q) (runOf f m host)
   unfolding runOf moved payloadOf
   filled s e =
       let P = places (rangesOf (f .message .reply)) in
@@ -145,13 +144,13 @@ advanced-fit len room f n bytes framing t b e =
 -- ---- a completion
 
 -- the message's count gone, with the counters and the interrupt of a completion
-pub ended-run : (d : rules.Direction) (page : PageNumber) (negotiated : Bool) (e : rules.Ending) (code : ℕ) (m host : List ℕ) (f : Flow) → Busy f
-    → some code ≡ statusOf d e rules.wellFormed
-    → runOf (endedBy (answeredOf d m page (f .counters .completed) (f .message .head .0) (rangesOf (f .message .reply)) (some code) (f .message .done)) f)
-    (answeredOf d m page (f .counters .completed) (f .message .head .0) (rangesOf (f .message .reply)) (some code) (f .message .done) .memory) host
-    ≡ completed (countersOf d) d page negotiated e (runOf f m host)
+pub ended-run : (v : rules.Virtqueue) (e : rules.Ending) (code : ℕ) (m host : List ℕ) (f : Flow) → Busy f
+    → some code ≡ statusOf (v .direction) e rules.wellFormed
+    → runOf (endedBy (answeredOf (v .direction) m (v .page) (f .counters .completed) (f .message .head .0) (rangesOf (f .message .reply)) (some code) (f .message .done)) f)
+    (answeredOf (v .direction) m (v .page) (f .counters .completed) (f .message .head .0) (rangesOf (f .message .reply)) (some code) (f .message .done) .memory) host
+    ≡ completed (countersOf (v .direction)) v e (runOf f m host)
 unfolding runOf completed answeredOf
-ended-run d page negotiated e code m host f busy s = rw (busy, ← s)
+ended-run v e code m host f busy s = rw (busy, ← s)
 
 pub ended-fit : (len : ℕ) (c : Completion) (f : Flow) → FitMessage len (f .message) → FitMessage len (endedBy c f .message)
 ended-fit len c f g =
@@ -182,30 +181,30 @@ not-nil : (l : List ℕ) → 0 < length l → isNil l ≡ false
 not-nil [] h = absurd (omega arith)
 not-nil (x ∷ l) h = refl
 
-module _ (d : rules.Direction) (page : PageNumber) (negotiated : Bool) (m host : List ℕ) (f : Flow) (busy : Busy f) (g : FitMessage (length m) (f .message)) where
-  pub settled-now : payloadBytes d (f .message) - f .message .done ≡ 0
-      → settled (countersOf d) d page negotiated (runOf f m host) ≡ completed (countersOf d) d page negotiated rules.finished (runOf f m host)
+module _ (v : rules.Virtqueue) (m host : List ℕ) (f : Flow) (busy : Busy f) (g : FitMessage (length m) (f .message)) where
+  pub settled-now : payloadBytes (v .direction) (f .message) - f .message .done ≡ 0
+      → settled (countersOf (v .direction)) v (runOf f m host) ≡ completed (countersOf (v .direction)) v rules.finished (runOf f m host)
   unfolding runOf
-  settled-now h = rw (busy, nil-of (drop (f .message .done) (payloadOf d (takingIn (f .message)))) (left-length d (f .message) (g .request) (g .reply) ∙ h))
+  settled-now h = rw (busy, nil-of (drop (f .message .done) (payloadOf (v .direction) (takingIn (f .message)))) (left-length (v .direction) (f .message) (g .request) (g .reply) ∙ h))
 
-  pub settled-later : 0 < payloadBytes d (f .message) - f .message .done → settled (countersOf d) d page negotiated (runOf f m host) ≡ runOf f m host
+  pub settled-later : 0 < payloadBytes (v .direction) (f .message) - f .message .done → settled (countersOf (v .direction)) v (runOf f m host) ≡ runOf f m host
   unfolding runOf
-  settled-later h = rw (busy, not-nil (drop (f .message .done) (payloadOf d (takingIn (f .message)))) (rw (left-length d (f .message) (g .request) (g .reply)) h))
+  settled-later h = rw (busy, not-nil (drop (f .message .done) (payloadOf (v .direction) (takingIn (f .message)))) (rw (left-length (v .direction) (f .message) (g .request) (g .reply)) h))
 
 -- an ill-formed chain
-pub refused-run : (d : rules.Direction) (page : PageNumber) (negotiated : Bool) (t : rules.Taking) (status : Option ℕ) (m host : List ℕ) (f : Flow)
-    → f .message .count ≡ 0 → status ≡ statusOf d rules.illFormed (t .form)
-    → runOf (refusedBy (answeredOf d m page (f .counters .completed) (t .head) (t .reply) status 0) f)
-    (answeredOf d m page (f .counters .completed) (t .head) (t .reply) status 0 .memory) host
-    ≡ refusedIn d page negotiated t (runOf f m host)
+pub refused-run : (v : rules.Virtqueue) (t : rules.Taking) (status : Option ℕ) (m host : List ℕ) (f : Flow)
+    → f .message .count ≡ 0 → status ≡ statusOf (v .direction) rules.illFormed (t .form)
+    → runOf (refusedBy (answeredOf (v .direction) m (v .page) (f .counters .completed) (t .head) (t .reply) status 0) f)
+    (answeredOf (v .direction) m (v .page) (f .counters .completed) (t .head) (t .reply) status 0 .memory) host
+    ≡ refusedIn v t (runOf f m host)
 unfolding runOf completed answeredOf
-refused-run d page negotiated t status m host f free s = rw (free, s)
+refused-run v t status m host f free s = rw (free, s)
 
 -- a well-formed message begun
-pub begun-run : (d : rules.Direction) (page : PageNumber) (negotiated : Bool) (t : Taken) (m host : List ℕ) (f : Flow) → t .form ≡ WellFormed
-    → runOf (begunWith t f) m host ≡ entered (countersOf d) d page negotiated (message.takingIn t) (runOf f m host)
+pub begun-run : (v : rules.Virtqueue) (t : Taken) (m host : List ℕ) (f : Flow) → t .form ≡ WellFormed
+    → runOf (begunWith t f) m host ≡ entered (countersOf (v .direction)) v (message.takingIn t) (runOf f m host)
 unfolding runOf entered
-begun-run d page negotiated t m host f w = rw w
+begun-run v t m host f w = rw w
 
 pub begun-fit : (len : ℕ) (t : Taken) (f : Flow) → t .form ≡ WellFormed → FitTaken len t → FitMessage len (begunWith t f .message)
 begun-fit len t f w g =
@@ -222,50 +221,55 @@ begun-fit len t f w g =
     }
 
 -- an ill-formed one refused
-pub refused-entered : (d : rules.Direction) (page : PageNumber) (negotiated : Bool) (t : rules.Taking) (r : Run rules.Queue) → isWell (t .form) ≡ false
-    → entered (countersOf d) d page negotiated t r ≡ refusedIn d page negotiated t r
+refused-entered : (v : rules.Virtqueue) (t : rules.Taking) (r : Run rules.Queue) → isWell (t .form) ≡ false
+    → entered (countersOf (v .direction)) v t r ≡ refusedIn v t r
 unfolding entered
-refused-entered d page negotiated t r w = rw w
+refused-entered v t r w = rw w
+
+pub refused-steps : (v : rules.Virtqueue) (t : rules.Taking) (m : List ℕ) (f : Flow) (m′ : List ℕ) (r : Flow) → isWell (t .form) ≡ false
+    → Steps (refusedIn v t) m f m′ r → Steps (entered (countersOf (v .direction)) v t) m f m′ r
+refused-steps v t m f m′ r w s =
+    record { run = λ host. s .run host ∙ sym (refused-entered v t _ w); message = s .message; moved = s .moved; long = s .long }
 
 -- the next entry by its head
-module _ (d : rules.Direction) (page : PageNumber) (negotiated : Bool) (m host : List ℕ) (f : Flow) where
-  pub next-taken : (n : DescriptorNumber) → headOf m page (sizeOf (rules.queueNumber d)) (f .counters .taken) ≡ Head.At n
-      → next (countersOf d) d page negotiated (runOf f m host)
-      ≡ entered (countersOf d) d page negotiated (takingOf d m page negotiated (n .0)) (runOf f m host)
+module _ (v : rules.Virtqueue) (m host : List ℕ) (f : Flow) where
+  pub next-taken : (n : DescriptorNumber) → headOf m (v .page) (rules.queueSize v) (f .counters .taken) ≡ Head.At n
+      → next (countersOf (v .direction)) v (runOf f m host)
+      ≡ entered (countersOf (v .direction)) v (takingOf v m (n .0)) (runOf f m host)
   unfolding next runOf
   next-taken n h = rw h
 
-  pub next-stopped : (cause : Cause) → headOf m page (sizeOf (rules.queueNumber d)) (f .counters .taken) ≡ Head.Broken cause
-      → next (countersOf d) d page negotiated (runOf f m host) ≡ runOf (stoppedFlow f) m host
+  pub next-stopped : (cause : Cause) → headOf m (v .page) (rules.queueSize v) (f .counters .taken) ≡ Head.Broken cause
+      → next (countersOf (v .direction)) v (runOf f m host) ≡ runOf (stoppedFlow f) m host
   unfolding next runOf
   next-stopped cause h = rw h
 
 -- a Release of the message in work
-module _ (d : rules.Direction) (page : PageNumber) (negotiated : Bool) (m host : List ℕ) (f : Flow) where
-  pub given-none : f .message .count ≡ 0 → givenUp (countersOf d) d page negotiated (runOf f m host) ≡ runOf f m host
+module _ (v : rules.Virtqueue) (m host : List ℕ) (f : Flow) where
+  pub given-none : f .message .count ≡ 0 → givenUp (countersOf (v .direction)) v (runOf f m host) ≡ runOf f m host
   unfolding runOf
   given-none h = rw h
 
   pub given-one : f .message .count ≡ 1
-      → givenUp (countersOf d) d page negotiated (runOf f m host) ≡ completed (countersOf d) d page negotiated rules.released (runOf f m host)
+      → givenUp (countersOf (v .direction)) v (runOf f m host) ≡ completed (countersOf (v .direction)) v rules.released (runOf f m host)
   unfolding runOf
   given-one h = rw h
 
 -- work by what there is: no room, no message, or both
-module _ (d : rules.Direction) (page : PageNumber) (negotiated : Bool) (m host : List ℕ) (f : Flow) where
-  pub worked-full : length host ≤ f .moved → worked (countersOf d) d page negotiated (runOf f m host) ≡ runOf f m host
+module _ (v : rules.Virtqueue) (m host : List ℕ) (f : Flow) where
+  pub worked-full : length host ≤ f .moved → worked (countersOf (v .direction)) v (runOf f m host) ≡ runOf f m host
   unfolding runOf
   worked-full h = let z : length host - f .moved ≡ 0 = omega arith in rw z
 
-  pub worked-idle : f .message .count ≡ 0 → worked (countersOf d) d page negotiated (runOf f m host) ≡ runOf f m host
+  pub worked-idle : f .message .count ≡ 0 → worked (countersOf (v .direction)) v (runOf f m host) ≡ runOf f m host
   unfolding runOf
   worked-idle h = by (ltb 0 (length host - f .moved)) where
-    by : (b : Bool) → cond (b && not (isNone (messageOf (f .message)))) (settled (countersOf d) d page negotiated (moved (countersOf d) d page negotiated (runOf f m host))) (runOf f m host) ≡ runOf f m host
+    by : (b : Bool) → cond (b && not (isNone (messageOf (f .message)))) (settled (countersOf (v .direction)) v (moved (countersOf (v .direction)) v (runOf f m host))) (runOf f m host) ≡ runOf f m host
     by true = rw h
     by false = refl
 
   pub worked-busy : f .moved < length host → f .message .count ≡ 1
-      → worked (countersOf d) d page negotiated (runOf f m host) ≡ settled (countersOf d) d page negotiated (moved (countersOf d) d page negotiated (runOf f m host))
+      → worked (countersOf (v .direction)) v (runOf f m host) ≡ settled (countersOf (v .direction)) v (moved (countersOf (v .direction)) v (runOf f m host))
   unfolding runOf
   worked-busy h b = rw (lt-ltb 0 (length host - f .moved) (omega arith), b)
 

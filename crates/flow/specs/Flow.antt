@@ -1,6 +1,6 @@
 -- What the code's structs stand for: a stream's queue and a call's progress on it, as the rules' `Queue` and `Run`.
 use mathlib.Core.Path.{_≡_}
-use mathlib.Core.Bool.{Bool, true, false, _||_}
+use mathlib.Core.Bool.{true, false, _||_}
 use mathlib.Core.List.{List}
 use Prim.Native.Nat.{ℕ, _+_, _-_, _%_, _≤_}
 use lib.ListN.{length, take, drop}
@@ -13,7 +13,6 @@ use Rattle.message.specs.declared.Taken.{Taken}
 use Rattle.rules.specs.Device as rules
 use Rattle.rules.specs.Transfer.{Run, completed, taking}
 use Rattle.rules.specs.Counters.{countersOf}
-use Rattle.counts.specs.declared.PageNumber.{PageNumber}
 use Rattle.flow.specs.declared.Ending.{Ending}
 use Rattle.flow.specs.declared.Ending.the-variants.{Finished, Released}
 use Rattle.flow.specs.declared.Flow.{Flow}
@@ -129,11 +128,11 @@ pub record StepsOn (step : Run rules.Queue → Run rules.Queue) (m host : List �
   pub host-long : length host′ ≡ length host
 
 -- a message in work completed: no message is in work after it
-pub record Ends (d : rules.Direction) (page : PageNumber) (negotiated : Bool) (e : rules.Ending) (m : List ℕ) (f : Flow) (m′ : List ℕ) (r : Flow) : Type 0 where
-  pub steps : Steps (completed (countersOf d) d page negotiated e) m f m′ r
+pub record Ends (v : rules.Virtqueue) (e : rules.Ending) (m : List ℕ) (f : Flow) (m′ : List ℕ) (r : Flow) : Type 0 where
+  pub steps : Steps (completed (countersOf (v .direction)) v e) m f m′ r
   pub free : r .message .count ≡ 0
 
 -- an ill-formed chain taken and completed
-abbrev pub refusedIn : rules.Direction → PageNumber → Bool → rules.Taking → Run rules.Queue → Run rules.Queue
-refusedIn d page negotiated t r =
-    completed (countersOf d) d page negotiated rules.illFormed (taking (countersOf d) d page negotiated t r)
+abbrev pub refusedIn : rules.Virtqueue → rules.Taking → Run rules.Queue → Run rules.Queue
+refusedIn v t r =
+    completed (countersOf (v .direction)) v rules.illFormed (taking (countersOf (v .direction)) v t r)

@@ -4,7 +4,7 @@
 ghost use mathlib.Core.Path.{_≡_};
 ghost use Prim.Native.Nat.{_+_, _-_, _≤_, _<_, min};
 ghost use lib.ListN.{length};
-ghost use Rattle.message.specs.Message.{directionOf, formIn, statusIn, takingIn, FitTaken};
+ghost use Rattle.message.specs.Message.{directionOf, virtqueueAs, virtqueueIn, formIn, statusIn, takingIn, FitTaken};
 ghost use Rattle.rules.specs.Counters.{countersOf};
 ghost use Rattle.rules.specs.Device.{output, input, wellFormed, illFormed};
 ghost use Rattle.card.specs.Fit.{FitMessage};
@@ -76,7 +76,7 @@ fn beyond(bytes: u32, framing: u32, done: u32) -> usize
 fn hand_on(m: &[u8], host: &mut [u8], q: Virtqueue, f: Flow) -> Flow
     requires { ⌜ Busy f × FitFlow (length (now m)) (length (now host)) f ⌝ }
     ensures { λ r. ⌜ (runOf r (now (m .entry)) (now (host .exit))
-        ≡ moved (countersOf output) output (q .page) (q .indirect) (runOf f (now (m .entry)) (now (host .entry))))
+        ≡ moved (countersOf output) (virtqueueAs output q) (runOf f (now (m .entry)) (now (host .entry))))
         × Busy r × FitFlow (length (now (m .entry))) (length (now (host .entry))) r ⌝ }
 {
     let message = f.message;
@@ -91,7 +91,7 @@ fn hand_on(m: &[u8], host: &mut [u8], q: Virtqueue, f: Flow) -> Flow
 fn fill(m: &mut [u8], host: &[u8], q: Virtqueue, f: Flow) -> Flow
     requires { ⌜ Busy f × FitFlow (length (now m)) (length (now host)) f ⌝ }
     ensures { λ r. ⌜ (runOf r (now (m .exit)) (now (host .entry))
-        ≡ moved (countersOf input) input (q .page) (q .indirect) (runOf f (now (m .entry)) (now (host .entry))))
+        ≡ moved (countersOf input) (virtqueueAs input q) (runOf f (now (m .entry)) (now (host .entry))))
         × Busy r × FitFlow (length (now (m .entry))) (length (now (host .entry))) r ⌝ }
 {
     let message = f.message;
@@ -140,7 +140,7 @@ fn status_of(d: Direction, ending: Ending) -> u32
 // The message in work completed.
 fn end_message(m: &mut [u8], q: Virtqueue, f: Flow, ending: Ending) -> Flow
     requires { ⌜ Busy f × FitMessage (length (now m)) (f .message) ⌝ }
-    ensures { λ r. ⌜ Ends (directionOf (q .direction)) (q .page) (q .indirect) (endingOf ending) (now (m .entry)) f (now (m .exit)) r ⌝ }
+    ensures { λ r. ⌜ Ends (virtqueueIn q) (endingOf ending) (now (m .entry)) f (now (m .exit)) r ⌝ }
 {
     let direction = q.direction;
     let mut message = f.message;
@@ -170,7 +170,7 @@ fn end_message(m: &mut [u8], q: Virtqueue, f: Flow, ending: Ending) -> Flow
 // The message in work completed where nothing of its payload waits.
 fn settle(m: &mut [u8], q: Virtqueue, f: Flow) -> Flow
     requires { ⌜ Busy f × FitMessage (length (now m)) (f .message) ⌝ }
-    ensures { λ r. ⌜ Steps (settled (countersOf (directionOf (q .direction))) (directionOf (q .direction)) (q .page) (q .indirect))
+    ensures { λ r. ⌜ Steps (settled (countersOf (directionOf (q .direction))) (virtqueueIn q))
         (now (m .entry)) f (now (m .exit)) r ⌝ }
 {
     let message = f.message;
@@ -186,7 +186,7 @@ fn refuse(m: &mut [u8], q: Virtqueue, f: Flow, taken: Taken, status: Status) -> 
     requires { ⌜ FitTaken (length (now m)) taken × FitMessage (length (now m)) (f .message)
         × (statusIn status ≡ statusOf (directionOf (q .direction)) illFormed (formIn (taken .form))) ⌝ }
     ensures { λ r. ⌜ (f .message .count ≡ 0
-        → Steps (refusedIn (directionOf (q .direction)) (q .page) (q .indirect) (takingIn taken)) (now (m .entry)) f (now (m .exit)) r) ⌝ }
+        → Steps (refusedIn (virtqueueIn q) (takingIn taken)) (now (m .entry)) f (now (m .exit)) r) ⌝ }
 {
     let mut counters = f.counters;
     let message = f.message;
@@ -206,7 +206,7 @@ fn refuse(m: &mut [u8], q: Virtqueue, f: Flow, taken: Taken, status: Status) -> 
 // An entry that was taken: a well-formed message is in work, an ill-formed one completed at once.
 fn enter(m: &mut [u8], q: Virtqueue, f: Flow, taken: Taken) -> Flow
     requires { ⌜ (f .message .count ≡ 0) × FitTaken (length (now m)) taken × FitMessage (length (now m)) (f .message) ⌝ }
-    ensures { λ r. ⌜ Steps (entered (countersOf (directionOf (q .direction))) (directionOf (q .direction)) (q .page) (q .indirect) (takingIn taken))
+    ensures { λ r. ⌜ Steps (entered (countersOf (directionOf (q .direction))) (virtqueueIn q) (takingIn taken))
         (now (m .entry)) f (now (m .exit)) r ⌝ }
 {
     let form = taken.form;
@@ -214,6 +214,7 @@ fn enter(m: &mut [u8], q: Virtqueue, f: Flow, taken: Taken) -> Flow
         Form::WellFormed => begin(f, taken),
         Form::Refused => refuse(m, q, f, taken, Status::Code(message::IO_ERR)),
         Form::Silent => refuse(m, q, f, taken, Status::Nothing),
+        Form::Unwalked(_) => refuse(m, q, f, taken, Status::Nothing),
     }
 }
 
@@ -244,7 +245,7 @@ fn begin(f: Flow, taken: Taken) -> Flow
 // The next new entry; a bad head is not taken, and stops the flow.
 pub fn meet(m: &mut [u8], q: Virtqueue, f: Flow) -> Flow
     requires { ⌜ (f .message .count ≡ 0) × FitMessage (length (now m)) (f .message) ⌝ }
-    ensures { λ r. ⌜ Steps (next (countersOf (directionOf (q .direction))) (directionOf (q .direction)) (q .page) (q .indirect))
+    ensures { λ r. ⌜ Steps (next (countersOf (directionOf (q .direction))) (virtqueueIn q))
         (now (m .entry)) f (now (m .exit)) r ⌝ }
 {
     let direction = q.direction;
@@ -262,7 +263,7 @@ pub fn meet(m: &mut [u8], q: Virtqueue, f: Flow) -> Flow
 // A Release ends the message in work.
 pub fn give_up(m: &mut [u8], q: Virtqueue, f: Flow) -> Flow
     requires { ⌜ FitMessage (length (now m)) (f .message) ⌝ }
-    ensures { λ r. ⌜ Steps (givenUp (countersOf (directionOf (q .direction))) (directionOf (q .direction)) (q .page) (q .indirect))
+    ensures { λ r. ⌜ Steps (givenUp (countersOf (directionOf (q .direction))) (virtqueueIn q))
         (now (m .entry)) f (now (m .exit)) r ⌝ }
 {
     if f.message.count == 0 {
@@ -274,7 +275,7 @@ pub fn give_up(m: &mut [u8], q: Virtqueue, f: Flow) -> Flow
 // While the host has room the message in work is handed on.
 pub fn work_play(m: &mut [u8], host: &mut [u8], q: Virtqueue, f: Flow) -> Flow
     requires { ⌜ (q .direction ≡ Direction.Output) × FitFlow (length (now m)) (length (now host)) f ⌝ }
-    ensures { λ r. ⌜ StepsOn (worked (countersOf output) output (q .page) (q .indirect))
+    ensures { λ r. ⌜ StepsOn (worked (countersOf output) (virtqueueAs output q))
         (now (m .entry)) (now (host .entry)) f (now (m .exit)) (now (host .exit)) r ⌝ }
 {
     if host.len() <= f.moved {
@@ -290,7 +291,7 @@ pub fn work_play(m: &mut [u8], host: &mut [u8], q: Virtqueue, f: Flow) -> Flow
 // While the host has bytes the message in work is filled.
 pub fn work_capture(m: &mut [u8], host: &[u8], q: Virtqueue, f: Flow) -> Flow
     requires { ⌜ (q .direction ≡ Direction.Input) × FitFlow (length (now m)) (length (now host)) f ⌝ }
-    ensures { λ r. ⌜ StepsOn (worked (countersOf input) input (q .page) (q .indirect))
+    ensures { λ r. ⌜ StepsOn (worked (countersOf input) (virtqueueAs input q))
         (now (m .entry)) (now (host .entry)) f (now (m .exit)) (now (host .entry)) r ⌝ }
 {
     if host.len() <= f.moved {

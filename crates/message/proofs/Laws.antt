@@ -8,12 +8,13 @@ use lib.Dec.{eqb, leb}
 use lib.ListN.{length, drop, replicate}
 use lib.Seq.{sets}
 use Rattle.chain.specs.Walk.{Outcome, walkOf}
+use Rattle.chain.specs.declared.Fault.{Fault}
 use Rattle.counts.specs.declared.PageNumber.{PageNumber}
 use Rattle.registers.specs.Map.{sizeOf}
 use Rattle.ring.specs.Rules.{baseOf, postOf, completedOf}
 use Rattle.ranges.proofs.Laws.{putAt-take, sound-none}
 use Rattle.message.specs.Message.{answeredOf, answeredLength, FitTaken}
-use Rattle.message.specs.declared.Form.the-variants.{Silent}
+use Rattle.message.specs.declared.Form.the-variants.{Unwalked}
 use Rattle.counts.specs.declared.DescriptorNumber.{DescriptorNumber}
 use mathlib.Core.Option.{some}
 use Rattle.memory.specs.Bytes.{le, put}
@@ -38,10 +39,10 @@ unfolding put rules.bytesOf
 status-put code = refl
 
 -- a taking goes by the outcome of the walk
-pub taken-by : (d : rules.Direction) (m : List ℕ) (page : PageNumber) (negotiated : Bool) (head : ℕ) (o : Outcome)
-    → o ≡ walkOf m (baseOf page) (sizeOf (rules.queueNumber d)) head negotiated → walkedTaking d m head o ≡ takingOf d m page negotiated head
+pub taken-by : (v : rules.Virtqueue) (m : List ℕ) (head : ℕ) (o : Outcome)
+    → o ≡ walkOf m (baseOf (v .page)) (rules.queueSize v) head (v .negotiated) → walkedTaking (v .direction) m head o ≡ takingOf v m head
 unfolding takingOf
-taken-by d m page negotiated head o h = ap (walkedTaking d m head) h
+taken-by v m head o h = ap (walkedTaking (v .direction) m head) h
 
 -- a completion whose eight bytes go to the reply's last eight is an answer
 pub completed-answer : (d : rules.Direction) (m : List ℕ) (page : PageNumber) (completed : ℕ) (head : DescriptorNumber) (reply : List Range) (code recorded : ℕ)
@@ -54,9 +55,9 @@ completed-answer rules.input m page completed head reply code recorded =
     rw (putAt-take 8 m (drop (total reply - 8) (places reply)) (statusBytes code) (omega arith))
 
 -- a chain without ranges, that can't be walked
-pub no-ranges-fit : (len : ℕ) (head : DescriptorNumber) → FitTaken len (record { form = Silent; head = head; request = noRanges; reply = noRanges })
+pub no-ranges-fit : (len : ℕ) (f : Fault) (head : DescriptorNumber) → FitTaken len (record { form = Unwalked f; head = head; request = noRanges; reply = noRanges })
 unfolding allInside
-no-ranges-fit len head =
+no-ranges-fit len f head =
     record {
       request = sound-none;
       reply = sound-none;

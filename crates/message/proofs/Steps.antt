@@ -16,7 +16,7 @@ use Rattle.card.specs.Card.{noCounters, withRegisters}
 use Rattle.card.specs.Fit.{Fit}
 use Rattle.card.specs.Rules.{poweredOf, readCard, writeCard, affected, resetCard, basedCard, rungOf, jackReset, streamReset}
 use Rattle.card.specs.declared.Card.{Card}
-use Rattle.rules.specs.Calls.{ReadRegister, WriteRegister, toldAll, nothingRung, readStep, writeStep, affectedRest, clearsPlay}
+use Rattle.rules.specs.Calls.{ReadRegister, WriteRegister, toldAll, nothingRung, readStep, writeStep, affectedRest, clearsQueue}
 use Rattle.rules.specs.Claim.{start}
 use Rattle.rules.specs.Counters.{countersOf}
 use Rattle.rules.specs.Device as rules
@@ -24,7 +24,7 @@ use Rattle.message.specs.Card.{queueOf, countersAt, restOf, deviceOf, st
 
 -- ---- power-up
 
-pub power-start : (d : Description) (len : ℕ) → lawful d ≡ true → deviceOf (poweredOf d len .card) ≡ start (countersOf rules.output) d len
+pub power-start : (d : Description) (len : ℕ) → lawful d ≡ true → deviceOf (poweredOf d len .card) ≡ start countersOf d len
 unfolding deviceOf restOf poweredOf
 power-start d len h = rw h
 
@@ -66,7 +66,11 @@ kept c q i n = getD-set-other (c .queues) q i noCounters noCounters n
 -- what an effect makes of the card it makes of what the card stands for
 affected-rest : (e : Effect) (c : Card) → length (c .queues) ≡ 4 → queueNamed e < 4
     → deviceOf (affected e c)
-    ≡ record { rest = affectedRest e (restOf c); play = cond (clearsPlay e) rules.emptyQueue (queueOf (countersAt c 2) (c .play)) }
+    ≡ record {
+      rest = affectedRest e (restOf c);
+      play = cond (clearsQueue rules.output e) rules.emptyQueue (queueOf (countersAt c 2) (c .play));
+      capture = cond (clearsQueue rules.input e) rules.emptyQueue (queueOf (countersAt c 3) (c .capture));
+    }
 unfolding deviceOf restOf resetCard basedCard
 affected-rest Nothing c four h = refl
 affected-rest Reset c four h = rw (map-take jackReset, map-take streamReset)

@@ -28,7 +28,7 @@ queueOf c m = record { taken = c .taken; completed = c .completed; work = messag
 abbrev pub countersAt : Card → ℕ → Counters
 countersAt c q = getD (c .queues) q noCounters
 
--- all but the play queue
+-- all but the stream queues
 unfoldable pub restOf : Card → rules.Rest
 restOf c =
     record {
@@ -39,19 +39,19 @@ restOf c =
       streams = take (c .parts .«stream_count») (c .parts .streams);
       control = countersAt c 0;
       event = countersAt c 1;
-      capture = queueOf (countersAt c 3) (c .capture);
     }
 
 -- the whole card
 unfoldable pub deviceOf : Card → rules.Device rules.Queue
-deviceOf c = record { rest = restOf c; play = queueOf (countersAt c 2) (c .play) }
+deviceOf c =
+    record { rest = restOf c; play = queueOf (countersAt c 2) (c .play); capture = queueOf (countersAt c 3) (c .capture) }
 
 -- ---- entries of the card
 
 -- the rules' step for a call on this card, with this memory lent
 abbrev pub stepOf : Card → Request → List ℕ → Step (rules.Device rules.Queue)
-stepOf c q m = step (countersOf rules.output) (deviceOf c) (record { asked = q; lent = m })
+stepOf c q m = step countersOf (deviceOf c) (record { asked = q; lent = m })
 
--- what an entry leaves and tells: the card, the answer, the count, the bytes handed on, the host buffer and memory
+-- what an entry leaves and tells: the card, the answer, the count, the bytes moved, the host buffer and memory
 abbrev pub leaves : Card → ℕ → ℕ → List ℕ → List ℕ → List ℕ → Step (rules.Device rules.Queue)
 leaves c answer count bytes host m = record { state = deviceOf c; told = toldAll answer 0 nothingRung count bytes host m }

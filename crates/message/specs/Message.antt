@@ -14,19 +14,28 @@ use Rattle.rules.specs.Transfer.{withStatus, usedLength}
 use Rattle.message.specs.declared.Direction.{Direction}
 use Rattle.message.specs.declared.Direction.the-variants.{Output, Input}
 use Rattle.message.specs.declared.Form.{Form}
-use Rattle.message.specs.declared.Form.the-variants.{WellFormed, Refused, Silent}
+use Rattle.message.specs.declared.Form.the-variants.{WellFormed, Refused, Silent, Unwalked}
 use Rattle.message.specs.declared.Status.{Status}
 use Rattle.message.specs.declared.Status.the-variants.{Nothing, Code}
 use Rattle.message.specs.declared.Taken.{Taken}
+use Rattle.message.specs.declared.Virtqueue.{Virtqueue}
 
 abbrev pub directionOf : Direction → rules.Direction
 directionOf Output = rules.output
 directionOf Input = rules.input
 
+-- a stream's queue as the guest laid it out; the same for a direction that the caller knows
+abbrev pub virtqueueAs : rules.Direction → Virtqueue → rules.Virtqueue
+virtqueueAs d q = record { direction = d; page = q .page; negotiated = q .indirect }
+
+abbrev pub virtqueueIn : Virtqueue → rules.Virtqueue
+virtqueueIn q = virtqueueAs (directionOf (q .direction)) q
+
 abbrev pub formIn : Form → rules.Form
 formIn WellFormed = rules.wellFormed
 formIn Refused = rules.refused
 formIn Silent = rules.silent
+formIn (Unwalked f) = rules.unwalked f
 
 abbrev pub statusIn : Status → Option ℕ
 statusIn Nothing = none

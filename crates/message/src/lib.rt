@@ -8,7 +8,8 @@ ghost use Rattle.registers.specs.Map.{sizeOf};
 ghost use Rattle.ring.specs.Rules.{completion};
 ghost use Rattle.rules.specs.Device.{streamNumber, queueNumber};
 ghost use Rattle.rules.specs.Transfer.{idOf, sized, formOf, takingOf, statusBytes};
-ghost use Rattle.message.specs.Message.{directionOf, formIn, statusIn, takingIn, FitTaken, answeredOf, answeredLength};
+ghost use Rattle.message.specs.Message.{directionOf, virtqueueIn, formIn, statusIn, takingIn, FitTaken, answeredOf, answeredLength};
+use chain::Fault;
 use counts::DescriptorNumber;
 use counts::PageNumber;
 use ranges::Ranges;
@@ -25,12 +26,13 @@ pub enum Direction {
     Input,
 }
 
-// What a chain is when it is taken: well-formed; or ill-formed, answered IO_ERR, or with length 0
-// and nothing written.
+// What a chain is when it is taken: well-formed; or ill-formed, answered IO_ERR (refused), or with
+// length 0 and nothing written (silent), as one that can't be walked is, for its fault.
 pub enum Form {
     WellFormed,
     Refused,
     Silent,
+    Unwalked(Fault),
 }
 
 // The status of a completion, where one is written.
@@ -130,20 +132,20 @@ fn form_of(m: &[u8], d: Direction, request: Ranges, reply: Ranges) -> Form
 
 // The chain at `head`, judged as memory shows it now.
 pub fn take_chain(m: &[u8], q: Virtqueue, head: DescriptorNumber) -> Taken
-    ensures { λ r. ⌜ (takingIn r ≡ takingOf (directionOf (q .direction)) (now (m .entry)) (q .page) (q .indirect) (head .0))
+    ensures { λ r. ⌜ (takingIn r ≡ takingOf (virtqueueIn q) (now (m .entry)) (head .0))
         × FitTaken (length (now (m .entry))) r ⌝ }
 {
     let direction = q.direction;
     let walked = chain::walk(m, q.page.address(), queue_size(direction), head, q.indirect);
     let end = walked.end;
-    let chain::End::Whole = end else {
+    if let chain::End::Faulted(fault) = end {
         return Taken {
-            form: Form::Silent,
+            form: Form::Unwalked(fault),
             head: head,
             request: Ranges::none(),
             reply: Ranges::none(),
         };
-    };
+    }
     let chain = walked.chain;
     let request = chain.request;
     let reply = chain.reply;

@@ -14,7 +14,7 @@ use Rattle.card.specs.Card.{noStream}
 use Rattle.card.specs.Fit.{Fit}
 use Rattle.card.specs.declared.Card.{Card}
 use Rattle.message.specs.Card.{restOf}
-use Rattle.rules.specs.Calls.{transferred, transferFound, untouched, isRunning, indirect}
+use Rattle.rules.specs.Calls.{transferred, transferFound, untouched, isRunning, virtqueueOf}
 use Rattle.rules.specs.Counters.{countersOf}
 use Rattle.rules.specs.Device as rules
 use Rattle.rules.specs.Transfer.{found}
@@ -28,7 +28,7 @@ module _ (d : rules.Direction) (r : rules.Rest) (q : rules.Queue) (m host : List
   unfolding refusalOf transferred
   refused-transfer a h n = by (eqb (length m) (r .ram)) (live (r .registers)) (isRunning r (rules.streamNumber d)) h where
     by : (x y z : Bool) → cond x (cond y (cond z done notRunning) notLive) lengthDiffers ≡ a
-        → cond x (cond y (cond z (transferFound (countersOf d) d r q m host (found (countersOf d) d (rules.pageOf r (rules.queueNumber d)) (indirect r) q m))
+        → cond x (cond y (cond z (transferFound (countersOf d) d r q m host (found (countersOf d) (virtqueueOf r d) q m))
         (untouched notRunning (r .registers) q m)) (untouched notLive (r .registers) q m)) (untouched lengthDiffers (r .registers) q m)
         ≡ untouched a (r .registers) q m
     by true true true e = absurd (n (sym e))
@@ -38,13 +38,13 @@ module _ (d : rules.Direction) (r : rules.Rest) (q : rules.Queue) (m host : List
 
   pub passed-transfer : refusalOf r (length m) (rules.streamNumber d) ≡ 0
       → transferred (countersOf d) d r q m host
-      ≡ transferFound (countersOf d) d r q m host (found (countersOf d) d (rules.pageOf r (rules.queueNumber d)) (indirect r) q m)
+      ≡ transferFound (countersOf d) d r q m host (found (countersOf d) (virtqueueOf r d) q m)
   unfolding refusalOf transferred
   passed-transfer h = by (eqb (length m) (r .ram)) (live (r .registers)) (isRunning r (rules.streamNumber d)) h where
     by : (x y z : Bool) → cond x (cond y (cond z done notRunning) notLive) lengthDiffers ≡ 0
-        → cond x (cond y (cond z (transferFound (countersOf d) d r q m host (found (countersOf d) d (rules.pageOf r (rules.queueNumber d)) (indirect r) q m))
+        → cond x (cond y (cond z (transferFound (countersOf d) d r q m host (found (countersOf d) (virtqueueOf r d) q m))
         (untouched notRunning (r .registers) q m)) (untouched notLive (r .registers) q m)) (untouched lengthDiffers (r .registers) q m)
-        ≡ transferFound (countersOf d) d r q m host (found (countersOf d) d (rules.pageOf r (rules.queueNumber d)) (indirect r) q m)
+        ≡ transferFound (countersOf d) d r q m host (found (countersOf d) (virtqueueOf r d) q m)
     by true true true e = refl
     by true true false e = absurd (omega arith)
     by true false z e = absurd (omega arith)

@@ -1,5 +1,5 @@
--- The play entry's outcomes, each as the rules' step.
-use mathlib.Core.Path.{_≡_, sym, _∙_, ap}
+-- The outcomes of a transfer, of either direction, each as the rules' step.
+use mathlib.Core.Path.{_≡_, refl, sym, _∙_, ap}
 use mathlib.Core.List.{List, []}
 use mathlib.Core.Bool.{cond}
 use Prim.Native.Nat.{ℕ, _≤_}
@@ -7,58 +7,89 @@ use native.Mathlib.Omega.{arith}
 use lib.ListN.{length, take, drop, length-take}
 use Rattle.registers.specs.Answers.{done, queueBroken}
 use Rattle.registers.specs.Rules.{broken}
-use Rattle.registers.specs.Map.{sizeOf}
+use Rattle.registers.specs.declared.Registers.{Registers}
 use Rattle.ring.specs.Rules.{checkOf}
 use Rattle.ring.specs.declared.Check.{Check}
 use Rattle.ring.specs.declared.Cause.{Cause}
 use Rattle.card.specs.Fit.{Fit}
 use Rattle.card.specs.declared.Card.{Card}
-use Rattle.message.specs.Card.{queueOf, countersAt, restOf, deviceOf, stepOf, leaves}
+use Rattle.message.specs.Card.{queueOf, restOf, deviceOf, stepOf, leaves}
+use Rattle.message.specs.Message.{directionOf}
+use Rattle.message.specs.declared.Direction.{Direction}
 use Rattle.message.specs.declared.Direction.the-variants.{Output, Input}
-use Rattle.rules.specs.Calls.{Play, Capture, playStep, ended, captured, transferred, transferFound, transferredBy, indirect}
+use Rattle.rules.specs.Calls.{hostAfter, transferStep, transferred, transferFound, transferredBy, untouched, virtqueueOf}
 use Rattle.rules.specs.Counters.{countersOf}
 use Rattle.rules.specs.Device as rules
-use Rattle.rules.specs.Transfer.{Run, begun, transferRun}
+use Rattle.rules.specs.Transfer.{Run, begun, found, transferRun}
+use Rattle.rules.proofs.Host.{run-past}
 use Rattle.flow.specs.Flow.{runOf}
 use Rattle.flow.specs.declared.Flow.{Flow}
-use Rattle.stream.specs.Queue.{withRegisters}
-use Rattle.stream.proofs.Laws.{found-check, flowed-device}
-use Rattle.pcm.specs.Entry.{refusalOf, flowedCard, registersAfter}
-use Rattle.pcm.proofs.Host.{run-past, host-after}
+use Rattle.stream.specs.Queue.{withRegisters, countersIn, messageIn}
+use Rattle.stream.proofs.Fits.{message-fit}
+use Rattle.stream.proofs.Laws.{queue-in, found-check, flowed-device}
+use Rattle.pcm.specs.Entry.{refusalOf, transferOf, bufferOf, flowedCard, registersAfter}
+use Rattle.pcm.proofs.Host.{host-after}
 use Rattle.pcm.proofs.Laws.{refused-transfer, passed-transfer}
 
-module _ (c : Card) (m host : List ℕ) where
-  abbrev play : rules.Queue
-  play = queueOf (countersAt c 2) (c .play)
+module _ (way : Direction) (c : Card) (m host : List ℕ) where
+  abbrev d : rules.Direction
+  d = directionOf way
+
+  abbrev lies : rules.Virtqueue
+  lies = virtqueueOf (restOf c) d
+
+  abbrev own : rules.Queue
+  own = rules.queueFor d (deviceOf c)
+
+  -- the rules' step is that of a transfer
+  stepped : (w : Direction) → let e = directionOf w in
+      stepOf c (transferOf e host) m
+      ≡ transferStep e host (deviceOf c) (transferred (countersOf e) e (restOf c) (rules.queueFor e (deviceOf c)) m host)
+  unfolding deviceOf
+  stepped Output = refl
+  stepped Input = refl
+
+  -- nothing moved: the registers alone are others
+  unmoved : (w : Direction) (a : ℕ) (g : Registers) → let e = directionOf w in
+      transferStep e host (deviceOf c) (untouched a g (rules.queueFor e (deviceOf c)) m) ≡ leaves (withRegisters g c) a 0 [] (bufferOf e host) m
+  unfolding transferStep deviceOf restOf
+  unmoved Output a g = refl
+  unmoved Input a g = refl
 
   -- refused by a check
-  pub play-refused : (a : ℕ) → refusalOf (restOf c) (length m) 0 ≡ a → (a ≡ 0 → ⊥) → stepOf c (Play host) m ≡ leaves c a 0 [] host m
-  unfolding playStep deviceOf
-  play-refused a h n = rw (refused-transfer rules.output (restOf c) play m host a h n)
+  pub transfer-refused : (a : ℕ) → refusalOf (restOf c) (length m) (rules.streamNumber d) ≡ a → (a ≡ 0 → ⊥)
+      → stepOf c (transferOf d host) m ≡ leaves c a 0 [] (bufferOf d host) m
+  unfolding restOf
+  transfer-refused a h n =
+      stepped way ∙ ap (transferStep d host (deviceOf c)) (refused-transfer d (restOf c) own m host a h n) ∙ unmoved way a (c .registers)
 
-  module _ (f : Fit c) (passed : refusalOf (restOf c) (length m) 0 ≡ 0) where
-    abbrev checked : Check
-    checked = checkOf m (rules.pageOf (restOf c) 2) (sizeOf 2) (countersAt c 2 .taken) (c .play .count)
+  module _ (f : Fit c) (passed : refusalOf (restOf c) (length m) (rules.streamNumber d) ≡ 0) where
+    abbrev pub checked : Check
+    checked = checkOf m (lies .page) (rules.queueSize lies) (countersIn c way .taken) (messageIn c way .count)
+
+    found-in : found (countersOf d) lies own m ≡ checked
+    found-in = rw (queue-in c way) (found-check lies m (countersIn c way) (messageIn c way) (message-fit c way f .one))
 
     -- past the checks the queue decides
     by-check : (k : Check) → checked ≡ k
-        → transferred (countersOf rules.output) rules.output (restOf c) play m host ≡ transferFound (countersOf rules.output) rules.output (restOf c) play m host k
+        → stepOf c (transferOf d host) m ≡ transferStep d host (deviceOf c) (transferFound (countersOf d) d (restOf c) own m host k)
     by-check k h =
-        passed-transfer rules.output (restOf c) play m host passed
-        ∙ ap (transferFound (countersOf rules.output) rules.output (restOf c) play m host)
-        (found-check rules.output (rules.pageOf (restOf c) 2) (indirect (restOf c)) m (countersAt c 2) (c .play) (f .play .one) ∙ h)
+        stepped way
+        ∙ ap (transferStep d host (deviceOf c))
+        (passed-transfer d (restOf c) own m host passed
+        ∙ ap (transferFound (countersOf d) d (restOf c) own m host) (found-in ∙ h))
 
-    pub play-idle : checked ≡ Check.Idle → stepOf c (Play host) m ≡ leaves c done 0 [] host m
-    unfolding playStep deviceOf
-    play-idle h = rw (by-check Check.Idle h)
+    pub transfer-idle : checked ≡ Check.Idle → stepOf c (transferOf d host) m ≡ leaves c done 0 [] (bufferOf d host) m
+    unfolding restOf
+    transfer-idle h = by-check Check.Idle h ∙ unmoved way done (c .registers)
 
-    pub play-broken : (cause : Cause) → checked ≡ Check.Broken cause → stepOf c (Play host) m ≡ leaves (withRegisters (broken (c .registers)) c) queueBroken 0 [] host m
-    unfolding playStep deviceOf restOf
-    play-broken cause h = rw (by-check (Check.Broken cause) h)
+    pub transfer-broken : (cause : Cause) → checked ≡ Check.Broken cause
+        → stepOf c (transferOf d host) m ≡ leaves (withRegisters (broken (c .registers)) c) queueBroken 0 [] (bufferOf d host) m
+    unfolding restOf
+    transfer-broken cause h = by-check (Check.Broken cause) h ∙ unmoved way queueBroken (broken (c .registers))
 
     module _ (n : ℕ) (h : checked ≡ Check.New n) (m′ host′ : List ℕ) (g : Flow)
-        (run : runOf g m′ host′
-        ≡ transferRun (countersOf rules.output) rules.output (rules.pageOf (restOf c) 2) (indirect (restOf c)) n (begun play m host))
+        (run : runOf g m′ host′ ≡ transferRun (countersOf d) lies n (begun (queueOf (countersIn c way) (messageIn c way)) m host))
         (inside : g .moved ≤ length host) (long : length host′ ≡ length host) where
       counted : length (take (g .moved) host′) ≡ g .moved
       counted = rw length-take (omega arith)
@@ -69,76 +100,25 @@ module _ (c : Card) (m host : List ℕ) where
       kept =
           rw counted at
           (ap (λ (r : Run rules.Queue). r .host) run
-          ∙ run-past (countersOf rules.output) (rules.pageOf (restOf c) 2) (indirect (restOf c)) host n play m .past
+          ∙ run-past (countersOf d) lies host n (queueOf (countersIn c way) (messageIn c way)) m .past
           ∙ ap (λ (r : Run rules.Queue). drop (length (r .bytes)) host) (sym run))
 
-      after : deviceOf (flowedCard Output g c)
-          ≡ record { rest = rules.withRegisters (registersAfter g (c .registers)) (restOf c); play = queueOf (g .counters) (g .message) }
+      buffer : (e : rules.Direction) → hostAfter e host (take (g .moved) host′) ≡ bufferOf e host′
+      buffer rules.output = host-after host host′ (g .moved) inside long kept
+      buffer rules.input = refl
+
+      after : (w : Direction) → deviceOf (flowedCard w g c)
+          ≡ rules.withQueue (directionOf w) (rules.withRegisters (registersAfter g (c .registers)) (restOf c))
+          (queueOf (g .counters) (g .message)) (deviceOf c)
       unfolding deviceOf restOf
-      after = flowed-device (withRegisters (registersAfter g (c .registers)) c) g (f .four) Output
+      after Output = flowed-device (withRegisters (registersAfter g (c .registers)) c) g (f .four) Output
+      after Input = flowed-device (withRegisters (registersAfter g (c .registers)) c) g (f .four) Input
 
-      told : playStep (countersOf rules.output) host (deviceOf c) (transferredBy (restOf c .registers) (runOf g m′ host′))
-          ≡ leaves (flowedCard Output g c) (cond (g .sound) done queueBroken) (g .moved) (take (g .moved) host′) host′ m′
-      unfolding playStep runOf deviceOf restOf
-      told = rw (after, counted, ← (host-after host host′ (g .moved) inside long kept))
+      told : transferStep d host (deviceOf c) (transferredBy (restOf c .registers) (runOf g m′ host′))
+          ≡ leaves (flowedCard way g c) (cond (g .sound) done queueBroken) (g .moved) (take (g .moved) host′) (bufferOf d host′) m′
+      unfolding transferStep runOf deviceOf restOf
+      told = rw (after way, counted, buffer d)
 
-      pub play-new : stepOf c (Play host) m
-          ≡ leaves (flowedCard Output g c) (cond (g .sound) done queueBroken) (g .moved) (take (g .moved) host′) host′ m′
-      unfolding deviceOf
-      play-new = rw (by-check (Check.New n) h, ← run) told
-
--- ---- capture
-
-module _ (c : Card) (m host : List ℕ) where
-  abbrev recording : rules.Queue
-  recording = queueOf (countersAt c 3) (c .capture)
-
-  pub capture-refused : (a : ℕ) → refusalOf (restOf c) (length m) 1 ≡ a → (a ≡ 0 → ⊥) → stepOf c (Capture host) m ≡ leaves c a 0 [] [] m
-  unfolding captured deviceOf restOf
-  capture-refused a h n = rw (refused-transfer rules.input (restOf c) recording m host a h n)
-
-  module _ (f : Fit c) (passed : refusalOf (restOf c) (length m) 1 ≡ 0) where
-    abbrev captureChecked : Check
-    captureChecked = checkOf m (rules.pageOf (restOf c) 3) (sizeOf 3) (countersAt c 3 .taken) (c .capture .count)
-
-    by-capture-check : (k : Check) → captureChecked ≡ k
-        → transferred (countersOf rules.input) rules.input (restOf c) recording m host ≡ transferFound (countersOf rules.input) rules.input (restOf c) recording m host k
-    by-capture-check k h =
-        passed-transfer rules.input (restOf c) recording m host passed
-        ∙ ap (transferFound (countersOf rules.input) rules.input (restOf c) recording m host)
-        (found-check rules.input (rules.pageOf (restOf c) 3) (indirect (restOf c)) m (countersAt c 3) (c .capture) (f .capture .one) ∙ h)
-
-    pub capture-idle : captureChecked ≡ Check.Idle → stepOf c (Capture host) m ≡ leaves c done 0 [] [] m
-    unfolding captured deviceOf restOf
-    capture-idle h = rw (by-capture-check Check.Idle h)
-
-    pub capture-broken : (cause : Cause) → captureChecked ≡ Check.Broken cause
-        → stepOf c (Capture host) m ≡ leaves (withRegisters (broken (c .registers)) c) queueBroken 0 [] [] m
-    unfolding captured deviceOf restOf
-    capture-broken cause h = rw (by-capture-check (Check.Broken cause) h)
-
-    module _ (n : ℕ) (h : captureChecked ≡ Check.New n) (m′ : List ℕ) (g : Flow)
-        (run : runOf g m′ host
-        ≡ transferRun (countersOf rules.input) rules.input (rules.pageOf (restOf c) 3) (indirect (restOf c)) n (begun recording m host))
-        (inside : g .moved ≤ length host) where
-      consumed : length (take (g .moved) host) ≡ g .moved
-      consumed = rw length-take (omega arith)
-
-      filed : deviceOf (flowedCard Input g c)
-          ≡ record {
-            rest = rules.withCapture (queueOf (g .counters) (g .message)) (rules.withRegisters (registersAfter g (c .registers)) (restOf c));
-            play = queueOf (countersAt c 2) (c .play);
-          }
-      unfolding deviceOf restOf
-      filed = flowed-device (withRegisters (registersAfter g (c .registers)) c) g (f .four) Input
-
-      recorded : ended (countersOf rules.output) (captured (countersOf rules.output) (restOf c) (transferredBy (restOf c .registers) (runOf g m′ host)))
-          (queueOf (countersAt c 2) (c .play))
-          ≡ leaves (flowedCard Input g c) (cond (g .sound) done queueBroken) (g .moved) [] [] m′
-      unfolding captured runOf restOf
-      recorded = rw (filed, consumed)
-
-      pub capture-new : stepOf c (Capture host) m
-          ≡ leaves (flowedCard Input g c) (cond (g .sound) done queueBroken) (g .moved) [] [] m′
-      unfolding deviceOf restOf
-      capture-new = rw (by-capture-check (Check.New n) h, ← run) recorded
+      pub transfer-new : stepOf c (transferOf d host) m
+          ≡ leaves (flowedCard way g c) (cond (g .sound) done queueBroken) (g .moved) (take (g .moved) host′) (bufferOf d host′) m′
+      transfer-new = by-check (Check.New n) h ∙ rw (queue-in c way, ← run) told

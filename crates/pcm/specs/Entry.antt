@@ -1,5 +1,6 @@
 -- What the play and capture entries decide and leave, in terms of the card's struct.
 use mathlib.Core.Bool.{cond}
+use mathlib.Core.List.{List, []}
 use Prim.Native.Nat.{ℕ}
 use lib.Dec.{eqb}
 use Rattle.registers.specs.Answers.{done, lengthDiffers, notLive, notRunning, queueBroken}
@@ -7,11 +8,20 @@ use Rattle.registers.specs.Rules.{live, broken}
 use Rattle.registers.specs.declared.Registers.{Registers}
 use Rattle.card.specs.declared.Card.{Card}
 use Rattle.message.specs.declared.Direction.{Direction}
-use Rattle.rules.specs.Calls.{isRunning, brokenUnless}
+use Rattle.rules.specs.Calls.{Request, Play, Capture, isRunning, brokenUnless}
 use Rattle.rules.specs.Device as rules
 use Rattle.stream.specs.Queue.{withRegisters, withFlow}
 use Rattle.flow.specs.declared.Flow.{Flow}
 use Rattle.pcm.specs.declared.TransferAnswer.{TransferAnswer}
+
+-- the call of a direction, and the host buffer that it tells of: a play's
+abbrev pub transferOf : rules.Direction → List ℕ → Request
+transferOf rules.output host = Play host
+transferOf rules.input host = Capture host
+
+abbrev pub bufferOf : rules.Direction → List ℕ → List ℕ
+bufferOf rules.output host = host
+bufferOf rules.input host = []
 
 -- "Play and capture: 1, 5, 6": the answer that refuses a call, or 0
 unfoldable pub refusalOf : rules.Rest → ℕ → ℕ → ℕ

@@ -105,7 +105,7 @@ pub fn play(card: Card, m: &mut [u8], host: &mut [u8]) -> TransferAnswer
 pub fn capture(card: Card, m: &mut [u8], host: &[u8]) -> TransferAnswer
     requires { ⌜ Fit card ⌝ }
     ensures { λ r. ⌜ (stepOf card (Request.Capture (now (host .entry))) (now (m .entry))
-        ≡ leaves (r .card) (r .answer) (r .count) [] [] (now (m .exit))) × Fit (r .card) ⌝ }
+        ≡ leaves (r .card) (r .answer) (r .count) (take (r .count) (now (host .entry))) [] (now (m .exit))) × Fit (r .card) ⌝ }
 {
     let refused = refusal(card, m.len(), 1);
     if refused != 0 {

@@ -1,7 +1,7 @@
--- Each call runs alike over two ways of keeping the play queue. Of the rest of the card nothing is opened: a call is decided by it
+-- Each call runs alike over two ways of keeping the stream queues. Of the rest of the card nothing is opened: a call is decided by it
 -- and by memory, the same on both sides, and then acts on the queue.
 use mathlib.Core.Path.{_≡_, refl}
-use mathlib.Core.Bool.{cond}
+use mathlib.Core.Bool.{Bool, cond}
 use mathlib.Core.List.{List, [], _++_, append-nil}
 use Prim.Native.Nat.{ℕ}
 use lib.Dec.{eqb}
@@ -11,9 +11,9 @@ use Rattle.registers.specs.Rules.{writeOf, live}
 use Rattle.registers.specs.declared.Registers.{Registers}
 use Rattle.registers.proofs.Keeps.{by-cond}
 use Rattle.ring.specs.declared.Check.{Check}
-use Rattle.rules.specs.Calls.{Request, ReadRegister, WriteRegister, Control, Play, Capture, Event, Step, Order, Done, ReleaseFirst, Pending, Emptied, emptied, indirect, clearsPlay, orderOf, Transferred, untouched, isRunning, transferFound, transferred, readStep, writeStep, releaseStep, ordered, playStep, captured, asked}
-use Rattle.rules.specs.Claim.{clears, shownAs}
-use Rattle.rules.specs.Device.{Direction, output, streamNumber, queueNumber, Rest, Device, pageOf}
+use Rattle.rules.specs.Calls.{Request, ReadRegister, WriteRegister, Control, Play, Capture, Event, Step, Result, Order, Done, ReleaseFirst, Pending, Emptied, emptied, virtqueueOf, clearsQueue, orderOf, releasedOf, Transferred, untouched, isRunning, transferFound, transferred, eventOf, ended, readStep, writeStep, releaseStep, ordered, transferStep, transferBy, asked}
+use Rattle.rules.specs.Claim.{clears, bytesFor, shownAs}
+use Rattle.rules.specs.Device.{Direction, output, input, streamNumber, directionOf, Virtqueue, Rest, Device, queueFor, withQueue, withRegisters}
 use Rattle.rules.specs.Transfer.{Ops, found}
 use Rattle.rules.proofs.Cases.{map-cond, by-cond₂}
 use Rattle.rules.proofs.Natural.{Alike, lowEmptied, lowTransferred, found-same, transferredBy-same, transfer-keeps, emptied-same, emptied-keeps}
@@ -41,7 +41,7 @@ module _
   unfolding lowTransferred
   transferFound-same Check.Idle = refl
   transferFound-same (Check.Broken cause) = refl
-  transferFound-same (Check.New n) = transferredBy-same A D d f I L (pageOf r (queueNumber d)) (indirect r) w (r .registers) n q m host i
+  transferFound-same (Check.New n) = transferredBy-same A D (virtqueueOf r d) f I L w (r .registers) n q m host i
 
   pub transferred-same : transferred D d r (f q) m host ≡ lowTransferred f (transferred A d r q m host)
   unfolding transferred
@@ -52,8 +52,8 @@ module _
       (λ e.
       map-cond (lowTransferred f) (isRunning r (streamNumber d))
       (λ e.
-      rw (found-same A D d f I L (pageOf r (queueNumber d)) (indirect r) w q m)
-      (transferFound-same (found A d (pageOf r (queueNumber d)) (indirect r) q m)))
+      rw (found-same A D (virtqueueOf r d) f I L w q m)
+      (transferFound-same (found A (virtqueueOf r d) q m)))
       (λ e. untouched-same notRunning (r .registers)))
       (λ e. untouched-same notLive (r .registers)))
       (λ e. untouched-same lengthDiffers (r .registers))
@@ -67,7 +67,7 @@ module _
   transferFound-keeps : (c : Check) → Moved (transferFound A d r q m host c)
   transferFound-keeps Check.Idle = rw append-nil i
   transferFound-keeps (Check.Broken cause) = rw append-nil i
-  transferFound-keeps (Check.New n) = transfer-keeps A D d f I L (pageOf r (queueNumber d)) (indirect r) w n q m host i
+  transferFound-keeps (Check.New n) = transfer-keeps A D (virtqueueOf r d) f I L w n q m host i .kept
 
   pub transferred-keeps : Moved (transferred A d r q m host)
   unfolding transferred
@@ -77,7 +77,7 @@ module _
       by-cond Moved (live (r .registers))
       (λ e.
       by-cond Moved (isRunning r (streamNumber d))
-      (λ e. transferFound-keeps (found A d (pageOf r (queueNumber d)) (indirect r) q m))
+      (λ e. transferFound-keeps (found A (virtqueueOf r d) q m))
       (λ e. untouched-keeps notRunning (r .registers)))
       (λ e. untouched-keeps notLive (r .registers)))
       (λ e. untouched-keeps lengthDiffers (r .registers))
@@ -89,81 +89,141 @@ low f s = record { state = shownAs f (s .state); told = s .told }
 
 module _
     {H Q : Type 0}
-    (A : Ops H)
-    (D : Ops Q)
+    (A : Direction → Ops H)
+    (D : Direction → Ops Q)
     (f : H → Q)
-    (I : List ℕ → H → Type 0)
-    (L : Alike A D output f I)
-    (w : List ℕ)
+    (I : Direction → List ℕ → H → Type 0)
+    (L : (d : Direction) → Alike (A d) (D d) d f (I d))
+    (w : Direction → List ℕ)
     (b : Device H)
     (m : List ℕ)
-    (i : I w (b .play)) where
-  releaseStep-same :
-      (id : ℕ) (p : Pending) (e : Emptied H) → releaseStep D id p (shownAs f b) (lowEmptied f e) ≡ low f (releaseStep A id p b e)
+    (i : (d : Direction) → I d (w d) (queueFor d b)) where
+  -- the queue of a direction, shown
+  shown-queue : (d : Direction) → queueFor d (shownAs f b) ≡ f (queueFor d b)
+  shown-queue output = refl
+  shown-queue input = refl
+
+  shown-with : (d : Direction) (r : Rest) (q : H) → withQueue d r (f q) (shownAs f b) ≡ shownAs f (withQueue d r q b)
+  shown-with output r q = refl
+  shown-with input r q = refl
+
+  releaseStep-same : (id : ℕ) (p : Pending) (e : Emptied H) → releaseStep id p (shownAs f b) (lowEmptied f e) ≡ low f (releaseStep id p b e)
   unfolding releaseStep lowEmptied low
-  releaseStep-same id p e = refl
+  releaseStep-same id p e =
+      rw (shown-with (directionOf id) (releasedOf id p (e .mem) (e .sound) (e .signal) .rest) (e .queue))
 
   ordered-same : (o : Order) → ordered D o (shownAs f b) m ≡ low f (ordered A o b m)
   unfolding low
   ordered-same (Done o) = refl
   ordered-same (ReleaseFirst id p) =
-      let page = pageOf (p .rest) (queueNumber output) in
-      map-cond (low f) (eqb id 0)
-      (λ e.
-      rw (emptied-same A D output f I L page (indirect (p .rest)) w (b .play) m i)
-      (releaseStep-same id p (emptied A output page (indirect (p .rest)) (b .play) m)))
-      (λ e. refl)
+      let d : Direction = directionOf id in
+      let v : Virtqueue = virtqueueOf (p .rest) d in
+      rw (shown-queue d, emptied-same (A d) (D d) v f (I d) (L d) (w d) (queueFor d b) m (i d))
+      (releaseStep-same id p (emptied (A d) v (queueFor d b) m))
 
-  playStep-same :
-      (host : List ℕ) (t : Transferred H) → playStep D host (shownAs f b) (lowTransferred f t) ≡ low f (playStep A host b t)
-  unfolding playStep lowTransferred low
-  playStep-same host t = refl
+  transferStep-same :
+      (d : Direction) (host : List ℕ) (t : Transferred H)
+      → transferStep d host (shownAs f b) (lowTransferred f t) ≡ low f (transferStep d host b t)
+  unfolding transferStep lowTransferred low
+  transferStep-same d host t = rw (shown-with d (withRegisters (t .registers) (b .rest)) (t .queue))
+
+  transferBy-same : (d : Direction) (host : List ℕ) → transferBy D d host (shownAs f b) m ≡ low f (transferBy A d host b m)
+  transferBy-same d host =
+      rw (shown-queue d, transferred-same (A d) (D d) d f (I d) (L d) (w d) (b .rest) (queueFor d b) m host (i d))
+      (transferStep-same d host (transferred (A d) d (b .rest) (queueFor d b) m host))
+
+  -- a cleared queue, or the queue as it was
+  cleared-same : (d : Direction) (x : Bool) (q : H) → cond x (D d .empty) (f q) ≡ f (cond x (A d .empty) q)
+  cleared-same d x q = map-cond f x {x = A d .empty} {y = q} (λ e. L d .empty-same) (λ e. refl)
 
   writeStep-same : (offset width v : ℕ) → writeStep D offset width v (shownAs f b) m ≡ low f (writeStep A offset width v b m)
   unfolding writeStep low
   writeStep-same offset width v =
-      rw (
-        L .empty-same,
-        map-cond f (clearsPlay (writeOf (b .rest .registers) offset width v .effect)) {x = A .empty} {y = b .play} (λ e. refl) (λ e. refl),
-      )
+      let e = writeOf (b .rest .registers) offset width v .effect in
+      rw (cleared-same output (clearsQueue output e) (b .play), cleared-same input (clearsQueue input e) (b .capture))
 
   pub asked-same : (c : Request) → asked D c (shownAs f b) m ≡ low f (asked A c b m)
-  unfolding readStep captured low
+  unfolding readStep low
   asked-same (ReadRegister offset width) = refl
   asked-same (WriteRegister offset width v) = writeStep-same offset width v
   asked-same Control = ordered-same (orderOf (b .rest) m)
-  asked-same (Play host) =
-      rw (transferred-same A D output f I L w (b .rest) (b .play) m host i)
-      (playStep-same host (transferred A output (b .rest) (b .play) m host))
-  asked-same (Capture host) = refl
+  asked-same (Play host) = transferBy-same output host
+  asked-same (Capture host) = transferBy-same input host
   asked-same (Event code data′) = refl
 
-  -- ---- what is kept over a call
+  -- ---- what is kept over a call, of the queue of a direction
 
-  abbrev Heard : Step (Device H) → Type 0
-  Heard s = I (w ++ s .told .bytes) (s .state .play)
+  abbrev Kept : (d : Direction) → List ℕ → Step (Device H) → Type 0
+  Kept d bytes s = I d (w d ++ bytes) (queueFor d (s .state))
 
-  releaseStep-keeps : (id : ℕ) (p : Pending) (e : Emptied H) → I w (e .queue) → Heard (releaseStep A id p b e)
+  untold : (d : Direction) → I d (w d ++ []) (queueFor d b)
+  untold d = rw append-nil (i d)
+
+  -- of the queue that was put back, and of the other
+  put-back : (d q : Direction) (r : Rest) (h : H) → I q (w q ++ []) h → I d (w d ++ []) (queueFor d (withQueue q r h b))
+  put-back output output r h k = k
+  put-back output input r h k = untold output
+  put-back input output r h k = untold input
+  put-back input input r h k = k
+
+  releaseStep-keeps :
+      (d : Direction) (id : ℕ) (p : Pending) (e : Emptied H)
+      → I (directionOf id) (w (directionOf id)) (e .queue)
+      → Kept d [] (releaseStep id p b e)
   unfolding releaseStep
-  releaseStep-keeps id p e k = rw append-nil k
+  releaseStep-keeps d id p e k =
+      put-back d (directionOf id) (releasedOf id p (e .mem) (e .sound) (e .signal) .rest) (e .queue) (rw append-nil k)
 
-  ordered-keeps : (o : Order) → Heard (ordered A o b m)
-  ordered-keeps (Done o) = rw append-nil i
-  ordered-keeps (ReleaseFirst id p) =
-      let page = pageOf (p .rest) (queueNumber output) in
-      by-cond Heard (eqb id 0)
-      (λ e.
-      releaseStep-keeps id p (emptied A output page (indirect (p .rest)) (b .play) m)
-      (emptied-keeps A D output f I L page (indirect (p .rest)) w (b .play) m i))
-      (λ e. rw append-nil i)
+  ended-keeps : (d : Direction) (o : Result) → Kept d [] (ended o b)
+  ended-keeps output o = untold output
+  ended-keeps input o = untold input
 
-  pub asked-keeps : (c : Request) → I (cond (clears c (b .rest)) [] (w ++ asked A c b m .told .bytes)) (asked A c b m .state .play)
-  unfolding clears readStep writeStep playStep
-  asked-keeps (ReadRegister offset width) = rw append-nil i
-  asked-keeps (WriteRegister offset width v) =
-      by-cond₂ (λ (x : List ℕ) (h : H). I x h) (clearsPlay (writeOf (b .rest .registers) offset width v .effect))
-      (λ e. L .empty-keeps) (λ e. rw append-nil i)
-  asked-keeps Control = ordered-keeps (orderOf (b .rest) m)
-  asked-keeps (Play host) = transferred-keeps A D output f I L w (b .rest) (b .play) m host i
-  asked-keeps (Capture host) = rw append-nil i
-  asked-keeps (Event code data′) = rw append-nil i
+  ordered-keeps : (d : Direction) (o : Order) → Kept d [] (ordered A o b m)
+  ordered-keeps d (Done o) = ended-keeps d o
+  ordered-keeps d (ReleaseFirst id p) =
+      let q : Direction = directionOf id in
+      let v : Virtqueue = virtqueueOf (p .rest) q in
+      releaseStep-keeps d id p (emptied (A q) v (queueFor q b) m)
+      (emptied-keeps (A q) (D q) v f (I q) (L q) (w q) (queueFor q b) m (i q))
+
+  transfer-keeps-own : (d : Direction) (host : List ℕ) → Kept d (transferBy A d host b m .told .bytes) (transferBy A d host b m)
+  unfolding transferStep
+  transfer-keeps-own output host = transferred-keeps (A output) (D output) output f (I output) (L output) (w output) (b .rest) (b .play) m host (i output)
+  transfer-keeps-own input host = transferred-keeps (A input) (D input) input f (I input) (L input) (w input) (b .rest) (b .capture) m host (i input)
+
+  transfer-keeps-output : (host : List ℕ) → Kept output [] (transferBy A input host b m)
+  unfolding transferStep
+  transfer-keeps-output host = untold output
+
+  transfer-keeps-input : (host : List ℕ) → Kept input [] (transferBy A output host b m)
+  unfolding transferStep
+  transfer-keeps-input host = untold input
+
+  write-keeps :
+      (d : Direction) (offset width v : ℕ)
+      → I d (cond (clears d (WriteRegister offset width v) (b .rest)) [] (w d ++ [])) (queueFor d (writeStep A offset width v b m .state))
+  unfolding clears writeStep
+  write-keeps output offset width v =
+      by-cond₂ (λ (x : List ℕ) (h : H). I output x h) (clearsQueue output (writeOf (b .rest .registers) offset width v .effect))
+      (λ e. L output .empty-keeps) (λ e. untold output)
+  write-keeps input offset width v =
+      by-cond₂ (λ (x : List ℕ) (h : H). I input x h) (clearsQueue input (writeOf (b .rest .registers) offset width v .effect))
+      (λ e. L input .empty-keeps) (λ e. untold input)
+
+  read-keeps : (d : Direction) (offset width : ℕ) → Kept d [] (readStep offset width b m)
+  unfolding readStep
+  read-keeps output offset width = untold output
+  read-keeps input offset width = untold input
+
+  pub asked-keeps :
+      (d : Direction) (c : Request)
+      → I d (cond (clears d c (b .rest)) [] (w d ++ bytesFor d c (asked A c b m .told))) (queueFor d (asked A c b m .state))
+  unfolding clears
+  asked-keeps d (ReadRegister offset width) = read-keeps d offset width
+  asked-keeps d (WriteRegister offset width v) = write-keeps d offset width v
+  asked-keeps d Control = ordered-keeps d (orderOf (b .rest) m)
+  asked-keeps output (Play host) = transfer-keeps-own output host
+  asked-keeps input (Play host) = transfer-keeps-input host
+  asked-keeps output (Capture host) = transfer-keeps-output host
+  asked-keeps input (Capture host) = transfer-keeps-own input host
+  asked-keeps d (Event code data′) = ended-keeps d (eventOf (b .rest) code data′ m)

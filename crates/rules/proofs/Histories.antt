@@ -41,62 +41,63 @@ idle-work h = go (free h)
     go true = refl
     go false = refl
 
-module _ (w : List ℕ) (h : History) (t : Taking) (g : Good w h) (e : free h ≡ true) where
-  took-busy : free (took output t h) ≡ false
-  unfolding took
-  took-busy = rw (length-append, same-number w h g e t) (lt-leb (length (h .takings) + 1) (length (h .takings)) (omega arith))
+module _ (d : Direction) where
+  module _ (w : List ℕ) (h : History) (t : Taking) (g : Good d w h) (e : free h ≡ true) where
+    pub took-busy : free (took d t h) ≡ false
+    unfolding took
+    took-busy = rw (length-append, same-number d w h g e t) (lt-leb (length (h .takings) + 1) (length (h .takings)) (omega arith))
 
-  took-left : drop (handedNow (took output t h)) (payloadOf output (current (took output t h))) ≡ payloadOf output t
-  unfolding took handedNow
-  took-left = rw (none-noted w h g e t, same-number w h g e t, getD-append-seam)
+    took-left : drop (handedNow (took d t h)) (payloadOf d (current (took d t h))) ≡ payloadOf d t
+    unfolding took handedNow
+    took-left = rw (none-noted d w h g e t, same-number d w h g e t, getD-append-seam)
 
-  took-same : card .take t (queueOf h) ≡ queueOf (took output t h)
-  unfolding took handedNow
-  took-same =
-      rw (
-        next-wrap,
-        length-append,
-        none-noted w h g e t,
-        same-number w h g e t,
-        lt-leb (length (h .takings) + 1) (length (h .takings)) (omega arith),
-        getD-append-seam,
-      )
+    took-same : card d .take t (queueOf h) ≡ queueOf (took d t h)
+    unfolding took handedNow
+    took-same =
+        rw (
+          next-wrap,
+          length-append,
+          none-noted d w h g e t,
+          same-number d w h g e t,
+          lt-leb (length (h .takings) + 1) (length (h .takings)) (omega arith),
+          getD-append-seam,
+        )
 
-noted-same : (h : History) (m xs : List ℕ) → free h ≡ false → card .hand m xs (queueOf h) ≡ queueOf (noted output m xs h)
-unfolding noted handedNow
-noted-same h m xs e = rw (e, only-append, handedOf-same, length-append, length-upFrom)
+  noted-same : (h : History) (bytes xs : List ℕ) → free h ≡ false → card d .hand bytes xs (queueOf h) ≡ queueOf (noted d bytes xs h)
+  unfolding noted handedNow
+  noted-same h bytes xs e = rw (e, only-append, handedOf-same, length-append, length-upFrom)
 
-noted-busy : (h : History) (m xs : List ℕ) → free (noted output m xs h) ≡ free h
-unfolding noted
-noted-busy h m xs = refl
+  noted-busy : (h : History) (bytes xs : List ℕ) → free (noted d bytes xs h) ≡ free h
+  unfolding noted
+  noted-busy h bytes xs = refl
 
-entered-same : (w : List ℕ) (h : History) (e : Ending) → Good w h → card .complete e (queueOf h) ≡ queueOf (entered output e h)
-unfolding entered
-entered-same w h e g = rw (next-wrap, length-append, le-leb (length (h .takings)) (number h + 1) (omega (arith, g .one)))
+  entered-same : (w : List ℕ) (h : History) (e : Ending) → Good d w h → card d .complete e (queueOf h) ≡ queueOf (entered d e h)
+  unfolding entered
+  entered-same w h e g = rw (next-wrap, length-append, le-leb (length (h .takings)) (number h + 1) (omega (arith, g .one)))
 
-nothing-left : (h : History) → drop (handedNow h) (payloadOf output (current h)) ≡ [] → waiting output h ≡ []
-nothing-left h e = none-left h (omega (arith, simp length-drop at (ap length e)))
+  pub nothing-left : (h : History) → drop (handedNow h) (payloadOf d (current h)) ≡ [] → waiting d h ≡ []
+  nothing-left h e = none-left d h (omega (arith, simp length-drop at (ap length e)))
 
-pub alike : Alike account card output queueOf Good
-alike =
-    record {
-      empty-same = refl;
-      empty-keeps = blank-good;
-      new-same = λ h i. refl;
-      place-same = λ h. place-wrap output (length (h .takings));
-      usedPlace-same = λ h. place-wrap output (number h);
-      usedIndex-same = λ h. next-wrap (number h);
-      idle-same = idle-work;
-      work-same = λ h e. rw e;
-      done-same = λ h e. rw e;
-      left-same = λ h e. rw e;
-      take-same = λ w h t g e. took-same w h t g e;
-      take-keeps = λ w h t g e. took-good w h g e t;
-      take-busy = λ w h t g e. took-busy w h t g e;
-      take-left = λ w h t g e. took-left w h t g e;
-      hand-same = noted-same;
-      hand-keeps = λ page negotiated w h m host room g. noted-good w h g m room;
-      hand-busy = noted-busy;
-      complete-same = λ w h e g busy. entered-same w h e g;
-      complete-keeps = λ w h e g busy all. entered-good w h g e busy (λ n. nothing-left h (all n));
-    }
+  pub alike : Alike (account d) (card d) d queueOf (Good d)
+  alike =
+      record {
+        empty-same = refl;
+        empty-keeps = blank-good d;
+        new-same = λ h i. refl;
+        place-same = λ h. place-wrap d (length (h .takings));
+        usedPlace-same = λ h. place-wrap d (number h);
+        usedIndex-same = λ h. omega arith;
+        idle-same = idle-work;
+        work-same = λ h e. rw e;
+        done-same = λ h e. rw e;
+        left-same = λ h e. rw e;
+        take-same = λ w h t g e. took-same w h t g e;
+        take-keeps = λ w h t g e. took-good d w h g e t;
+        take-busy = λ w h t g e. took-busy w h t g e;
+        take-left = λ w h t g e. took-left w h t g e;
+        hand-same = noted-same;
+        hand-keeps = λ w h bytes room g all. noted-good d w h g bytes room all;
+        hand-busy = noted-busy;
+        complete-same = λ w h e g busy. entered-same w h e g;
+        complete-keeps = λ w h e g busy all. entered-good d w h g e busy (λ n. nothing-left h (all n));
+      }

@@ -4,9 +4,14 @@
 pub mod Cases
 pub mod Lists
 pub mod Keeps
+pub mod Host
 pub mod Natural
 pub mod Calls
 pub mod Histories
+pub mod Written
+pub mod Runs
+pub mod Anew
+pub mod Turns
 pub mod Theorem
 pub mod Reading
 pub mod Release

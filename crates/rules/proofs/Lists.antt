@@ -6,8 +6,8 @@ use Prim.Native.Nat.{ℕ, zero, suc, _+_, _-_, _≤_}
 use native.Mathlib.Omega.{arith}
 use borrow.Author.Tests.{eq-eqb, ne-eqb}
 use lib.Dec.{eqb}
-use lib.ListN.{length, take, getD, length-append}
-use Rattle.ranges.specs.Ranges.{upFrom, bytesAt}
+use lib.ListN.{length, take, drop, getD, length-append}
+use Rattle.ranges.specs.Ranges.{upFrom}
 use Rattle.ranges.proofs.Laws.{length-upFrom, upFrom-add}
 use Rattle.rules.specs.Transfer.{isNil}
 use Rattle.rules.specs.Histories.{Note, only, handedOf, readOf, lostOf, notesOf, lossesOf}
@@ -41,23 +41,28 @@ only-append key val t [] ys = refl
 only-append key val t (x ∷ xs) ys =
     rw (only-append key val t xs ys) (map-cond (λ (l : List ℕ). l ++ only key val t ys) (eqb (key x) t) (λ e. refl) (λ e. refl))
 
-pub handedOf-same : (t p : ℕ) (m xs : List ℕ) → handedOf t (notesOf t p m xs) ≡ upFrom p (length xs)
-unfolding upFrom
-handedOf-same t p m [] = refl
-handedOf-same t p m (x ∷ xs) = rw (eq-eqb t t refl, handedOf-same t (p + 1) m xs)
+module _ (t : ℕ) where
+  pub handedOf-same : (p : ℕ) (bytes xs : List ℕ) → handedOf t (notesOf t p bytes xs) ≡ upFrom p (length xs)
+  unfolding upFrom
+  handedOf-same p bytes [] = refl
+  handedOf-same p bytes (x ∷ xs) = rw (eq-eqb t t refl, handedOf-same (p + 1) (drop 1 bytes) xs)
 
-pub readOf-same : (t p : ℕ) (m xs : List ℕ) → readOf t (notesOf t p m xs) ≡ xs
-readOf-same t p m [] = refl
-readOf-same t p m (x ∷ xs) = rw (eq-eqb t t refl, readOf-same t (p + 1) m xs)
+  pub readOf-same : (p : ℕ) (bytes xs : List ℕ) → readOf t (notesOf t p bytes xs) ≡ xs
+  readOf-same p bytes [] = refl
+  readOf-same p bytes (x ∷ xs) = rw (eq-eqb t t refl, readOf-same (p + 1) (drop 1 bytes) xs)
 
--- the notes of another taking are none of t's
-pub notesOf-other : (val : Note → ℕ) (t s p : ℕ) (m xs : List ℕ) → (t ≡ s → ⊥) → only (λ (n : Note). n .of) val t (notesOf s p m xs) ≡ []
-notesOf-other val t s p m [] h = refl
-notesOf-other val t s p m (x ∷ xs) h = rw (ne-eqb s t (λ e. h (sym e)), notesOf-other val t s (p + 1) m xs h)
+  -- the notes of another taking are none of t's
+  pub notesOf-other :
+      (val : Note → ℕ) (s p : ℕ) (bytes xs : List ℕ) → (t ≡ s → ⊥) → only (λ (n : Note). n .of) val t (notesOf s p bytes xs) ≡ []
+  notesOf-other val s p bytes [] h = refl
+  notesOf-other val s p bytes (x ∷ xs) h = rw (ne-eqb s t (λ e. h (sym e)), notesOf-other val s (p + 1) (drop 1 bytes) xs h)
 
-pub bytes-notesOf : (t p : ℕ) (m xs : List ℕ) → map (λ (n : Note). n .byte) (notesOf t p m xs) ≡ bytesAt m xs
-bytes-notesOf t p m [] = refl
-bytes-notesOf t p m (x ∷ xs) = rw (bytes-notesOf t (p + 1) m xs)
+  -- a byte for each address
+  pub bytes-notesOf : (p : ℕ) (bytes xs : List ℕ) → length bytes ≡ length xs → map (λ (n : Note). n .byte) (notesOf t p bytes xs) ≡ bytes
+  bytes-notesOf p [] [] h = refl
+  bytes-notesOf p (b ∷ bytes) [] h = absurd (omega arith)
+  bytes-notesOf p [] (x ∷ xs) h = absurd (omega arith)
+  bytes-notesOf p (b ∷ bytes) (x ∷ xs) h = rw (bytes-notesOf (p + 1) bytes xs (omega arith))
 
 pub lostOf-same : (t : ℕ) (ps : List ℕ) → lostOf t (lossesOf t ps) ≡ ps
 lostOf-same t [] = refl

@@ -6,19 +6,18 @@ use mathlib.Core.List.{List, [], _++_, append-nil, append-assoc}
 use Prim.Native.Nat.{ℕ, zero, suc}
 use borrow.Author.Tests.{not-true}
 use lib.Dec.{ltb}
-use lib.ListN.{take}
-use Rattle.counts.specs.declared.PageNumber.{PageNumber}
-use Rattle.registers.specs.Map.{sizeOf}
+use lib.ListN.{length, take}
 use Rattle.registers.specs.declared.Registers.{Registers}
 use Rattle.registers.proofs.Keeps.{by-cond}
 use Rattle.ring.specs.Rules.{headAt, indexOf}
 use Rattle.ring.specs.declared.Check.{Check}
 use Rattle.ring.specs.declared.Head.{Head}
 use Rattle.rules.specs.Calls.{Emptied, emptiedBy, emptiedFound, emptied, Transferred, transferredBy}
-use Rattle.rules.specs.Device.{Direction, output, input, queueNumber, Taking, Ending, finished, released, illFormed}
+use Rattle.rules.specs.Device.{Direction, output, input, Virtqueue, queueSize, Taking, Ending, finished, released, illFormed}
 use Rattle.rules.specs.Loop.{loop}
-use Rattle.rules.specs.Transfer.{Ops, Run, isWell, isNil, payloadOf, takingOf, begun, completed, memoryMoved, bytesMoved, moved, settled, worked, givenUp, taking, entered, met, next, transferMore, releaseMore, transferRun, releaseRun, found}
+use Rattle.rules.specs.Transfer.{Ops, Run, isWell, isNil, payloadOf, takingOf, begun, completed, bytesMoved, moved, settled, worked, givenUp, taking, entered, met, next, transferMore, releaseMore, transferRun, releaseRun, found}
 use Rattle.rules.proofs.Cases.{map-cond}
+use Rattle.rules.proofs.Host.{Past, all-bytes, completed-past, moved-past, next-past, begun-past}
 use Rattle.rules.proofs.Lists.{nil-true}
 
 -- ---- two loops that run alike: `f` shows one state as the other, where `P` holds
@@ -70,12 +69,13 @@ pub record Alike {H Q : Type 0} (A : Ops H) (D : Ops Q) (d : Direction) (f : H �
   pub take-keeps : (w : List ℕ) (h : H) (t : Taking) → I w h → A .idle h ≡ true → I w (A .take t h)
   pub take-busy : (w : List ℕ) (h : H) (t : Taking) → I w h → A .idle h ≡ true → A .idle (A .take t h) ≡ false
   pub take-left : (w : List ℕ) (h : H) (t : Taking) → I w h → A .idle h ≡ true → A .left (A .take t h) ≡ payloadOf d t
-  pub hand-same : (h : H) (m xs : List ℕ) → A .idle h ≡ false → D .hand m xs (f h) ≡ f (A .hand m xs h)
+  pub hand-same : (h : H) (bytes xs : List ℕ) → A .idle h ≡ false → D .hand bytes xs (f h) ≡ f (A .hand bytes xs h)
   pub hand-keeps :
-      (page : PageNumber) (negotiated : Bool) (w : List ℕ) (h : H) (m host : List ℕ) (room : ℕ)
+      (w : List ℕ) (h : H) (bytes : List ℕ) (room : ℕ)
       → I w h
-      → I (w ++ bytesMoved A d page negotiated d (take room (A .left h)) host m) (A .hand m (take room (A .left h)) h)
-  pub hand-busy : (h : H) (m xs : List ℕ) → A .idle (A .hand m xs h) ≡ A .idle h
+      → length bytes ≡ length (take room (A .left h))
+      → I (w ++ bytes) (A .hand bytes (take room (A .left h)) h)
+  pub hand-busy : (h : H) (bytes xs : List ℕ) → A .idle (A .hand bytes xs h) ≡ A .idle h
   pub complete-same : (w : List ℕ) (h : H) (e : Ending) → I w h → A .idle h ≡ false → D .complete e (f h) ≡ f (A .complete e h)
   pub complete-keeps :
       (w : List ℕ) (h : H) (e : Ending) → I w h → A .idle h ≡ false → ((e ≡ released → ⊥) → A .left h ≡ []) → I w (A .complete e h)
@@ -84,16 +84,6 @@ pub record Alike {H Q : Type 0} (A : Ops H) (D : Ops Q) (d : Direction) (f : H �
 ill-formed-none : (d : Direction) (t : Taking) → isWell (t .form) ≡ false → payloadOf d t ≡ []
 unfolding payloadOf
 ill-formed-none d t e = rw e
-
--- what is moved does not ask how the queue is kept
-module _ {H Q : Type 0} (A : Ops H) (D : Ops Q) (page : PageNumber) (negotiated : Bool) (xs host m : List ℕ) where
-  memory-same : (d : Direction) → memoryMoved D d page negotiated d xs host m ≡ memoryMoved A d page negotiated d xs host m
-  memory-same output = refl
-  memory-same input = refl
-
-  bytes-same : (d : Direction) → bytesMoved D d page negotiated d xs host m ≡ bytesMoved A d page negotiated d xs host m
-  bytes-same output = refl
-  bytes-same input = refl
 
 -- what a call made of a queue, shown
 unfoldable pub lowEmptied : {H Q : Type 0} → (H → Q) → Emptied H → Emptied Q
@@ -109,12 +99,10 @@ module _
     {H Q : Type 0}
     (A : Ops H)
     (D : Ops Q)
-    (d : Direction)
+    (v : Virtqueue)
     (f : H → Q)
     (I : List ℕ → H → Type 0)
-    (L : Alike A D d f I)
-    (page : PageNumber)
-    (negotiated : Bool) where
+    (L : Alike A D (v .direction) f I) where
   unfoldable lower : Run H → Run Q
   lower r =
       record {
@@ -139,7 +127,7 @@ module _
       (w : List ℕ) (e : Ending) (s : Run H)
       → I w (s .queue)
       → A .idle (s .queue) ≡ false
-      → completed D d page negotiated e (lower s) ≡ lower (completed A d page negotiated e s)
+      → completed D v e (lower s) ≡ lower (completed A v e s)
   unfolding lower completed
   completed-same w e s i busy =
       rw (
@@ -150,22 +138,17 @@ module _
         L .done-same (s .queue) busy,
       )
 
-  moved-same : (s : Run H) → A .idle (s .queue) ≡ false → moved D d page negotiated (lower s) ≡ lower (moved A d page negotiated s)
+  moved-same : (s : Run H) → A .idle (s .queue) ≡ false → moved D v (lower s) ≡ lower (moved A v s)
   unfolding lower moved
   moved-same s busy =
       let xs : List ℕ = take (s .room) (A .left (s .queue)) in
-      rw (
-        L .left-same (s .queue) busy,
-        L .hand-same (s .queue) (s .mem) xs busy,
-        memory-same A D page negotiated xs (s .host) (s .mem) d,
-        bytes-same A D page negotiated xs (s .host) (s .mem) d,
-      )
+      rw (L .left-same (s .queue) busy, L .hand-same (s .queue) (bytesMoved (v .direction) xs (s .host) (s .mem)) xs busy)
 
   taking-same :
       (w : List ℕ) (t : Taking) (s : Run H)
       → I w (s .queue)
       → A .idle (s .queue) ≡ true
-      → taking D d page negotiated t (lower s) ≡ lower (taking A d page negotiated t s)
+      → taking D v t (lower s) ≡ lower (taking A v t s)
   unfolding lower
   taking-same w t s i free = rw (L .take-same w (s .queue) t i free)
 
@@ -179,92 +162,107 @@ module _
         → Fine s
         → A .idle (s .queue) ≡ false
         → ((e ≡ released → ⊥) → A .left (s .queue) ≡ [])
-        → Fine (completed A d page negotiated e s)
+        → Fine (completed A v e s)
     unfolding completed
     completed-keeps e s i busy all = L .complete-keeps (g (s .bytes)) (s .queue) e i busy all
 
-    pub give-keeps : (s : Run H) → Fine s → Fine (givenUp A d page negotiated s)
+    pub give-keeps : (s : Run H) → Fine s → Fine (givenUp A v s)
     give-keeps s i = by-cond Fine (A .idle (s .queue)) (λ e. i) (λ e. completed-keeps released s i e (λ n. absurd (n refl)))
 
-    give-same : (s : Run H) → Fine s → givenUp D d page negotiated (lower s) ≡ lower (givenUp A d page negotiated s)
+    give-same : (s : Run H) → Fine s → givenUp D v (lower s) ≡ lower (givenUp A v s)
     give-same s i =
         rw (idle-same s) (map-cond lower (A .idle (s .queue)) (λ e. refl) (λ e. completed-same (g (s .bytes)) released s i e))
 
-    taking-keeps : (t : Taking) (s : Run H) → Fine s → A .idle (s .queue) ≡ true → Fine (taking A d page negotiated t s)
+    taking-keeps : (t : Taking) (s : Run H) → Fine s → A .idle (s .queue) ≡ true → Fine (taking A v t s)
     taking-keeps t s i free = L .take-keeps (g (s .bytes)) (s .queue) t i free
 
-    entered-keeps : (t : Taking) (s : Run H) → Fine s → A .idle (s .queue) ≡ true → Fine (entered A d page negotiated t s)
+    entered-keeps : (t : Taking) (s : Run H) → Fine s → A .idle (s .queue) ≡ true → Fine (entered A v t s)
     unfolding entered
     entered-keeps t s i free =
-        let u : Run H = taking A d page negotiated t s in
+        let u : Run H = taking A v t s in
         by-cond Fine (isWell (t .form)) (λ e. taking-keeps t s i free)
         (λ e.
         completed-keeps illFormed u (taking-keeps t s i free) (L .take-busy (g (s .bytes)) (s .queue) t i free)
-        (λ n. L .take-left (g (s .bytes)) (s .queue) t i free ∙ ill-formed-none d t e))
+        (λ n. L .take-left (g (s .bytes)) (s .queue) t i free ∙ ill-formed-none (v .direction) t e))
 
     entered-same :
         (t : Taking) (s : Run H)
         → Fine s
         → A .idle (s .queue) ≡ true
-        → entered D d page negotiated t (lower s) ≡ lower (entered A d page negotiated t s)
+        → entered D v t (lower s) ≡ lower (entered A v t s)
     unfolding entered
     entered-same t s i free =
-        let u : Run H = taking A d page negotiated t s in
+        let u : Run H = taking A v t s in
         map-cond lower (isWell (t .form)) (λ e. taking-same (g (s .bytes)) t s i free)
         (λ e.
-        ap (completed D d page negotiated illFormed) (taking-same (g (s .bytes)) t s i free)
+        ap (completed D v illFormed) (taking-same (g (s .bytes)) t s i free)
         ∙ completed-same (g (s .bytes)) illFormed u (taking-keeps t s i free) (L .take-busy (g (s .bytes)) (s .queue) t i free))
 
-    met-keeps : (n : Head) (s : Run H) → Fine s → A .idle (s .queue) ≡ true → Fine (met A d page negotiated n s)
-    met-keeps (Head.At n) s i free = entered-keeps (takingOf d (s .mem) page negotiated (n .0)) s i free
+    met-keeps : (n : Head) (s : Run H) → Fine s → A .idle (s .queue) ≡ true → Fine (met A v n s)
+    met-keeps (Head.At n) s i free = entered-keeps (takingOf v (s .mem) (n .0)) s i free
     met-keeps (Head.Broken cause) s i free = i
 
     met-same :
         (n : Head) (s : Run H)
         → Fine s
         → A .idle (s .queue) ≡ true
-        → met D d page negotiated n (lower s) ≡ lower (met A d page negotiated n s)
+        → met D v n (lower s) ≡ lower (met A v n s)
     unfolding lower
-    met-same (Head.At n) s i free = entered-same (takingOf d (s .mem) page negotiated (n .0)) s i free
+    met-same (Head.At n) s i free = entered-same (takingOf v (s .mem) (n .0)) s i free
     met-same (Head.Broken cause) s i free = refl
 
-    pub next-keeps : (s : Run H) → Fine s → A .idle (s .queue) ≡ true → Fine (next A d page negotiated s)
+    pub next-keeps : (s : Run H) → Fine s → A .idle (s .queue) ≡ true → Fine (next A v s)
     unfolding next
-    next-keeps s i free = met-keeps (headAt (s .mem) page (sizeOf (queueNumber d)) (A .place (s .queue))) s i free
+    next-keeps s i free = met-keeps (headAt (s .mem) (v .page) (queueSize v) (A .place (s .queue))) s i free
 
     next-same :
-        (s : Run H) → Fine s → A .idle (s .queue) ≡ true → next D d page negotiated (lower s) ≡ lower (next A d page negotiated s)
+        (s : Run H) → Fine s → A .idle (s .queue) ≡ true → next D v (lower s) ≡ lower (next A v s)
     unfolding next lower
     next-same s i free =
-        rw (L .place-same (s .queue)) (met-same (headAt (s .mem) page (sizeOf (queueNumber d)) (A .place (s .queue))) s i free)
+        rw (L .place-same (s .queue)) (met-same (headAt (s .mem) (v .page) (queueSize v) (A .place (s .queue))) s i free)
 
   -- ---- a transfer
 
-  module _ (w : List ℕ) where
-    abbrev Moved : Run H → Type 0
-    Moved s = I (w ++ s .bytes) (s .queue)
+  module _ (w host : List ℕ) where
+    -- what a transfer keeps, beside what is left of the host's bytes
+    pub record Moved (s : Run H) : Type 0 where
+      pub kept : I (w ++ s .bytes) (s .queue)
+      pub past : Past A v host s
 
-    moved-keeps : (s : Run H) → Moved s → Moved (moved A d page negotiated s)
+    pub moved-keeps : (s : Run H) → Moved s → Moved (moved A v s)
     unfolding moved
-    moved-keeps s i = rw (← append-assoc) (L .hand-keeps page negotiated (w ++ s .bytes) (s .queue) (s .mem) (s .host) (s .room) i)
+    moved-keeps s i =
+        let bytes : List ℕ = bytesMoved (v .direction) (take (s .room) (A .left (s .queue))) (s .host) (s .mem) in
+        record {
+          kept =
+              rw (← append-assoc)
+              (L .hand-keeps (w ++ s .bytes) (s .queue) bytes (s .room) (i .kept) (all-bytes A v host s (i .past)));
+          past = moved-past A v host s (i .past);
+        }
 
-    moved-busy : (s : Run H) → A .idle (s .queue) ≡ false → A .idle (moved A d page negotiated s .queue) ≡ false
+    pub moved-busy : (s : Run H) → A .idle (s .queue) ≡ false → A .idle (moved A v s .queue) ≡ false
     unfolding moved
-    moved-busy s busy = L .hand-busy (s .queue) (s .mem) (take (s .room) (A .left (s .queue))) ∙ busy
+    moved-busy s busy =
+        L .hand-busy (s .queue) (bytesMoved (v .direction) (take (s .room) (A .left (s .queue))) (s .host) (s .mem))
+        (take (s .room) (A .left (s .queue))) ∙ busy
 
-    settled-keeps : (s : Run H) → Moved s → A .idle (s .queue) ≡ false → Moved (settled A d page negotiated s)
+    pub moved-next : (s : Run H) → Moved s → A .idle (s .queue) ≡ true → Moved (next A v s)
+    moved-next s i free = record { kept = next-keeps (λ o. w ++ o) s (i .kept) free; past = next-past A v host s (i .past) }
+
+    settled-keeps : (s : Run H) → Moved s → A .idle (s .queue) ≡ false → Moved (settled A v s)
     settled-keeps s i busy =
         by-cond Moved (isNil (A .left (s .queue)))
-        (λ e. completed-keeps (λ o. w ++ o) finished s i busy (λ n. nil-true (A .left (s .queue)) e)) (λ e. i)
+        (λ e.
+        record {
+          kept = completed-keeps (λ o. w ++ o) finished s (i .kept) busy (λ n. nil-true (A .left (s .queue)) e);
+          past = completed-past A v host finished s (i .past);
+        })
+        (λ e. i)
 
-    settled-same :
-        (s : Run H)
-        → Moved s
-        → A .idle (s .queue) ≡ false
-        → settled D d page negotiated (lower s) ≡ lower (settled A d page negotiated s)
+    settled-same : (s : Run H) → Moved s → A .idle (s .queue) ≡ false → settled D v (lower s) ≡ lower (settled A v s)
     settled-same s i busy =
         rw (left-same s busy)
-        (map-cond lower (isNil (A .left (s .queue))) (λ e. completed-same (w ++ s .bytes) finished s i busy) (λ e. refl))
+        (map-cond lower (isNil (A .left (s .queue))) (λ e. completed-same (w ++ s .bytes) finished s (i .kept) busy) (λ e. refl))
 
     -- with room left, a message in work is worked
     abbrev works : Run H → Bool
@@ -274,63 +272,67 @@ module _
     unfolding lower
     works-same s = rw (L .idle-same (s .queue))
 
-    works-busy : (s : Run H) → works s ≡ true → A .idle (s .queue) ≡ false
+    pub works-busy : (s : Run H) → works s ≡ true → A .idle (s .queue) ≡ false
     works-busy s e = not-true (A .idle (s .queue)) (and-eq-true-iff (ltb 0 (s .room)) (not (A .idle (s .queue))) .0 e .1)
 
-    pub worked-keeps : (s : Run H) → Moved s → Moved (worked A d page negotiated s)
+    pub worked-keeps : (s : Run H) → Moved s → Moved (worked A v s)
     worked-keeps s i =
         by-cond Moved (works s)
-        (λ e. settled-keeps (moved A d page negotiated s) (moved-keeps s i) (moved-busy s (works-busy s e))) (λ e. i)
+        (λ e. settled-keeps (moved A v s) (moved-keeps s i) (moved-busy s (works-busy s e))) (λ e. i)
 
-    worked-same : (s : Run H) → Moved s → worked D d page negotiated (lower s) ≡ lower (worked A d page negotiated s)
+    worked-same : (s : Run H) → Moved s → worked D v (lower s) ≡ lower (worked A v s)
     worked-same s i =
         rw (works-same s)
         (map-cond lower (works s)
         (λ e.
-        ap (settled D d page negotiated) (moved-same s (works-busy s e))
-        ∙ settled-same (moved A d page negotiated s) (moved-keeps s i) (moved-busy s (works-busy s e)))
+        ap (settled D v) (moved-same s (works-busy s e))
+        ∙ settled-same (moved A v s) (moved-keeps s i) (moved-busy s (works-busy s e)))
         (λ e. refl))
 
-    pub transfer-free : (s : Run H) → transferMore A d page negotiated s ≡ true → A .idle (s .queue) ≡ true
+    pub transfer-free : (s : Run H) → transferMore A v s ≡ true → A .idle (s .queue) ≡ true
     transfer-free s e = and-eq-true-iff (s .sound && ltb 0 (s .room)) (A .idle (s .queue)) .0 e .1
 
-    transferMore-same : (s : Run H) → transferMore D d page negotiated (lower s) ≡ transferMore A d page negotiated s
+    transferMore-same : (s : Run H) → transferMore D v (lower s) ≡ transferMore A v s
     unfolding lower
     transferMore-same s = rw (L .idle-same (s .queue))
 
     transferRun-alike :
         (k : ℕ) (s : Run H)
         → Moved s
-        → (transferRun D d page negotiated k (lower s) ≡ lower (transferRun A d page negotiated k s))
-        × Moved (transferRun A d page negotiated k s)
+        → (transferRun D v k (lower s) ≡ lower (transferRun A v k s))
+        × Moved (transferRun A v k s)
     unfolding transferRun
     transferRun-alike =
-        loop-alike lower Moved (worked A d page negotiated) (transferMore A d page negotiated) (next A d page negotiated)
-        (worked D d page negotiated) (transferMore D d page negotiated) (next D d page negotiated)
+        loop-alike lower Moved (worked A v) (transferMore A v) (next A v)
+        (worked D v) (transferMore D v) (next D v)
         worked-same worked-keeps (λ s i. transferMore-same s)
-        (λ s i e. next-same (λ o. w ++ o) s i (transfer-free s e)) (λ s i e. next-keeps (λ o. w ++ o) s i (transfer-free s e))
+        (λ s i e. next-same (λ o. w ++ o) s (i .kept) (transfer-free s e)) (λ s i e. moved-next s i (transfer-free s e))
 
-    -- ---- a Release
+    pub begun-moved : (q : H) (m : List ℕ) → I w q → Moved (begun q m host)
+    begun-moved q m i = record { kept = rw append-nil i; past = begun-past A v host q m }
 
+  -- ---- a Release
+
+  module _ (w : List ℕ) where
     abbrev Kept : Run H → Type 0
     Kept s = I w (s .queue)
 
-    pub release-free : (s : Run H) → releaseMore A d page negotiated s ≡ true → A .idle (s .queue) ≡ true
+    pub release-free : (s : Run H) → releaseMore A v s ≡ true → A .idle (s .queue) ≡ true
     release-free s e = and-eq-true-iff (s .sound) (A .idle (s .queue)) .0 e .1
 
-    releaseMore-same : (s : Run H) → releaseMore D d page negotiated (lower s) ≡ releaseMore A d page negotiated s
+    releaseMore-same : (s : Run H) → releaseMore D v (lower s) ≡ releaseMore A v s
     unfolding lower
     releaseMore-same s = rw (L .idle-same (s .queue))
 
     releaseRun-alike :
         (k : ℕ) (s : Run H)
         → Kept s
-        → (releaseRun D d page negotiated k (lower s) ≡ lower (releaseRun A d page negotiated k s))
-        × Kept (releaseRun A d page negotiated k s)
+        → (releaseRun D v k (lower s) ≡ lower (releaseRun A v k s))
+        × Kept (releaseRun A v k s)
     unfolding releaseRun
     releaseRun-alike =
-        loop-alike lower Kept (givenUp A d page negotiated) (releaseMore A d page negotiated) (next A d page negotiated)
-        (givenUp D d page negotiated) (releaseMore D d page negotiated) (next D d page negotiated)
+        loop-alike lower Kept (givenUp A v) (releaseMore A v) (next A v)
+        (givenUp D v) (releaseMore D v) (next D v)
         (give-same (λ o. w)) (give-keeps (λ o. w)) (λ s i. releaseMore-same s)
         (λ s i e. next-same (λ o. w) s i (release-free s e)) (λ s i e. next-keeps (λ o. w) s i (release-free s e))
 
@@ -340,8 +342,8 @@ module _
     unfolding lower
     begun-same q m host = refl
 
-    pub found-same : (q : H) (m : List ℕ) → found D d page negotiated (f q) m ≡ found A d page negotiated q m
-    found-same q m = rw (L .new-same q (indexOf m page (sizeOf (queueNumber d))), L .idle-same q)
+    pub found-same : (q : H) (m : List ℕ) → found D v (f q) m ≡ found A v q m
+    found-same q m = rw (L .new-same q (indexOf m (v .page) (queueSize v)), L .idle-same q)
 
     transferredBy-low : (g : Registers) (s : Run H) → transferredBy g (lower s) ≡ lowTransferred f (transferredBy g s)
     unfolding lower lowTransferred
@@ -350,14 +352,14 @@ module _
     pub transferredBy-same :
         (g : Registers) (k : ℕ) (q : H) (m host : List ℕ)
         → I w q
-        → transferredBy g (transferRun D d page negotiated k (begun (f q) m host))
-        ≡ lowTransferred f (transferredBy g (transferRun A d page negotiated k (begun q m host)))
+        → transferredBy g (transferRun D v k (begun (f q) m host))
+        ≡ lowTransferred f (transferredBy g (transferRun A v k (begun q m host)))
     transferredBy-same g k q m host i =
-        rw (begun-same q m host, transferRun-alike k (begun q m host) (rw append-nil i) .0)
-        (transferredBy-low g (transferRun A d page negotiated k (begun q m host)))
+        rw (begun-same q m host, transferRun-alike w host k (begun q m host) (begun-moved w host q m i) .0)
+        (transferredBy-low g (transferRun A v k (begun q m host)))
 
-    pub transfer-keeps : (k : ℕ) (q : H) (m host : List ℕ) → I w q → Moved (transferRun A d page negotiated k (begun q m host))
-    transfer-keeps k q m host i = transferRun-alike k (begun q m host) (rw append-nil i) .1
+    pub transfer-keeps : (k : ℕ) (q : H) (m host : List ℕ) → I w q → Moved w host (transferRun A v k (begun q m host))
+    transfer-keeps k q m host i = transferRun-alike w host k (begun q m host) (begun-moved w host q m i) .1
 
     emptiedBy-low : (s : Run H) → emptiedBy (lower s) ≡ lowEmptied f (emptiedBy s)
     unfolding lower lowEmptied
@@ -366,23 +368,23 @@ module _
     emptiedFound-same :
         (q : H) (m : List ℕ) (c : Check)
         → I w q
-        → emptiedFound D d page negotiated (f q) m c ≡ lowEmptied f (emptiedFound A d page negotiated q m c)
+        → emptiedFound D v (f q) m c ≡ lowEmptied f (emptiedFound A v q m c)
     unfolding lowEmptied
     emptiedFound-same q m Check.Idle i = refl
     emptiedFound-same q m (Check.Broken cause) i = refl
     emptiedFound-same q m (Check.New n) i =
-        rw (begun-same q m [], releaseRun-alike n (begun q m []) i .0) (emptiedBy-low (releaseRun A d page negotiated n (begun q m [])))
+        rw (begun-same q m [], releaseRun-alike n (begun q m []) i .0) (emptiedBy-low (releaseRun A v n (begun q m [])))
 
     pub emptied-same :
-        (q : H) (m : List ℕ) → I w q → emptied D d page negotiated (f q) m ≡ lowEmptied f (emptied A d page negotiated q m)
+        (q : H) (m : List ℕ) → I w q → emptied D v (f q) m ≡ lowEmptied f (emptied A v q m)
     unfolding emptied
-    emptied-same q m i = rw (found-same q m) (emptiedFound-same q m (found A d page negotiated q m) i)
+    emptied-same q m i = rw (found-same q m) (emptiedFound-same q m (found A v q m) i)
 
-    emptiedFound-keeps : (q : H) (m : List ℕ) (c : Check) → I w q → I w (emptiedFound A d page negotiated q m c .queue)
+    emptiedFound-keeps : (q : H) (m : List ℕ) (c : Check) → I w q → I w (emptiedFound A v q m c .queue)
     emptiedFound-keeps q m Check.Idle i = i
     emptiedFound-keeps q m (Check.Broken cause) i = i
     emptiedFound-keeps q m (Check.New n) i = releaseRun-alike n (begun q m []) i .1
 
-    pub emptied-keeps : (q : H) (m : List ℕ) → I w q → I w (emptied A d page negotiated q m .queue)
+    pub emptied-keeps : (q : H) (m : List ℕ) → I w q → I w (emptied A v q m .queue)
     unfolding emptied
-    emptied-keeps q m i = emptiedFound-keeps q m (found A d page negotiated q m) i
+    emptied-keeps q m i = emptiedFound-keeps q m (found A v q m) i

@@ -1,5 +1,5 @@
--- The claim in a reader's words: each position of each payload stands in exactly one place; only a Release gives positions up, and it
--- answers IO_ERR; a message answered otherwise was handed on whole, byte by byte from its own addresses.
+-- What is good of a history, in a reader's words: each position of each payload stands in exactly one place; only a Release gives
+-- positions up; a message answered otherwise was moved whole, byte by byte at its own addresses.
 use mathlib.Core.Path.{_≡_, refl, ap}
 use mathlib.Core.Bool.{cond}
 use mathlib.Core.List.{List, [], _∷_, _++_, append-nil}
@@ -16,7 +16,7 @@ use Rattle.ranges.specs.Ranges.{upFrom}
 use Rattle.ranges.proofs.Laws.{length-upFrom}
 use Rattle.rules.specs.Calls.{Call}
 use Rattle.rules.specs.Claim.{start, after, Good, waitingOf, payloadAt, account}
-use Rattle.rules.specs.Device.{output, Form, Ending, finished, released, illFormed}
+use Rattle.rules.specs.Device.{Direction, Ending, finished, released, illFormed}
 use Rattle.rules.specs.Histories.{History, unanswered, handedOf, readOf, lostOf, number}
 use Rattle.rules.specs.Numbers.{sIoErr}
 use Rattle.rules.specs.Transfer.{statusOf}
@@ -48,18 +48,18 @@ occurs-upFrom p a (suc k) l h = go (ℕ-discrete a p) (λ n. occurs-upFrom p (a 
 
 -- ---- of a good history
 
-module _ (w : List ℕ) (h : History) (g : Good w h) (t : ℕ) where
+module _ (d : Direction) (w : List ℕ) (h : History) (g : Good d w h) (t : ℕ) where
   -- "each payload position of each message taken is in exactly one place: handed on, given up or waiting"
   pub in-one-place :
       (p : ℕ)
-      → p < length (payloadAt t h)
-      → occurs p (handedOf t (h .notes)) + (occurs p (lostOf t (h .losses)) + occurs p (waitingOf t h)) ≡ 1
+      → p < length (payloadAt d t h)
+      → occurs p (handedOf t (h .notes)) + (occurs p (lostOf t (h .losses)) + occurs p (waitingOf d t h)) ≡ 1
   in-one-place p l =
       rw (
-        ← (occurs-append p (lostOf t (h .losses)) (waitingOf t h)),
-        ← (occurs-append p (handedOf t (h .notes)) (lostOf t (h .losses) ++ waitingOf t h)),
+        ← (occurs-append p (lostOf t (h .losses)) (waitingOf d t h)),
+        ← (occurs-append p (handedOf t (h .notes)) (lostOf t (h .losses) ++ waitingOf d t h)),
         g .once t,
-      ) (occurs-upFrom p 0 (length (payloadAt t h)) (omega arith) (omega arith))
+      ) (occurs-upFrom p 0 (length (payloadAt d t h)) (omega arith) (omega arith))
 
   -- where positions are given up, the entry is a Release's
   pub lost-by-release : 0 < length (lostOf t (h .losses)) → getD (h .entries) t unanswered .ending ≡ released
@@ -70,24 +70,10 @@ module _ (w : List ℕ) (h : History) (g : Good w h) (t : ℕ) where
       go finished q = absurd (omega (arith, ap length (g .blamed t (λ r. let z : _≡_ {A = ℕ} 0 1 = cc in omega arith))))
       go illFormed q = absurd (omega (arith, ap length (g .blamed t (λ r. let z : _≡_ {A = ℕ} 0 1 = cc in omega arith))))
 
-  -- ".. an IO_ERR entry; positions not handed are given up"
-  pub lost-answered : (f : Form) → 0 < length (lostOf t (h .losses)) → statusOf output (getD (h .entries) t unanswered .ending) f ≡ some sIoErr
-  lost-answered f l = rw (lost-by-release l)
-
   -- a message that was completed, and not by a Release, was handed on whole, from the payload's own addresses
   module _ (l : t < number h) (n : getD (h .entries) t unanswered .ending ≡ released → ⊥) where
-    pub whole : handedOf t (h .notes) ≡ upFrom 0 (length (payloadAt t h))
+    pub whole : handedOf t (h .notes) ≡ upFrom 0 (length (payloadAt d t h))
     whole = rw (ne-eqb t (number h) (λ e. omega arith), g .blamed t n, append-nil) at (g .once t)
 
-    pub whole-read : readOf t (h .notes) ≡ payloadAt t h
+    pub whole-read : readOf t (h .notes) ≡ payloadAt d t h
     whole-read = rw (g .read t, whole, length-upFrom, take-length)
-
--- ---- of the account after any calls
-
-pub each-in-one-place :
-    (d : Description) (len : ℕ) (cs : List Call) (t p : ℕ)
-    → p < length (payloadAt t (after account (start account d len) cs .play))
-    → occurs p (handedOf t (after account (start account d len) cs .play .notes))
-    + (occurs p (lostOf t (after account (start account d len) cs .play .losses))
-    + occurs p (waitingOf t (after account (start account d len) cs .play))) ≡ 1
-each-in-one-place d len cs t p l = in-one-place _ (after account (start account d len) cs .play) (demand-3 d len cs .good) t p l

@@ -1,5 +1,5 @@
 -- What the account alone says, whatever the rules share with it: a Release that breaks nothing takes every new entry and leaves no
--- message in work, and so does a play that ends with room left.
+-- message in work, and so does a transfer that ends with room left.
 use mathlib.Core.Path.{_≡_, refl, sym, _∙_}
 use mathlib.Core.Bool.{Bool, true, false, cond, _&&_, not, false≢true, true≢false, and-eq-true-iff}
 use mathlib.Core.List.{List, _++_}
@@ -9,21 +9,19 @@ use borrow.Author.Tests.{le-leb, lt-ltb, not-false}
 use lib.Dec.{ltb}
 use lib.ListN.{length, take, drop, length-append, length-take, drop-of-length-le}
 use lib.Seq.{drop-drop}
-use Rattle.counts.specs.declared.PageNumber.{PageNumber}
 use Rattle.ranges.proofs.Laws.{length-upFrom}
-use Rattle.registers.specs.Map.{sizeOf}
 use Rattle.registers.proofs.Keeps.{by-cond}
 use Rattle.ring.specs.Rules.{headAt}
 use Rattle.ring.specs.declared.Head.{Head}
 use Rattle.rules.specs.Claim.{Good, queueOf, card, account}
-use Rattle.rules.specs.Device.{output, queueNumber, Taking, Ending, finished, released, illFormed}
+use Rattle.rules.specs.Device.{Virtqueue, queueSize, Taking, Ending, finished, released, illFormed}
 use Rattle.rules.specs.Histories as history
 use Rattle.rules.specs.Histories.{History, number, handedNow, took, noted}
 use Rattle.rules.specs.Loop.{loop}
-use Rattle.rules.specs.Transfer.{Run, isNil, isWell, takingOf, completed, moved, settled, worked, givenUp, taking, entered, met, next, transferMore, releaseMore, transferRun, releaseRun}
+use Rattle.rules.specs.Transfer.{Ops, Run, isNil, isWell, takingOf, completed, moved, settled, worked, givenUp, taking, entered, met, next, transferMore, releaseMore, transferRun, releaseRun}
 use Rattle.rules.proofs.Histories.{free, alike}
 use Rattle.rules.proofs.Lists.{only-append, handedOf-same}
-use Rattle.rules.proofs.Natural.{give-keeps, next-keeps, worked-keeps, transfer-free, release-free}
+use Rattle.rules.proofs.Natural.{Moved, give-keeps, next-keeps, moved-next, worked-keeps, transfer-free, release-free}
 
 -- how many were taken
 abbrev pub size : Run History → ℕ
@@ -39,33 +37,36 @@ record Left (C : Run History → Type 0) (s u : Run History) : Type 0 where
 record One (s u : Run History) : Type 0 where
   one-is : u .sound ≡ true → size u ≡ size s + 1
 
-module _ (page : PageNumber) (negotiated : Bool) where
+module _ (v : Virtqueue) where
+  abbrev ops : Ops History
+  ops = account (v .direction)
+
   -- ---- one step
 
-  taking-one : (t : Taking) (s : Run History) → One s (taking account output page negotiated t s)
+  taking-one : (t : Taking) (s : Run History) → One s (taking ops v t s)
   unfolding took
   taking-one t s = record { one-is = λ e. rw length-append }
 
-  ill-formed-one : (t : Taking) (s : Run History) → One s (completed account output page negotiated illFormed (taking account output page negotiated t s))
+  ill-formed-one : (t : Taking) (s : Run History) → One s (completed ops v illFormed (taking ops v t s))
   unfolding completed took history.entered
   ill-formed-one t s = record { one-is = λ e. rw length-append }
 
-  entered-one : (t : Taking) (s : Run History) → One s (entered account output page negotiated t s)
+  entered-one : (t : Taking) (s : Run History) → One s (entered ops v t s)
   unfolding entered
   entered-one t s = by-cond (One s) (isWell (t .form)) (λ e. taking-one t s) (λ e. ill-formed-one t s)
 
-  met-one : (n : Head) (s : Run History) → One s (met account output page negotiated n s)
-  met-one (Head.At n) s = entered-one (takingOf output (s .mem) page negotiated (n .0)) s
+  met-one : (n : Head) (s : Run History) → One s (met ops v n s)
+  met-one (Head.At n) s = entered-one (takingOf v (s .mem) (n .0)) s
   met-one (Head.Broken cause) s = record { one-is = λ e. absurd (false≢true e) }
 
-  next-one : (s : Run History) → One s (next account output page negotiated s)
+  next-one : (s : Run History) → One s (next ops v s)
   unfolding next
-  next-one s = met-one (headAt (s .mem) page (sizeOf (queueNumber output)) (account .place (s .queue))) s
+  next-one s = met-one (headAt (s .mem) (v .page) (queueSize v) (ops .place (s .queue))) s
 
   completed-left :
       (C : Run History → Type 0) (e : Ending) (s : Run History)
       → size s ≤ suc (number (s .queue))
-      → Left C s (completed account output page negotiated e s)
+      → Left C s (completed ops v e s)
   unfolding completed history.entered
   completed-left C e s o =
       record { size-is = refl; sound-is = refl; free-is = λ c. rw length-append (le-leb (size s) (number (s .queue) + 1) (omega arith)) }
@@ -80,9 +81,9 @@ module _ (page : PageNumber) (negotiated : Bool) where
       (w-keeps : (s : Run History) → P s → P (work s))
       (m-sound : (s : Run History) → more s ≡ true → s .sound ≡ true)
       (m-holds : (s : Run History) → s .sound ≡ true → C s → free (s .queue) ≡ true → more s ≡ true)
-      (n-keeps : (s : Run History) → P s → more s ≡ true → P (next account output page negotiated s)) where
+      (n-keeps : (s : Run History) → P s → more s ≡ true → P (next ops v s)) where
     abbrev run : ℕ → Run History → Run History
-    run k s = loop work more (next account output page negotiated) k s
+    run k s = loop work more (next ops v) k s
 
     -- what is broken stays so
     broken-stays : (k : ℕ) (s : Run History) → P s → s .sound ≡ false → run k s .sound ≡ false
@@ -101,35 +102,35 @@ module _ (page : PageNumber) (negotiated : Bool) where
         → (size (run k s) ≡ size s + k) × (free (run k s .queue) ≡ true)
     unfolding loop
     takes-all zero s p e r c = (omega (arith, w-left s p .size-is), w-left s p .free-is c)
-    takes-all (suc k) s p e r c = go (more (work s)) refl (takes-all k (next account output page negotiated (work s))) r c
+    takes-all (suc k) s p e r c = go (more (work s)) refl (takes-all k (next ops v (work s))) r c
       where
         u : Run History
         u = work s
 
-        v : Run History
-        v = next account output page negotiated (work s)
+        onward : Run History
+        onward = next ops v (work s)
 
         -- of the next entry
         after-one :
             (b : Bool)
-            → v .sound ≡ b
-            → P v
-            → (v .sound ≡ true → (size (run k v) ≡ size v + k) × (free (run k v .queue) ≡ true))
-            → run k v .sound ≡ true
-            → (size (run k v) ≡ size s + suc k) × (free (run k v .queue) ≡ true)
+            → onward .sound ≡ b
+            → P onward
+            → (onward .sound ≡ true → (size (run k onward) ≡ size onward + k) × (free (run k onward .queue) ≡ true))
+            → run k onward .sound ≡ true
+            → (size (run k onward) ≡ size s + suc k) × (free (run k onward .queue) ≡ true)
         after-one true d pv ih q = (omega (arith, ih d .0, next-one u .one-is d, w-left s p .size-is), ih d .1)
-        after-one false d pv ih q = absurd (false≢true (sym (broken-stays k v pv d) ∙ q))
+        after-one false d pv ih q = absurd (false≢true (sym (broken-stays k onward pv d) ∙ q))
 
         go :
             (b : Bool)
             → more u ≡ b
-            → (P v → v .sound ≡ true → run k v .sound ≡ true → C (run k v) → (size (run k v) ≡ size v + k) × (free (run k v .queue) ≡ true))
-            → cond b (run k v) u .sound ≡ true
-            → C (cond b (run k v) u)
-            → (size (cond b (run k v) u) ≡ size s + suc k) × (free (cond b (run k v) u .queue) ≡ true)
+            → (P onward → onward .sound ≡ true → run k onward .sound ≡ true → C (run k onward) → (size (run k onward) ≡ size onward + k) × (free (run k onward .queue) ≡ true))
+            → cond b (run k onward) u .sound ≡ true
+            → C (cond b (run k onward) u)
+            → (size (cond b (run k onward) u) ≡ size s + suc k) × (free (cond b (run k onward) u .queue) ≡ true)
         go true m ih q d =
-            let pv : P v = n-keeps u (w-keeps s p) m in
-            after-one (v .sound) refl pv (λ o. ih pv o q d) q
+            let pv : P onward = n-keeps u (w-keeps s p) m in
+            after-one (onward .sound) refl pv (λ o. ih pv o q d) q
         go false m ih q d =
             absurd (true≢false (sym (m-holds u (w-left s p .sound-is ∙ e) d (w-left s p .free-is d)) ∙ m))
 
@@ -137,51 +138,52 @@ module _ (page : PageNumber) (negotiated : Bool) where
 
   module _ (w : List ℕ) where
     abbrev Kept : Run History → Type 0
-    Kept s = Good w (s .queue)
+    Kept s = Good (v .direction) w (s .queue)
 
     abbrev Always : Run History → Type 0
     Always s = Unit {0}
 
-    give-left : (s : Run History) → Kept s → Left Always s (givenUp account output page negotiated s)
+    give-left : (s : Run History) → Kept s → Left Always s (givenUp ops v s)
     give-left s g =
         by-cond (Left Always s) (free (s .queue)) (λ e. record { size-is = refl; sound-is = refl; free-is = λ c. e })
         (λ e. completed-left Always released s (g .one))
 
     pub release-takes-all :
         (k : ℕ) (s : Run History)
-        → Good w (s .queue)
+        → Good (v .direction) w (s .queue)
         → s .sound ≡ true
-        → releaseRun account output page negotiated k s .sound ≡ true
-        → (size (releaseRun account output page negotiated k s) ≡ size s + k)
-        × (free (releaseRun account output page negotiated k s .queue) ≡ true)
+        → releaseRun ops v k s .sound ≡ true
+        → (size (releaseRun ops v k s) ≡ size s + k)
+        × (free (releaseRun ops v k s .queue) ≡ true)
     unfolding releaseRun
     release-takes-all k s g e r =
-        takes-all (givenUp account output page negotiated) (releaseMore account output page negotiated) Kept Always
+        takes-all (givenUp ops v) (releaseMore ops v) Kept Always
         give-left
-        (give-keeps account card output queueOf Good alike page negotiated (λ o. w))
+        (give-keeps ops (card (v .direction)) v queueOf (Good (v .direction)) (alike (v .direction)) (λ o. w))
         (λ s m. and-eq-true-iff (s .sound) (free (s .queue)) .0 m .0)
         (λ s q c f. rw (q, f))
         (λ s g m.
-        next-keeps account card output queueOf Good alike page negotiated (λ o. w) s g
-        (release-free account card output queueOf Good alike page negotiated w s m))
+        next-keeps ops (card (v .direction)) v queueOf (Good (v .direction)) (alike (v .direction)) (λ o. w) s g
+        (release-free ops (card (v .direction)) v queueOf (Good (v .direction)) (alike (v .direction)) w s m))
         k s g e r tt
 
-    -- ---- a play: with room left after it, the message in work is finished
+  -- ---- a transfer: with room left after it, the message in work is finished
 
+  module _ (w host : List ℕ) where
     abbrev Played : Run History → Type 0
-    Played s = Good (w ++ s .bytes) (s .queue)
+    Played s = Moved ops (card (v .direction)) v queueOf (Good (v .direction)) (alike (v .direction)) w host s
 
     abbrev Roomy : Run History → Type 0
     Roomy s = 0 < s .room
 
     module _ (s : Run History) where
       abbrev now : Run History
-      now = moved account output page negotiated s
+      now = moved ops v s
 
       abbrev ready : List ℕ
-      ready = account .left (s .queue)
+      ready = ops .left (s .queue)
 
-      moved-left : account .left (now .queue) ≡ drop (length (take (s .room) ready)) ready
+      moved-left : ops .left (now .queue) ≡ drop (length (take (s .room) ready)) ready
       unfolding moved noted handedNow
       moved-left = rw (only-append, handedOf-same, length-append, length-upFrom, drop-drop)
 
@@ -190,7 +192,7 @@ module _ (page : PageNumber) (negotiated : Bool) where
       moved-room = refl
 
       -- room is left only where all was moved
-      all-moved : 0 < now .room → isNil (account .left (now .queue)) ≡ true
+      all-moved : 0 < now .room → isNil (ops .left (now .queue)) ≡ true
       all-moved c =
           let l : length ready ≤ length (take (s .room) ready) = omega (arith, length-take (s .room) ready, moved-room) in
           rw (moved-left, drop-of-length-le ready l)
@@ -203,36 +205,36 @@ module _ (page : PageNumber) (negotiated : Bool) where
       unfolding moved noted
       moved-one o = o
 
-      settled-left : size s ≤ suc (number (s .queue)) → Left Roomy s (settled account output page negotiated now)
+      settled-left : size s ≤ suc (number (s .queue)) → Left Roomy s (settled ops v now)
       settled-left o =
-          moved-on (settled account output page negotiated now)
-          (by-cond (Left Roomy now) (isNil (account .left (now .queue))) (λ e. completed-left Roomy finished now (moved-one o))
+          moved-on (settled ops v now)
+          (by-cond (Left Roomy now) (isNil (ops .left (now .queue))) (λ e. completed-left Roomy finished now (moved-one o))
           (λ e. record { size-is = refl; sound-is = refl; free-is = λ c. absurd (true≢false (sym (all-moved c) ∙ e)) }))
 
-    worked-left : (s : Run History) → Played s → Left Roomy s (worked account output page negotiated s)
+    worked-left : (s : Run History) → Played s → Left Roomy s (worked ops v s)
     worked-left s g =
-        by-cond (Left Roomy s) (ltb 0 (s .room) && not (free (s .queue))) (λ e. settled-left s (g .one))
+        by-cond (Left Roomy s) (ltb 0 (s .room) && not (free (s .queue))) (λ e. settled-left s (g .kept .one))
         (λ e.
         record { size-is = refl; sound-is = refl; free-is = λ c. not-false (free (s .queue)) (rw (lt-ltb 0 (s .room) c) at e) })
 
-    pub play-takes-all :
+    pub transfer-takes-all :
         (k : ℕ) (s : Run History)
-        → Good (w ++ s .bytes) (s .queue)
+        → Played s
         → s .sound ≡ true
-        → transferRun account output page negotiated k s .sound ≡ true
-        → 0 < transferRun account output page negotiated k s .room
-        → (size (transferRun account output page negotiated k s) ≡ size s + k)
-        × (free (transferRun account output page negotiated k s .queue) ≡ true)
+        → transferRun ops v k s .sound ≡ true
+        → 0 < transferRun ops v k s .room
+        → (size (transferRun ops v k s) ≡ size s + k)
+        × (free (transferRun ops v k s .queue) ≡ true)
     unfolding transferRun
-    play-takes-all k s g e r c =
-        takes-all (worked account output page negotiated) (transferMore account output page negotiated) Played Roomy
+    transfer-takes-all k s g e r c =
+        takes-all (worked ops v) (transferMore ops v) Played Roomy
         worked-left
-        (worked-keeps account card output queueOf Good alike page negotiated w)
+        (worked-keeps ops (card (v .direction)) v queueOf (Good (v .direction)) (alike (v .direction)) w host)
         (λ s m.
         and-eq-true-iff (s .sound) (ltb 0 (s .room)) .0
         (and-eq-true-iff (s .sound && ltb 0 (s .room)) (free (s .queue)) .0 m .0) .0)
         (λ s q c f. rw (q, lt-ltb 0 (s .room) c, f))
         (λ s g m.
-        next-keeps account card output queueOf Good alike page negotiated (λ o. w ++ o) s g
-        (transfer-free account card output queueOf Good alike page negotiated w s m))
+        moved-next ops (card (v .direction)) v queueOf (Good (v .direction)) (alike (v .direction)) w host s g
+        (transfer-free ops (card (v .direction)) v queueOf (Good (v .direction)) (alike (v .direction)) w host s m))
         k s g e r c

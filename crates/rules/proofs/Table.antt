@@ -39,7 +39,7 @@ pub record Shows (m : List ℕ) (page : PageNumber) (index : ℕ) : Type 0 where
 abbrev pub finds : ℕ → Option Message → Check → Type 0
 finds index work check =
     (m : List ℕ) (page : PageNumber) (negotiated : Bool) (completed : ℕ) → Shows m page index
-    → found (countersOf output) output page negotiated (record { taken = 10; completed = completed; work = work }) m ≡ check
+    → found (countersOf output) (record { direction = output; page = page; negotiated = negotiated }) (record { taken = 10; completed = completed; work = work }) m ≡ check
 
 -- the registers after power-up, a write of GUEST_FEATURES (offset 4) and one of 0x0B to STATUS (offset 18)
 abbrev pub negotiated : ℕ → Registers

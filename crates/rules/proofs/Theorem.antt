@@ -4,13 +4,11 @@ use mathlib.Core.Path.{_≡_, refl, ap}
 use mathlib.Core.Bool.{cond}
 use mathlib.Core.List.{List, [], _∷_, _++_}
 use Prim.Native.Nat.{ℕ, _+_}
-use lib.Dec.{eqb}
 use lib.ListN.{length, length-append, length-map}
 use Rattle.description.specs.declared.Description.{Description}
-use Rattle.registers.proofs.Keeps.{by-cond}
-use Rattle.rules.specs.Calls.{Request, ReadRegister, WriteRegister, Control, Play, Capture, Event, Call, Step, Result, Order, Done, ReleaseFirst, Pending, Emptied, emptied, indirect, orderOf, releasedInput, ended, readStep, writeStep, releaseStep, ordered, playStep, asked, step}
-use Rattle.rules.specs.Claim.{start, toldBy, after, clears, playCount, heard, counted, Good, queueOf, shownAs, card, account, Holds}
-use Rattle.rules.specs.Device.{output, queueNumber, Device, pageOf}
+use Rattle.rules.specs.Calls.{Request, ReadRegister, WriteRegister, Control, Play, Capture, Event, Call, transferStep, asked, step}
+use Rattle.rules.specs.Claim.{start, toldBy, after, clears, bytesFor, countFor, heard, counted, Good, queueOf, shownAs, card, account, Holds}
+use Rattle.rules.specs.Device.{Direction, output, input, Device, queueFor}
 use Rattle.rules.specs.Histories.{History}
 use Rattle.rules.proofs.Calls.{low, asked-same, asked-keeps}
 use Rattle.rules.proofs.Cases.{by-cond₂}
@@ -18,22 +16,26 @@ use Rattle.rules.proofs.Histories.{alike}
 
 -- ---- one call
 
--- the bytes heard after a call
-abbrev pub then : List ℕ → Device History → Call → List ℕ
-then w b c = cond (clears (c .asked) (b .rest)) [] (w ++ step account b c .told .bytes)
+-- the bytes heard of a direction after a call
+abbrev pub then : (Direction → List ℕ) → Device History → Call → Direction → List ℕ
+then w b c d = cond (clears d (c .asked) (b .rest)) [] (w d ++ bytesFor d (c .asked) (step account b c .told))
 
-module _ (w : List ℕ) (b : Device History) (c : Call) (g : Good w (b .play)) where
+-- both queues' histories are good
+abbrev pub Goods : (Direction → List ℕ) → Device History → Type 0
+Goods w b = (d : Direction) → Good d (w d) (queueFor d b)
+
+module _ (w : Direction → List ℕ) (b : Device History) (c : Call) (g : Goods w b) where
   pub step-same : step card (shownAs queueOf b) c ≡ low queueOf (step account b c)
   step-same = asked-same account card queueOf Good alike w b (c .lent) g (c .asked)
 
-  pub step-keeps : Good (then w b c) (step account b c .state .play)
-  step-keeps = asked-keeps account card queueOf Good alike w b (c .lent) g (c .asked)
+  pub step-keeps : Goods (then w b c) (step account b c .state)
+  step-keeps d = asked-keeps account card queueOf Good alike w b (c .lent) g d (c .asked)
 
 -- ---- any list of calls, from any good state
 
 pub run-told :
-    (cs : List Call) (w : List ℕ) (b : Device History)
-    → Good w (b .play)
+    (cs : List Call) (w : Direction → List ℕ) (b : Device History)
+    → Goods w b
     → toldBy card (shownAs queueOf b) cs ≡ toldBy account b cs
 unfolding toldBy low
 run-told [] w b g = refl
@@ -42,70 +44,67 @@ run-told (c ∷ cs) w b g =
     (ap (λ r. step account b c .told ∷ r) (run-told cs (then w b c) (step account b c .state) (step-keeps w b c g)))
 
 pub run-stands :
-    (cs : List Call) (w : List ℕ) (b : Device History)
-    → Good w (b .play)
+    (cs : List Call) (w : Direction → List ℕ) (b : Device History)
+    → Goods w b
     → after card (shownAs queueOf b) cs ≡ shownAs queueOf (after account b cs)
 unfolding after low
 run-stands [] w b g = refl
 run-stands (c ∷ cs) w b g = rw (step-same w b c g) (run-stands cs (then w b c) (step account b c .state) (step-keeps w b c g))
 
 pub run-good :
-    (cs : List Call) (w : List ℕ) (b : Device History)
-    → Good w (b .play)
-    → Good (heard card w (shownAs queueOf b) cs) (after account b cs .play)
+    (cs : List Call) (w : Direction → List ℕ) (b : Device History)
+    → Goods w b
+    → (d : Direction)
+    → Good d (heard card d (w d) (shownAs queueOf b) cs) (queueFor d (after account b cs))
 unfolding after heard low
-run-good [] w b g = g
-run-good (c ∷ cs) w b g = rw (step-same w b c g) (run-good cs (then w b c) (step account b c .state) (step-keeps w b c g))
+run-good [] w b g d = g d
+run-good (c ∷ cs) w b g d = rw (step-same w b c g) (run-good cs (then w b c) (step account b c .state) (step-keeps w b c g) d)
 
--- ---- counts: only plays tell bytes, and a play's count is their number
+-- ---- counts: a transfer's count is the number of its bytes
 
-record Counts (q : Request) (s : Step (Device History)) : Type 0 where
-  count-is : playCount q (s .told) ≡ length (s .told .bytes)
-
-ended-counts : (o : Result) (h : History) → Counts Control (ended account o h)
-ended-counts o h = record { count-is = refl }
-
-releaseStep-counts : (id : ℕ) (p : Pending) (b : Device History) (e : Emptied History) → Counts Control (releaseStep account id p b e)
-unfolding releaseStep
-releaseStep-counts id p b e = record { count-is = refl }
-
-ordered-counts : (o : Order) (b : Device History) (m : List ℕ) → Counts Control (ordered account o b m)
-ordered-counts (Done o) b m = ended-counts o (b .play)
-ordered-counts (ReleaseFirst id p) b m =
-    by-cond (Counts Control) (eqb id 0)
-    (λ e. releaseStep-counts id p b (emptied account output (pageOf (p .rest) (queueNumber output)) (indirect (p .rest)) (b .play) m))
-    (λ e. ended-counts (releasedInput id p m) (b .play))
-
-asked-counts : (q : Request) (b : Device History) (m : List ℕ) → Counts q (asked account q b m)
-unfolding readStep writeStep playStep
-asked-counts (ReadRegister offset width) b m = record { count-is = refl }
-asked-counts (WriteRegister offset width v) b m = record { count-is = refl }
-asked-counts Control b m = ordered-counts (orderOf (b .rest) m) b m
-asked-counts (Play host) b m = record { count-is = refl }
-asked-counts (Capture host) b m = record { count-is = refl }
-asked-counts (Event code data′) b m = record { count-is = refl }
+asked-counts :
+    (d : Direction) (q : Request) (b : Device History) (m : List ℕ)
+    → countFor d q (asked account q b m .told) ≡ length (bytesFor d q (asked account q b m .told))
+unfolding transferStep
+asked-counts d (ReadRegister offset width) b m = refl
+asked-counts d (WriteRegister offset width v) b m = refl
+asked-counts d Control b m = refl
+asked-counts output (Play host) b m = refl
+asked-counts input (Play host) b m = refl
+asked-counts output (Capture host) b m = refl
+asked-counts input (Capture host) b m = refl
+asked-counts d (Event code data′) b m = refl
 
 pub run-count :
-    (cs : List Call) (w : List ℕ) (b : Device History)
-    → Good w (b .play)
-    → counted card (length w) (shownAs queueOf b) cs ≡ length (heard card w (shownAs queueOf b) cs)
+    (cs : List Call) (w : Direction → List ℕ) (b : Device History)
+    → Goods w b
+    → (d : Direction)
+    → counted card d (length (w d)) (shownAs queueOf b) cs ≡ length (heard card d (w d) (shownAs queueOf b) cs)
 unfolding heard counted low
-run-count [] w b g = refl
-run-count (c ∷ cs) w b g =
-    let l : cond (clears (c .asked) (b .rest)) 0 (length w + playCount (c .asked) (step account b c .told)) ≡ length (then w b c) =
-    by-cond₂ (λ (n : ℕ) (l : List ℕ). n ≡ length l) (clears (c .asked) (b .rest)) (λ e. refl)
-    (λ e. rw (asked-counts (c .asked) b (c .lent) .count-is, length-append)) in
-    rw (step-same w b c g, l) (run-count cs (then w b c) (step account b c .state) (step-keeps w b c g))
+run-count [] w b g d = refl
+run-count (c ∷ cs) w b g d =
+    let l : cond (clears d (c .asked) (b .rest)) 0 (length (w d) + countFor d (c .asked) (step account b c .told)) ≡ length (then w b c d) =
+    by-cond₂ (λ (n : ℕ) (l : List ℕ). n ≡ length l) (clears d (c .asked) (b .rest)) (λ e. refl)
+    (λ e. rw (asked-counts d (c .asked) b (c .lent), length-append)) in
+    rw (step-same w b c g, l) (run-count cs (then w b c) (step account b c .state) (step-keeps w b c g) d)
 
 -- ---- THE THEOREM
 
+-- nothing was said at the start
+abbrev pub unsaid : Direction → List ℕ
+unsaid d = []
+
+pub start-good : (d : Description) (len : ℕ) → Goods unsaid (start account d len)
+start-good d len output = alike output .empty-keeps
+start-good d len input = alike input .empty-keeps
+
 pub demand-3 : (d : Description) (len : ℕ) (cs : List Call) → Holds d len cs
 demand-3 d len cs =
-    let e = alike .empty-keeps in
-    let g = run-good cs [] (start account d len) e in
+    let e = start-good d len in
+    let g = run-good cs unsaid (start account d len) e in
     record {
-      same = run-told cs [] (start account d len) e;
-      stands = run-stands cs [] (start account d len) e;
+      same = run-told cs unsaid (start account d len) e;
+      stands = run-stands cs unsaid (start account d len) e;
       good = g;
-      adds = rw (run-count cs [] (start account d len) e, ← (g .bytes), length-map);
+      adds = λ q. rw (run-count cs unsaid (start account d len) e q, ← (g q .bytes), length-map);
     }

@@ -1,5 +1,5 @@
 -- The five kinds of call, each from the state, its arguments and the memory lent to it to the answer, the count, the next
--- state and memory; for any way `Q` of keeping the play queue. At counters they are the card's, at histories the account's.
+-- state and memory; for any way `Q` of keeping the stream queues. At counters they are the card's, at histories the account's.
 use mathlib.Core.Bool.{Bool, true, false, cond, _&&_, _||_}
 use mathlib.Core.List.{List, [], _++_, map}
 use mathlib.Core.Option.{Option, none, some}
@@ -8,7 +8,6 @@ use lib.Dec.{eqb, leb, ltb}
 use lib.ListN.{length, getD, set}
 use lib.Seq.{sets}
 use Rattle.chain.specs.Walk.{Outcome, whole, faulted, walkOf}
-use Rattle.counts.specs.declared.PageNumber.{PageNumber}
 use Rattle.ranges.specs.Ranges.{total, places, bytesAt, putAt, allInside}
 use Rattle.ranges.specs.declared.Range.{Range}
 use Rattle.registers.specs.Answers.{done, lengthDiffers, notLive, notRunning, eventNotAllowed, noEventBuffer, queueBroken}
@@ -27,9 +26,8 @@ use Rattle.card.specs.Card.{noCounters, runningState, releasedState}
 use Rattle.card.specs.Rules.{jackReset, streamReset, rungOf}
 use Rattle.card.specs.declared.Jack.{Jack}
 use Rattle.rules.specs.Control.{Served, Reply, Release, served, status, noJack, withState, withStream}
-use Rattle.rules.specs.Device.{Direction, output, input, streamNumber, queueNumber, Queue, emptyQueue, Rest, Device, withRegisters, withJacks, withControl, withEvent, withCapture, pageOf, streamAt, signalledIf, oneTaken, oneCompleted, bytesOf}
+use Rattle.rules.specs.Device.{Direction, output, input, streamNumber, queueNumber, directionOf, Virtqueue, Rest, Device, queueFor, withQueue, withRegisters, withJacks, withControl, withEvent, pageOf, streamAt, signalledIf, oneTaken, oneCompleted, bytesOf}
 use Rattle.rules.specs.Numbers.{controlQueue, eventQueue, jackConnected, jackDisconnected, pcmXrun, sOk, sBadMsg}
-use Rattle.rules.specs.Counters.{countersOf}
 use Rattle.rules.specs.Transfer.{Ops, Run, begun, transferRun, releaseRun, found}
 
 -- ---- calls, and what their callers are told
@@ -48,8 +46,8 @@ pub record Call : Type 0 where
   pub asked : Request
   pub lent : List ℕ
 
--- "count": messages completed for control, bytes for play and capture; "bytes" are those a play handed on; "host" is the host
--- buffer after a play
+-- "count": messages completed for control, bytes for play and capture; "bytes" are those a play handed on or a capture consumed;
+-- "host" is the host buffer after a play
 pub record Told : Type 0 where
   pub answer : ℕ
   pub value : ℕ
@@ -63,7 +61,7 @@ pub record Step (S : Type 0) : Type 0 where
   pub state : S
   pub told : Told
 
--- what a call does to all but the play queue
+-- what a call does to all but the stream queues
 pub record Result : Type 0 where
   pub rest : Rest
   pub answer : ℕ
@@ -86,12 +84,16 @@ admitted r m refuse go = cond (eqb (length m) (r .ram)) (cond (live (r .register
 abbrev pub indirect : Rest → Bool
 indirect r = hasBit (r .registers .features) 28
 
+-- the queue of a direction as the guest laid it out
+abbrev pub virtqueueOf : Rest → Direction → Virtqueue
+virtqueueOf r d = record { direction = d; page = pageOf r (queueNumber d); negotiated = indirect r }
+
 -- ---- registers
 
 abbrev pub configOf : Rest → Config
 configOf r = record { jacks = length (r .jacks); streams = length (r .streams); chmaps = length (r .maps) }
 
--- a reset and a base write, but for the play queue and the registers
+-- a reset and a base write, but for the stream queues and the registers
 abbrev pub resetRest : Rest → Rest
 resetRest r =
     record {
@@ -102,7 +104,6 @@ resetRest r =
       streams = map streamReset (r .streams);
       control = noCounters;
       event = noCounters;
-      capture = emptyQueue;
     }
 
 abbrev pub basedRest : ℕ → Rest → Rest
@@ -115,7 +116,6 @@ basedRest q r =
       streams = r .streams;
       control = cond (eqb q 0) noCounters (r .control);
       event = cond (eqb q 1) noCounters (r .event);
-      capture = cond (eqb q 3) emptyQueue (r .capture);
     }
 
 abbrev pub affectedRest : Effect → Rest → Rest
@@ -124,12 +124,12 @@ affectedRest Reset r = resetRest r
 affectedRest (Based q) r = basedRest q r
 affectedRest (Rung q) r = r
 
--- "anew at each reset and at each base write of queue 2"
-abbrev pub clearsPlay : Effect → Bool
-clearsPlay Nothing = false
-clearsPlay Reset = true
-clearsPlay (Based q) = eqb q 2
-clearsPlay (Rung q) = false
+-- the queue of a direction is cleared "at each reset and at each base write" of it
+abbrev pub clearsQueue : Direction → Effect → Bool
+clearsQueue d Nothing = false
+clearsQueue d Reset = true
+clearsQueue d (Based q) = eqb q (queueNumber d)
+clearsQueue d (Rung q) = false
 
 -- ---- control: "One per call"
 
@@ -205,28 +205,22 @@ pub record Emptied (Q : Type 0) : Type 0 where
 abbrev pub emptiedBy : {Q : Type 0} → Run Q → Emptied Q
 emptiedBy r = record { queue = r .queue; mem = r .mem; sound = r .sound; signal = r .signal }
 
-module _ {Q : Type 0} (ops : Ops Q) (d : Direction) (page : PageNumber) (negotiated : Bool) where
+module _ {Q : Type 0} (ops : Ops Q) (v : Virtqueue) where
   abbrev pub emptiedFound : Q → List ℕ → Check → Emptied Q
   emptiedFound q m Check.Idle = record { queue = q; mem = m; sound = true; signal = false }
   emptiedFound q m (Check.Broken cause) = record { queue = q; mem = m; sound = false; signal = false }
-  emptiedFound q m (Check.New n) = emptiedBy (releaseRun ops d page negotiated n (begun q m []))
+  emptiedFound q m (Check.New n) = emptiedBy (releaseRun ops v n (begun q m []))
 
   -- "RELEASE checks that stream's queue (idle: nothing pending), completes its message in work, then takes and completes all
   -- entries there"
   unfoldable pub emptied : Q → List ℕ → Emptied Q
-  emptied q m = emptiedFound q m (found ops d page negotiated q m)
+  emptied q m = emptiedFound q m (found ops v q m)
 
 -- ".. then replies." "If the queue breaks, the control message stays taken, uncompleted, and the stream keeps its state."
 unfoldable pub releasedOf : ℕ → Pending → List ℕ → Bool → Bool → Result
 releasedOf id p m sound signal =
     let r : Rest = withRegisters (signalledIf signal (p .rest .registers)) (p .rest) in
     cond sound (replied (withRest (withStream r id (withState releasedState (streamAt r id))) p) (status sOk) m) (broke r m)
-
--- a Release of the input, whose queue is in the rest
-unfoldable pub releasedInput : ℕ → Pending → List ℕ → Result
-releasedInput id p m =
-    let e : Emptied Queue = emptied (countersOf input) input (pageOf (p .rest) (queueNumber input)) (indirect (p .rest)) (p .rest .capture) m in
-    releasedOf id (withRest (withCapture (e .queue) (p .rest)) p) (e .mem) (e .sound) (e .signal)
 
 -- ---- play and capture
 
@@ -263,14 +257,14 @@ module _ {Q : Type 0} (ops : Ops Q) (d : Direction) where
   transferFound r q m host Check.Idle = untouched done (r .registers) q m
   transferFound r q m host (Check.Broken cause) = untouched queueBroken (broken (r .registers)) q m
   transferFound r q m host (Check.New n) =
-      transferredBy (r .registers) (transferRun ops d (pageOf r (queueNumber d)) (indirect r) n (begun q m host))
+      transferredBy (r .registers) (transferRun ops (virtqueueOf r d) n (begun q m host))
 
   -- "Play and capture: 1, 5, 6, 9."
   unfoldable pub transferred : Rest → Q → List ℕ → List ℕ → Transferred Q
   transferred r q m host =
       admitted r m (λ answer. untouched answer (r .registers) q m)
       (cond (isRunning r (streamNumber d))
-      (transferFound r q m host (found ops d (pageOf r (queueNumber d)) (indirect r) q m))
+      (transferFound r q m host (found ops (virtqueueOf r d) q m))
       (untouched notRunning (r .registers) q m))
 
 -- ---- events
@@ -366,23 +360,44 @@ toldAll answer value rung count bytes host mem =
 abbrev pub nothingRung : ℕ
 nothingRung = 255
 
-module _ {Q : Type 0} (ops : Ops Q) where
-  -- a result that leaves the play queue as this
-  abbrev pub ended : Result → Q → Step (Device Q)
-  ended o q =
-      record {
-        state = record { rest = o .rest; play = q };
-        told = toldAll (o .answer) 0 nothingRung (o .count) [] [] (o .mem);
-      }
+-- a result that leaves the stream queues as they are
+abbrev pub ended : {Q : Type 0} → Result → Device Q → Step (Device Q)
+ended o b =
+    record {
+      state = record { rest = o .rest; play = b .play; capture = b .capture };
+      told = toldAll (o .answer) 0 nothingRung (o .count) [] [] (o .mem);
+    }
 
-  unfoldable pub readStep : ℕ → ℕ → Device Q → List ℕ → Step (Device Q)
-  readStep offset width b m =
-      let r : Read = readOf (b .rest .registers) (configOf (b .rest)) offset width in
-      record {
-        state = record { rest = withRegisters (r .registers) (b .rest); play = b .play };
-        told = toldAll (r .answer) (r .value) nothingRung 0 [] [] m;
-      }
+unfoldable pub readStep : {Q : Type 0} → ℕ → ℕ → Device Q → List ℕ → Step (Device Q)
+readStep offset width b m =
+    let r : Read = readOf (b .rest .registers) (configOf (b .rest)) offset width in
+    record {
+      state = record { rest = withRegisters (r .registers) (b .rest); play = b .play; capture = b .capture };
+      told = toldAll (r .answer) (r .value) nothingRung 0 [] [] m;
+    }
 
+-- a Release past its checks, once its stream's queue is emptied
+unfoldable pub releaseStep : {Q : Type 0} → ℕ → Pending → Device Q → Emptied Q → Step (Device Q)
+releaseStep id p b e =
+    let o : Result = releasedOf id p (e .mem) (e .sound) (e .signal) in
+    record {
+      state = withQueue (directionOf id) (o .rest) (e .queue) b;
+      told = toldAll (o .answer) 0 nothingRung (o .count) [] [] (o .mem);
+    }
+
+-- "Host bytes past the count keep their value."
+abbrev pub hostAfter : Direction → List ℕ → List ℕ → List ℕ
+hostAfter output host bytes = sets host 0 bytes
+hostAfter input host bytes = []
+
+unfoldable pub transferStep : {Q : Type 0} → Direction → List ℕ → Device Q → Transferred Q → Step (Device Q)
+transferStep d host b t =
+    record {
+      state = withQueue d (withRegisters (t .registers) (b .rest)) (t .queue) b;
+      told = toldAll (t .answer) 0 nothingRung (length (t .bytes)) (t .bytes) (hostAfter d host (t .bytes)) (t .mem);
+    }
+
+module _ {Q : Type 0} (ops : Direction → Ops Q) where
   unfoldable pub writeStep : ℕ → ℕ → ℕ → Device Q → List ℕ → Step (Device Q)
   writeStep offset width v b m =
       let w : Written = writeOf (b .rest .registers) offset width v in
@@ -390,41 +405,28 @@ module _ {Q : Type 0} (ops : Ops Q) where
         state =
             record {
               rest = affectedRest (w .effect) (withRegisters (w .registers) (b .rest));
-              play = cond (clearsPlay (w .effect)) (ops .empty) (b .play);
+              play = cond (clearsQueue output (w .effect)) (ops output .empty) (b .play);
+              capture = cond (clearsQueue input (w .effect)) (ops input .empty) (b .capture);
             };
         told = toldAll (w .answer) 0 (rungOf (w .effect)) 0 [] [] m;
       }
 
-  -- a Release of the output, whose queue is the play queue
-  unfoldable pub releaseStep : ℕ → Pending → Device Q → Emptied Q → Step (Device Q)
-  releaseStep id p b e = ended (releasedOf id p (e .mem) (e .sound) (e .signal)) (e .queue)
-
   abbrev pub ordered : Order → Device Q → List ℕ → Step (Device Q)
-  ordered (Done o) b m = ended o (b .play)
+  ordered (Done o) b m = ended o b
   ordered (ReleaseFirst id p) b m =
-      cond (eqb id 0)
-      (releaseStep id p b (emptied ops output (pageOf (p .rest) (queueNumber output)) (indirect (p .rest)) (b .play) m))
-      (ended (releasedInput id p m) (b .play))
+      let d : Direction = directionOf id in
+      releaseStep id p b (emptied (ops d) (virtqueueOf (p .rest) d) (queueFor d b) m)
 
-  -- "Host bytes past the count keep their value."
-  unfoldable pub playStep : List ℕ → Device Q → Transferred Q → Step (Device Q)
-  playStep host b t =
-      record {
-        state = record { rest = withRegisters (t .registers) (b .rest); play = t .queue };
-        told = toldAll (t .answer) 0 nothingRung (length (t .bytes)) (t .bytes) (sets host 0 (t .bytes)) (t .mem);
-      }
-
-  unfoldable pub captured : Rest → Transferred Queue → Result
-  captured r t =
-      record { rest = withRegisters (t .registers) (withCapture (t .queue) r); answer = t .answer; count = length (t .bytes); mem = t .mem }
+  abbrev pub transferBy : Direction → List ℕ → Device Q → List ℕ → Step (Device Q)
+  transferBy d host b m = transferStep d host b (transferred (ops d) d (b .rest) (queueFor d b) m host)
 
   abbrev pub asked : Request → Device Q → List ℕ → Step (Device Q)
   asked (ReadRegister offset width) b m = readStep offset width b m
   asked (WriteRegister offset width v) b m = writeStep offset width v b m
   asked Control b m = ordered (orderOf (b .rest) m) b m
-  asked (Play host) b m = playStep host b (transferred ops output (b .rest) (b .play) m host)
-  asked (Capture host) b m = ended (captured (b .rest) (transferred (countersOf input) input (b .rest) (b .rest .capture) m host)) (b .play)
-  asked (Event code data′) b m = ended (eventOf (b .rest) code data′ m) (b .play)
+  asked (Play host) b m = transferBy output host b m
+  asked (Capture host) b m = transferBy input host b m
+  asked (Event code data′) b m = ended (eventOf (b .rest) code data′ m) b
 
   abbrev pub step : Device Q → Call → Step (Device Q)
   step b c = asked (c .asked) b (c .lent)

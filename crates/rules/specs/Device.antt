@@ -1,13 +1,16 @@
--- The card as the rules see it: lists, no arrays. The play queue is kept apart from all the rest, so that the rules can
+-- The card as the rules see it: lists, no arrays. The stream queues are kept apart from all the rest, so that the rules can
 -- run over counters (the card) and over histories (the account) alike.
 use mathlib.Core.Bool.{Bool, cond}
 use mathlib.Core.List.{List, [], _∷_}
 use mathlib.Core.Option.{Option, none}
 use Prim.Native.Nat.{ℕ, zero, suc, _+_, _/_, _%_}
+use lib.Dec.{eqb}
 use lib.ListN.{getD}
+use Rattle.chain.specs.declared.Fault.{Fault}
 use Rattle.counts.specs.declared.PageNumber.{PageNumber}
 use Rattle.description.specs.declared.MapInfo.{MapInfo}
 use Rattle.ranges.specs.declared.Range.{Range}
+use Rattle.registers.specs.Map.{sizeOf}
 use Rattle.registers.specs.Rules.{signalled}
 use Rattle.registers.specs.declared.Registers.{Registers}
 use Rattle.card.specs.Card.{noStream}
@@ -28,12 +31,27 @@ abbrev pub queueNumber : Direction → ℕ
 queueNumber output = 2
 queueNumber input = 3
 
+-- the direction of a stream of the card
+abbrev pub directionOf : ℕ → Direction
+directionOf id = cond (eqb id 0) output input
+
+-- a stream's queue as the guest laid it out: its direction, its page, and whether indirect tables are negotiated
+pub record Virtqueue : Type 0 where
+  pub direction : Direction
+  pub page : PageNumber
+  pub negotiated : Bool
+
+-- its number of descriptors
+abbrev pub queueSize : Virtqueue → ℕ
+queueSize v = sizeOf (queueNumber (v .direction))
+
 -- ---- messages of the stream queues
 
--- what a chain is when it is taken (01, Play, capture, events): well-formed; or ill-formed, answered IO_ERR, or silently,
--- with length 0
+-- what a chain is when it is taken (01, Play, capture, events): well-formed; or ill-formed, answered IO_ERR (refused), or with
+-- length 0 and nothing written (silent), as one that can't be walked is, for its fault
 pub data Form : Type 0 where
   wellFormed refused silent : Form
+  unwalked : Fault → Form
 
 -- "A taking notes head, ranges and faults as memory then shows them."
 pub record Taking : Type 0 where
@@ -63,7 +81,7 @@ pub record Queue : Type 0 where
 abbrev pub emptyQueue : Queue
 emptyQueue = record { taken = 0; completed = 0; work = none }
 
--- ---- all but the play queue
+-- ---- all but the stream queues
 
 pub record Rest : Type 0 where
   pub ram : ℕ
@@ -73,7 +91,6 @@ pub record Rest : Type 0 where
   pub streams : List Stream
   pub control : Counters
   pub event : Counters
-  pub capture : Queue
 
 abbrev pub withRegisters : Registers → Rest → Rest
 withRegisters v r =
@@ -85,7 +102,6 @@ withRegisters v r =
       streams = r .streams;
       control = r .control;
       event = r .event;
-      capture = r .capture;
     }
 
 abbrev pub withJacks : List Jack → Rest → Rest
@@ -98,7 +114,6 @@ withJacks v r =
       streams = r .streams;
       control = r .control;
       event = r .event;
-      capture = r .capture;
     }
 
 abbrev pub withStreams : List Stream → Rest → Rest
@@ -111,7 +126,6 @@ withStreams v r =
       streams = v;
       control = r .control;
       event = r .event;
-      capture = r .capture;
     }
 
 abbrev pub withControl : Counters → Rest → Rest
@@ -124,7 +138,6 @@ withControl v r =
       streams = r .streams;
       control = v;
       event = r .event;
-      capture = r .capture;
     }
 
 abbrev pub withEvent : Counters → Rest → Rest
@@ -137,20 +150,6 @@ withEvent v r =
       streams = r .streams;
       control = r .control;
       event = v;
-      capture = r .capture;
-    }
-
-abbrev pub withCapture : Queue → Rest → Rest
-withCapture v r =
-    record {
-      ram = r .ram;
-      registers = r .registers;
-      jacks = r .jacks;
-      maps = r .maps;
-      streams = r .streams;
-      control = r .control;
-      event = r .event;
-      capture = v;
     }
 
 -- the base of a queue
@@ -177,7 +176,18 @@ unfoldable pub bytesOf : ℕ → ℕ → List ℕ
 bytesOf zero v = []
 bytesOf (suc n) v = v % 256 ∷ bytesOf n (v / 256)
 
--- the whole device
+-- ---- the whole device: the queues of both directions, kept in any way `Q`
+
 pub record Device (Q : Type 0) : Type 0 where
   pub rest : Rest
   pub play : Q
+  pub capture : Q
+
+abbrev pub queueFor : {Q : Type 0} → Direction → Device Q → Q
+queueFor output b = b .play
+queueFor input b = b .capture
+
+-- the device with another rest and another queue of a direction
+abbrev pub withQueue : {Q : Type 0} → Direction → Rest → Q → Device Q → Device Q
+withQueue output r q b = record { rest = r; play = q; capture = b .capture }
+withQueue input r q b = record { rest = r; play = b .play; capture = q }

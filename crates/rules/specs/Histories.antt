@@ -19,7 +19,7 @@ pub record Entry : Type 0 where
   pub ending : Ending
   pub status : Option ℕ
 
--- position `pos` of the payload of taking number `of` was handed on: its address, and the byte that memory then held there
+-- position `pos` of the payload of taking number `of` was handed on (for capture, recorded): its address, and the byte
 pub record Note : Type 0 where
   pub of : ℕ
   pub pos : ℕ
@@ -69,9 +69,10 @@ current h = getD (h .takings) (number h) nobody
 unfoldable pub handedNow : History → ℕ
 handedNow h = length (handedOf (number h) (h .notes))
 
+-- these bytes, at these addresses, from position p of taking t on
 abbrev pub notesOf : ℕ → ℕ → List ℕ → List ℕ → List Note
-notesOf t p m [] = []
-notesOf t p m (x ∷ xs) = record { of = t; pos = p; from = x; byte = getD m x 0 } ∷ notesOf t (p + 1) m xs
+notesOf t p bytes [] = []
+notesOf t p bytes (x ∷ xs) = record { of = t; pos = p; from = x; byte = getD bytes 0 0 } ∷ notesOf t (p + 1) (drop 1 bytes) xs
 
 abbrev pub lossesOf : ℕ → List ℕ → List Loss
 lossesOf t ps = map (λ (p : ℕ). record { of = t; pos = p }) ps
@@ -88,8 +89,8 @@ module _ (d : Direction) where
   -- "A position handed notes the byte memory then holds"
   unfoldable pub noted : List ℕ → List ℕ → History → History
   unfolding handedNow
-  noted m xs h =
-      record { takings = h .takings; entries = h .entries; notes = h .notes ++ notesOf (number h) (handedNow h) m xs; losses = h .losses }
+  noted bytes xs h =
+      record { takings = h .takings; entries = h .entries; notes = h .notes ++ notesOf (number h) (handedNow h) bytes xs; losses = h .losses }
 
   -- the taking in work gets its entry; what still waits is given up
   unfoldable pub entered : Ending → History → History

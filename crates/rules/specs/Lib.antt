@@ -7,4 +7,5 @@ pub mod Control
 pub mod Counters
 pub mod Calls
 pub mod Histories
+pub mod Account
 pub mod Claim

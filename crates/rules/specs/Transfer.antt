@@ -6,16 +6,14 @@ use mathlib.Core.Option.{Option, none, some}
 use Prim.Native.Nat.{ℕ, _+_, _-_}
 use lib.Dec.{eqb, leb, ltb}
 use lib.ListN.{length, take, drop}
-use Rattle.counts.specs.declared.PageNumber.{PageNumber}
 use Rattle.memory.specs.Bytes.{le}
 use Rattle.ranges.specs.Ranges.{total, places, bytesAt, putAt, allInside}
 use Rattle.ranges.specs.declared.Range.{Range}
 use Rattle.chain.specs.Walk.{Outcome, whole, faulted, walkOf}
-use Rattle.registers.specs.Map.{sizeOf}
 use Rattle.ring.specs.Rules.{baseOf, indexOf, foundOf, headAt, postedAt, interrupts}
 use Rattle.ring.specs.declared.Check.{Check}
 use Rattle.ring.specs.declared.Head.{Head}
-use Rattle.rules.specs.Device.{Direction, output, input, streamNumber, queueNumber, Form, wellFormed, refused, silent, Taking, Ending, finished, released, illFormed, bytesOf}
+use Rattle.rules.specs.Device.{Direction, output, input, streamNumber, Virtqueue, queueSize, Form, wellFormed, refused, silent, unwalked, Taking, Ending, finished, released, illFormed, bytesOf}
 use Rattle.rules.specs.Loop.{loop}
 use Rattle.rules.specs.Numbers.{sOk, sIoErr}
 
@@ -39,15 +37,16 @@ formOf d m request reply =
 
 abbrev pub walkedTaking : Direction → List ℕ → ℕ → Outcome → Taking
 walkedTaking d m head (whole request reply) = record { head = head; request = request; reply = reply; form = formOf d m request reply }
-walkedTaking d m head (faulted f) = record { head = head; request = []; reply = []; form = silent }
+walkedTaking d m head (faulted f) = record { head = head; request = []; reply = []; form = unwalked f }
 
-unfoldable pub takingOf : Direction → List ℕ → PageNumber → Bool → ℕ → Taking
-takingOf d m page negotiated head = walkedTaking d m head (walkOf m (baseOf page) (sizeOf (queueNumber d)) head negotiated)
+unfoldable pub takingOf : Virtqueue → List ℕ → ℕ → Taking
+takingOf v m head = walkedTaking (v .direction) m head (walkOf m (baseOf (v .page)) (queueSize v) head (v .negotiated))
 
 abbrev pub isWell : Form → Bool
 isWell wellFormed = true
 isWell refused = false
 isWell silent = false
+isWell (unwalked f) = false
 
 -- "its payload is the request past 4 bytes, for capture the reply before its last 8"; an ill-formed message has none
 abbrev pub payloadPlaces : Direction → Taking → List ℕ
@@ -68,6 +67,7 @@ statusOf input released f = some sOk
 statusOf d illFormed wellFormed = none
 statusOf d illFormed refused = some sIoErr
 statusOf d illFormed silent = none
+statusOf d illFormed (unwalked f) = none
 
 -- "Status (code, latency 0) is the last 8 reply bytes."
 abbrev pub statusBytes : ℕ → List ℕ
@@ -96,7 +96,7 @@ pub record Ops (Q : Type 0) : Type 0 where
   pub done : Q → ℕ  -- how many bytes of its payload were moved
   pub left : Q → List ℕ  -- the addresses of those that wait
   pub take : Taking → Q → Q
-  pub hand : List ℕ → List ℕ → Q → Q  -- memory, and the addresses moved
+  pub hand : List ℕ → List ℕ → Q → Q  -- the bytes moved, and their addresses
   pub complete : Ending → Q → Q
 
 -- a queue within a call: memory now, the bytes moved, host bytes and host room left, no bad head met, an interrupt wanted
@@ -116,15 +116,24 @@ abbrev pub isNil : List ℕ → Bool
 isNil [] = true
 isNil (x ∷ xs) = false
 
-module _ {Q : Type 0} (ops : Ops Q) (d : Direction) (page : PageNumber) (negotiated : Bool) where
+-- "payload is read when handed on, and for capture written, byte by byte in order, in the call that counts it"
+abbrev pub memoryMoved : Direction → List ℕ → List ℕ → List ℕ → List ℕ
+memoryMoved output xs host m = m
+memoryMoved input xs host m = putAt m xs host
+
+abbrev pub bytesMoved : Direction → List ℕ → List ℕ → List ℕ → List ℕ
+bytesMoved output xs host m = bytesAt m xs
+bytesMoved input xs host m = take (length xs) host
+
+module _ {Q : Type 0} (ops : Ops Q) (v : Virtqueue) where
   -- "Completing writes, in order: reply bytes, used element .., then as used index ..". "Then available flags are read"
   unfoldable pub completed : Ending → Run Q → Run Q
   completed e r =
       let t : Taking = ops .work (r .queue) in
-      let status : Option ℕ = statusOf d e (t .form) in
+      let status : Option ℕ = statusOf (v .direction) e (t .form) in
       let after : List ℕ =
-      postedAt (withStatus status (t .reply) (r .mem)) (baseOf page) (sizeOf (queueNumber d)) (ops .usedPlace (r .queue))
-      (ops .usedIndex (r .queue)) (t .head) (usedLength d status (ops .done (r .queue))) in
+      postedAt (withStatus status (t .reply) (r .mem)) (baseOf (v .page)) (queueSize v) (ops .usedPlace (r .queue))
+      (ops .usedIndex (r .queue)) (t .head) (usedLength (v .direction) status (ops .done (r .queue))) in
       record {
         queue = ops .complete e (r .queue);
         mem = after;
@@ -132,25 +141,16 @@ module _ {Q : Type 0} (ops : Ops Q) (d : Direction) (page : PageNumber) (negotia
         host = r .host;
         room = r .room;
         sound = r .sound;
-        signal = r .signal || interrupts after (baseOf page) (sizeOf (queueNumber d));
+        signal = r .signal || interrupts after (baseOf (v .page)) (queueSize v);
       }
-
-  -- "payload is read when handed on, and for capture written, byte by byte in order, in the call that counts it"
-  abbrev pub memoryMoved : Direction → List ℕ → List ℕ → List ℕ → List ℕ
-  memoryMoved output xs host m = m
-  memoryMoved input xs host m = putAt m xs host
-
-  abbrev pub bytesMoved : Direction → List ℕ → List ℕ → List ℕ → List ℕ
-  bytesMoved output xs host m = bytesAt m xs
-  bytesMoved input xs host m = take (length xs) host
 
   unfoldable pub moved : Run Q → Run Q
   moved r =
       let xs : List ℕ = take (r .room) (ops .left (r .queue)) in
       record {
-        queue = ops .hand (r .mem) xs (r .queue);
-        mem = memoryMoved d xs (r .host) (r .mem);
-        bytes = r .bytes ++ bytesMoved d xs (r .host) (r .mem);
+        queue = ops .hand (bytesMoved (v .direction) xs (r .host) (r .mem)) xs (r .queue);
+        mem = memoryMoved (v .direction) xs (r .host) (r .mem);
+        bytes = r .bytes ++ bytesMoved (v .direction) xs (r .host) (r .mem);
         host = drop (length xs) (r .host);
         room = r .room - length xs;
         sound = r .sound;
@@ -189,12 +189,12 @@ module _ {Q : Type 0} (ops : Ops Q) (d : Direction) (page : PageNumber) (negotia
   entered t r = cond (isWell (t .form)) (taking t r) (completed illFormed (taking t r))
 
   abbrev pub met : Head → Run Q → Run Q
-  met (Head.At n) r = entered (takingOf d (r .mem) page negotiated (n .0)) r
+  met (Head.At n) r = entered (takingOf v (r .mem) (n .0)) r
   met (Head.Broken cause) r = stopped r
 
   -- the next new entry: "a head is ≥ N (that entry is not taken)"
   unfoldable pub next : Run Q → Run Q
-  next r = met (headAt (r .mem) page (sizeOf (queueNumber d)) (ops .place (r .queue))) r
+  next r = met (headAt (r .mem) (v .page) (queueSize v) (ops .place (r .queue))) r
 
   -- "While host room (or bytes) is left and a message is in work or new: work it."
   abbrev pub transferMore : Run Q → Bool
@@ -213,4 +213,4 @@ module _ {Q : Type 0} (ops : Ops Q) (d : Direction) (page : PageNumber) (negotia
   -- "New entries = index − taken, modulo 65,536 .. new plus in work exceeds N"
   abbrev pub found : Q → List ℕ → Check
   found q m =
-      foundOf m page (sizeOf (queueNumber d)) (ops .new q (indexOf m page (sizeOf (queueNumber d)))) (cond (ops .idle q) 0 1)
+      foundOf m (v .page) (queueSize v) (ops .new q (indexOf m (v .page) (queueSize v))) (cond (ops .idle q) 0 1)

@@ -1,44 +1,38 @@
 -- A stream's queue, its check and a card with another one, in the rules' terms.
 use mathlib.Core.Path.{_≡_, refl}
 use mathlib.Core.List.{List}
-use mathlib.Core.Bool.{Bool, cond}
+use mathlib.Core.Bool.{cond}
 use Prim.Native.Nat.{ℕ, zero, suc, _≤_}
 use native.Mathlib.Nat.{sub-zero}
 use native.Mathlib.Omega.{arith}
 use lib.ListN.{length}
 use lib.Seq.{getD-set-same, getD-set-other}
-use Rattle.counts.specs.declared.PageNumber.{PageNumber}
-use Rattle.registers.specs.Map.{sizeOf}
 use Rattle.ring.specs.Rules.{checkOf}
 use Rattle.card.specs.Card.{noCounters}
 use Rattle.card.specs.declared.Card.{Card}
 use Rattle.card.specs.declared.Counters.{Counters}
 use Rattle.card.specs.declared.Message.{Message}
 use Rattle.message.specs.Card.{queueOf, messageOf, restOf, deviceOf}
-use Rattle.message.specs.Message.{directionOf}
+use Rattle.message.specs.Message.{directionOf, virtqueueIn}
 use Rattle.message.specs.declared.Direction.{Direction}
 use Rattle.message.specs.declared.Direction.the-variants.{Output, Input}
-use Rattle.rules.specs.Calls.{indirect}
+use Rattle.rules.specs.Calls.{virtqueueOf}
 use Rattle.rules.specs.Counters.{countersOf, isNone}
 use Rattle.rules.specs.Device as rules
 use Rattle.rules.specs.Transfer.{begun, found}
 use Rattle.flow.specs.Flow.{runOf, freshFlow}
 use Rattle.flow.specs.declared.Flow.{Flow}
-use Rattle.stream.specs.Queue.{queueIn, countersIn, messageIn, withFlow, queueFor, withQueue}
+use Rattle.stream.specs.Queue.{queueIn, countersIn, messageIn, withFlow}
 
 -- ---- where it is
 
--- the rules' page and bit 28 are the code's
-pub page-in : (c : Card) (d : Direction) → queueIn c d .page ≡ rules.pageOf (restOf c) (rules.queueNumber (directionOf d))
+-- the queue as the guest laid it out
+pub virtqueue-in : (c : Card) (d : Direction) → virtqueueIn (queueIn c d) ≡ virtqueueOf (restOf c) (directionOf d)
 unfolding restOf
-page-in c d = refl
-
-pub indirect-in : (c : Card) (d : Direction) → queueIn c d .indirect ≡ indirect (restOf c)
-unfolding restOf
-indirect-in c d = refl
+virtqueue-in c d = refl
 
 -- the rules' queue is the card's counters and message
-pub queue-in : (c : Card) (d : Direction) → queueFor (directionOf d) (deviceOf c) ≡ queueOf (countersIn c d) (messageIn c d)
+pub queue-in : (c : Card) (d : Direction) → rules.queueFor (directionOf d) (deviceOf c) ≡ queueOf (countersIn c d) (messageIn c d)
 unfolding deviceOf restOf
 queue-in c Output = refl
 queue-in c Input = refl
@@ -51,9 +45,9 @@ in-work zero message e h = rw e
 in-work (suc zero) message e h = rw e
 in-work (suc (suc n)) message e h = absurd (omega arith)
 
-pub found-check : (d : rules.Direction) (page : PageNumber) (negotiated : Bool) (m : List ℕ) (c : Counters) (message : Message) → message .count ≤ 1
-    → found (countersOf d) d page negotiated (queueOf c message) m ≡ checkOf m page (sizeOf (rules.queueNumber d)) (c .taken) (message .count)
-found-check d page negotiated m c message h = rw (in-work (message .count) message refl h)
+pub found-check : (v : rules.Virtqueue) (m : List ℕ) (c : Counters) (message : Message) → message .count ≤ 1
+    → found (countersOf (v .direction)) v (queueOf c message) m ≡ checkOf m (v .page) (rules.queueSize v) (c .taken) (message .count)
+found-check v m c message h = rw (in-work (message .count) message refl h)
 
 -- ---- a flow on it
 
@@ -64,7 +58,7 @@ fresh-run c message m host = rw sub-zero
 
 -- a card after a flow stands for the device with another queue
 module _ (c : Card) (f : Flow) (four : length (c .queues) ≡ 4) where
-  pub flowed-device : (d : Direction) → deviceOf (withFlow d f c) ≡ withQueue (directionOf d) (queueOf (f .counters) (f .message)) (deviceOf c)
+  pub flowed-device : (d : Direction) → deviceOf (withFlow d f c) ≡ rules.withQueue (directionOf d) (restOf c) (queueOf (f .counters) (f .message)) (deviceOf c)
   unfolding deviceOf restOf
   flowed-device Output =
       rw (
@@ -83,10 +77,15 @@ module _ (c : Card) (f : Flow) (four : length (c .queues) ≡ 4) where
 
 -- ---- the queue of a device
 
-pub with-own-queue : (d : rules.Direction) (b : rules.Device rules.Queue) → b ≡ withQueue d (queueFor d b) b
+pub with-own-queue : (d : rules.Direction) (b : rules.Device rules.Queue) → b ≡ rules.withQueue d (b .rest) (rules.queueFor d b) b
 with-own-queue rules.output b = refl
 with-own-queue rules.input b = refl
 
-pub queue-for-with : (d : rules.Direction) (q : rules.Queue) (b : rules.Device rules.Queue) → queueFor d (withQueue d q b) ≡ q
-queue-for-with rules.output q b = refl
-queue-for-with rules.input q b = refl
+pub queue-for-with : (d : rules.Direction) (r : rules.Rest) (q : rules.Queue) (b : rules.Device rules.Queue)
+    → rules.queueFor d (rules.withQueue d r q b) ≡ q
+queue-for-with rules.output r q b = refl
+queue-for-with rules.input r q b = refl
+
+pub rest-with : (d : rules.Direction) (r : rules.Rest) (q : rules.Queue) (b : rules.Device rules.Queue) → rules.withQueue d r q b .rest ≡ r
+rest-with rules.output r q b = refl
+rest-with rules.input r q b = refl

@@ -4,8 +4,6 @@ use mathlib.Core.List.{List, []}
 use mathlib.Core.Bool.{true, false}
 use Prim.Native.Nat.{ℕ}
 use lib.ListN.{length}
-use Rattle.counts.specs.declared.PageNumber.{PageNumber}
-use Rattle.registers.specs.Map.{sizeOf}
 use Rattle.ring.specs.Rules.{checkOf}
 use Rattle.ring.specs.declared.Check.{Check}
 use Rattle.ring.specs.declared.Cause.{Cause}
@@ -15,13 +13,13 @@ use Rattle.message.specs.Card.{queueOf, restOf, deviceOf}
 use Rattle.message.specs.Message.{directionOf}
 use Rattle.message.specs.declared.Direction.{Direction}
 use Rattle.message.specs.declared.Direction.the-variants.{Output, Input}
-use Rattle.rules.specs.Calls.{emptied, emptiedFound, emptiedBy, indirect}
+use Rattle.rules.specs.Calls.{emptied, emptiedFound, emptiedBy, virtqueueOf}
 use Rattle.rules.specs.Counters.{countersOf}
 use Rattle.rules.specs.Device as rules
 use Rattle.rules.specs.Transfer.{begun, found, releaseRun}
 use Rattle.flow.specs.Flow.{runOf, freshFlow, Steps}
 use Rattle.flow.specs.declared.Flow.{Flow}
-use Rattle.stream.specs.Queue.{countersIn, messageIn, withFlow, queueFor, withQueue, Empties}
+use Rattle.stream.specs.Queue.{countersIn, messageIn, withFlow, Empties}
 use Rattle.stream.proofs.Fits.{message-fit, with-flow-fit}
 use Rattle.stream.proofs.Laws.{queue-in, found-check, fresh-run, flowed-device, with-own-queue, queue-for-with}
 
@@ -35,29 +33,33 @@ module _ (c : Card) (d : Direction) (m : List ℕ) (f : Fit c) where
   abbrev way : rules.Direction
   way = directionOf d
 
-  abbrev page : PageNumber
-  page = rules.pageOf (restOf c) (rules.queueNumber way)
+  abbrev lies : rules.Virtqueue
+  lies = virtqueueOf (restOf c) way
 
   abbrev own : rules.Queue
-  own = queueFor way (deviceOf c)
+  own = rules.queueFor way (deviceOf c)
 
   abbrev pub checked : Check
-  checked = checkOf m page (sizeOf (rules.queueNumber way)) (countersIn c d .taken) (messageIn c d .count)
+  checked = checkOf m (lies .page) (rules.queueSize lies) (countersIn c d .taken) (messageIn c d .count)
 
-  found-in : found (countersOf way) way page (indirect (restOf c)) own m ≡ checked
-  found-in = rw (queue-in c d) (found-check way page (indirect (restOf c)) m (countersIn c d) (messageIn c d) (message-fit c d f .one))
+  found-in : found (countersOf way) lies own m ≡ checked
+  found-in = rw (queue-in c d) (found-check lies m (countersIn c d) (messageIn c d) (message-fit c d f .one))
 
   -- the queue's check decides
-  by-check : (k : Check) → checked ≡ k
-      → emptied (countersOf way) way page (indirect (restOf c)) own m ≡ emptiedFound (countersOf way) way page (indirect (restOf c)) own m k
+  by-check : (k : Check) → checked ≡ k → emptied (countersOf way) lies own m ≡ emptiedFound (countersOf way) lies own m k
   unfolding emptied
-  by-check k h = ap (emptiedFound (countersOf way) way page (indirect (restOf c)) own m) (found-in ∙ h)
+  by-check k h = ap (emptiedFound (countersOf way) lies own m) (found-in ∙ h)
+
+  -- the card as it is
+  own-device : deviceOf c ≡ rules.withQueue way (restOf c) own (deviceOf c)
+  unfolding deviceOf
+  own-device = with-own-queue way (deviceOf c)
 
   pub empties-idle : checked ≡ Check.Idle → Empties way c m m (record { sound = true; signal = false; card = c })
   empties-idle h =
       record {
         run = by-check Check.Idle h;
-        device = with-own-queue way (deviceOf c);
+        device = own-device;
         ram = refl;
         registers = refl;
         parts = refl;
@@ -69,7 +71,7 @@ module _ (c : Card) (d : Direction) (m : List ℕ) (f : Fit c) where
   empties-broken cause h =
       record {
         run = by-check (Check.Broken cause) h;
-        device = with-own-queue way (deviceOf c);
+        device = own-device;
         ram = refl;
         registers = refl;
         parts = refl;
@@ -78,9 +80,11 @@ module _ (c : Card) (d : Direction) (m : List ℕ) (f : Fit c) where
       }
 
   module _ (n : ℕ) (h : checked ≡ Check.New n) (long : length m ≡ c .«ram_len») (m′ : List ℕ) (g : Flow)
-      (s : Steps (releaseRun (countersOf way) way page (indirect (restOf c)) n) m (freshFlow (countersIn c d) (messageIn c d)) m′ g) where
-    queue-after : queueFor way (deviceOf (withFlow d g c)) ≡ queueOf (g .counters) (g .message)
-    queue-after = ap (queueFor way) (flowed-device c g (f .four) d) ∙ queue-for-with way (queueOf (g .counters) (g .message)) (deviceOf c)
+      (s : Steps (releaseRun (countersOf way) lies n) m (freshFlow (countersIn c d) (messageIn c d)) m′ g) where
+    queue-after : rules.queueFor way (deviceOf (withFlow d g c)) ≡ queueOf (g .counters) (g .message)
+    queue-after =
+        ap (rules.queueFor way) (flowed-device c g (f .four) d)
+        ∙ queue-for-with way (restOf c) (queueOf (g .counters) (g .message)) (deviceOf c)
 
     began : begun own m [] ≡ runOf (freshFlow (countersIn c d) (messageIn c d)) m []
     began = rw (queue-in c d) (sym (fresh-run (countersIn c d) (messageIn c d) m []))
@@ -91,10 +95,10 @@ module _ (c : Card) (d : Direction) (m : List ℕ) (f : Fit c) where
         record {
           run =
               by-check (Check.New n) h
-              ∙ ap (λ r. emptiedBy (releaseRun (countersOf way) way page (indirect (restOf c)) n r)) began
+              ∙ ap (λ r. emptiedBy (releaseRun (countersOf way) lies n r)) began
               ∙ ap emptiedBy (sym (s .run []))
               ∙ rw queue-after;
-          device = flowed-device c g (f .four) d ∙ ap (λ q. withQueue way q (deviceOf c)) (sym queue-after);
+          device = flowed-device c g (f .four) d ∙ ap (λ q. rules.withQueue way (restOf c) q (deviceOf c)) (sym queue-after);
           ram = kept d g c .0;
           registers = kept d g c .1;
           parts = kept d g c .2;

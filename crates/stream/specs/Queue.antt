@@ -14,7 +14,7 @@ use Rattle.message.specs.Message.{directionOf}
 use Rattle.message.specs.declared.Virtqueue.{Virtqueue}
 use Rattle.message.specs.declared.Direction.{Direction}
 use Rattle.message.specs.declared.Direction.the-variants.{Output, Input}
-use Rattle.rules.specs.Calls.{emptied, indirect}
+use Rattle.rules.specs.Calls.{emptied, virtqueueOf}
 use Rattle.rules.specs.Counters.{countersOf}
 use Rattle.rules.specs.Device as rules
 use Rattle.flow.specs.declared.Flow.{Flow}
@@ -65,25 +65,14 @@ withFlow Input f c =
       capture = f .message;
     }
 
--- ---- in the rules' device
-
-abbrev pub queueFor : rules.Direction → rules.Device rules.Queue → rules.Queue
-queueFor rules.output b = b .play
-queueFor rules.input b = b .rest .capture
-
--- the device with another queue of a direction
-abbrev pub withQueue : rules.Direction → rules.Queue → rules.Device rules.Queue → rules.Device rules.Queue
-withQueue rules.output q b = record { rest = b .rest; play = q }
-withQueue rules.input q b = record { rest = rules.withCapture q (b .rest); play = b .play }
-
 -- ---- a queue emptied: the card and memory before, memory and the card after
 
 pub record Empties (d : rules.Direction) (c : Card) (m m′ : List ℕ) (r : Emptied) : Type 0 where
   -- queue, memory, sound and signal are the rules'
-  pub run : emptied (countersOf d) d (rules.pageOf (restOf c) (rules.queueNumber d)) (indirect (restOf c)) (queueFor d (deviceOf c)) m
-      ≡ record { queue = queueFor d (deviceOf (r .card)); mem = m′; sound = r .sound; signal = r .signal }
+  pub run : emptied (countersOf d) (virtqueueOf (restOf c) d) (rules.queueFor d (deviceOf c)) m
+      ≡ record { queue = rules.queueFor d (deviceOf (r .card)); mem = m′; sound = r .sound; signal = r .signal }
   -- the card is as it was but for that queue
-  pub device : deviceOf (r .card) ≡ withQueue d (queueFor d (deviceOf (r .card))) (deviceOf c)
+  pub device : deviceOf (r .card) ≡ rules.withQueue d (restOf c) (rules.queueFor d (deviceOf (r .card))) (deviceOf c)
   pub ram : r .card .«ram_len» ≡ c .«ram_len»
   pub registers : r .card .registers ≡ c .registers
   pub parts : r .card .parts ≡ c .parts

@@ -11,7 +11,6 @@ use lib.ListN.{length}
 use Rattle.card.specs.Fit.{FitMessage}
 use Rattle.card.specs.declared.Counters.{Counters}
 use Rattle.card.specs.declared.Message.{Message}
-use Rattle.counts.specs.declared.PageNumber.{PageNumber}
 use Rattle.flow.specs.Flow.{runOf, freshFlow, FitFlow}
 use Rattle.flow.specs.declared.Flow.{Flow}
 use Rattle.message.specs.Card.{takingIn}
@@ -31,13 +30,13 @@ room-test a b = by (ltb b a) refl where
   by true h = rw (h, lt-ltb 0 (a - b) (omega (arith, ltb-true b a h)))
   by false h = rw (h, le-ltb 0 (a - b) (omega (arith, ltb-false b a h)))
 
-module _ (d : rules.Direction) (page : PageNumber) (negotiated : Bool) (m host : List ℕ) (f : Flow) where
-  pub goes-on : transferMore (countersOf d) d page negotiated (runOf f m host) ≡ goesOn f (length host)
+module _ (v : rules.Virtqueue) (m host : List ℕ) (f : Flow) where
+  pub goes-on : transferMore (countersOf (v .direction)) v (runOf f m host) ≡ goesOn f (length host)
   unfolding runOf
   goes-on = rw (room-test (length host) (f .moved), none-when (eqb (f .message .count) 0) (record { taking = takingIn (f .message); done = f .message .done }))
 
-module _ (d : rules.Direction) (page : PageNumber) (negotiated : Bool) (m host : List ℕ) (f : Flow) where
-  pub release-goes-on : releaseMore (countersOf d) d page negotiated (runOf f m host) ≡ releaseGoesOn f
+module _ (v : rules.Virtqueue) (m host : List ℕ) (f : Flow) where
+  pub release-goes-on : releaseMore (countersOf (v .direction)) v (runOf f m host) ≡ releaseGoesOn f
   unfolding runOf
   release-goes-on = rw (none-when (eqb (f .message .count) 0) (record { taking = takingIn (f .message); done = f .message .done }))
 

@@ -4,7 +4,6 @@ use mathlib.Core.List.{List}
 use mathlib.Core.Bool.{Bool, true, false}
 use Prim.Native.Nat.{ℕ, _+_}
 use lib.ListN.{length}
-use Rattle.counts.specs.declared.PageNumber.{PageNumber}
 use Rattle.rules.specs.Counters.{countersOf}
 use Rattle.rules.specs.Device as rules
 use Rattle.rules.specs.Transfer.{worked, givenUp, transferMore, releaseMore, next}
@@ -15,33 +14,33 @@ use Rattle.flow.specs.declared.Flow.{Flow}
 use Rattle.transfer.proofs.Laws.{goes-on, release-goes-on}
 use Rattle.transfer.proofs.Whiles.{whiles-none, whiles-stop, whiles-more}
 
-module _ (d : rules.Direction) (page : PageNumber) (negotiated : Bool) (m host : List ℕ) (f : Flow) (n : ℕ) where
-  pub rest-none : n ≡ 0 → restRun d page negotiated n (runOf f m host) ≡ runOf f m host
+module _ (v : rules.Virtqueue) (m host : List ℕ) (f : Flow) (n : ℕ) where
+  pub rest-none : n ≡ 0 → restRun v n (runOf f m host) ≡ runOf f m host
   rest-none h = whiles-none _ _ _ n (runOf f m host) h
 
-  pub rest-stop : goesOn f (length host) ≡ false → restRun d page negotiated n (runOf f m host) ≡ runOf f m host
+  pub rest-stop : goesOn f (length host) ≡ false → restRun v n (runOf f m host) ≡ runOf f m host
   rest-stop h =
-      whiles-stop (worked (countersOf d) d page negotiated) (transferMore (countersOf d) d page negotiated) (next (countersOf d) d page negotiated) n
-      (runOf f m host) (goes-on d page negotiated m host f ∙ h)
+      whiles-stop (worked (countersOf (v .direction)) v) (transferMore (countersOf (v .direction)) v) (next (countersOf (v .direction)) v) n
+      (runOf f m host) (goes-on v m host f ∙ h)
 
   pub rest-more : (k : ℕ) → n ≡ k + 1 → goesOn f (length host) ≡ true
-      → restRun d page negotiated n (runOf f m host)
-      ≡ restRun d page negotiated k (worked (countersOf d) d page negotiated (next (countersOf d) d page negotiated (runOf f m host)))
+      → restRun v n (runOf f m host)
+      ≡ restRun v k (worked (countersOf (v .direction)) v (next (countersOf (v .direction)) v (runOf f m host)))
   rest-more k e h =
-      whiles-more (worked (countersOf d) d page negotiated) (transferMore (countersOf d) d page negotiated) (next (countersOf d) d page negotiated) n k
-      (runOf f m host) e (goes-on d page negotiated m host f ∙ h)
+      whiles-more (worked (countersOf (v .direction)) v) (transferMore (countersOf (v .direction)) v) (next (countersOf (v .direction)) v) n k
+      (runOf f m host) e (goes-on v m host f ∙ h)
 
-  pub release-none : n ≡ 0 → releaseRest d page negotiated n (runOf f m host) ≡ runOf f m host
+  pub release-none : n ≡ 0 → releaseRest v n (runOf f m host) ≡ runOf f m host
   release-none h = whiles-none _ _ _ n (runOf f m host) h
 
-  pub release-stop : releaseGoesOn f ≡ false → releaseRest d page negotiated n (runOf f m host) ≡ runOf f m host
+  pub release-stop : releaseGoesOn f ≡ false → releaseRest v n (runOf f m host) ≡ runOf f m host
   release-stop h =
-      whiles-stop (givenUp (countersOf d) d page negotiated) (releaseMore (countersOf d) d page negotiated) (next (countersOf d) d page negotiated) n
-      (runOf f m host) (release-goes-on d page negotiated m host f ∙ h)
+      whiles-stop (givenUp (countersOf (v .direction)) v) (releaseMore (countersOf (v .direction)) v) (next (countersOf (v .direction)) v) n
+      (runOf f m host) (release-goes-on v m host f ∙ h)
 
   pub release-more : (k : ℕ) → n ≡ k + 1 → releaseGoesOn f ≡ true
-      → releaseRest d page negotiated n (runOf f m host)
-      ≡ releaseRest d page negotiated k (givenUp (countersOf d) d page negotiated (next (countersOf d) d page negotiated (runOf f m host)))
+      → releaseRest v n (runOf f m host)
+      ≡ releaseRest v k (givenUp (countersOf (v .direction)) v (next (countersOf (v .direction)) v (runOf f m host)))
   release-more k e h =
-      whiles-more (givenUp (countersOf d) d page negotiated) (releaseMore (countersOf d) d page negotiated) (next (countersOf d) d page negotiated) n k
-      (runOf f m host) e (release-goes-on d page negotiated m host f ∙ h)
+      whiles-more (givenUp (countersOf (v .direction)) v) (releaseMore (countersOf (v .direction)) v) (next (countersOf (v .direction)) v) n k
+      (runOf f m host) e (release-goes-on v m host f ∙ h)

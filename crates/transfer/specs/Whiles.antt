@@ -2,7 +2,6 @@
 use mathlib.Core.Bool.{Bool, cond, _&&_}
 use Prim.Native.Nat.{ℕ, zero, suc}
 use lib.Dec.{eqb, ltb}
-use Rattle.counts.specs.declared.PageNumber.{PageNumber}
 use Rattle.flow.specs.declared.Flow.{Flow}
 use Rattle.rules.specs.Counters.{countersOf}
 use Rattle.rules.specs.Device as rules
@@ -12,15 +11,15 @@ unfoldable pub whiles : {S : Type 0} → (S → S) → (S → Bool) → (S → S
 whiles work more next zero s = s
 whiles work more next (suc k) s = cond (more s) (whiles work more next k (work (next s))) s
 
-module _ (d : rules.Direction) (page : PageNumber) (negotiated : Bool) where
+module _ (v : rules.Virtqueue) where
   -- the new entries of a transfer, and of a Release
   abbrev pub restRun : ℕ → Run rules.Queue → Run rules.Queue
   restRun n r =
-      whiles (worked (countersOf d) d page negotiated) (transferMore (countersOf d) d page negotiated) (next (countersOf d) d page negotiated) n r
+      whiles (worked (countersOf (v .direction)) v) (transferMore (countersOf (v .direction)) v) (next (countersOf (v .direction)) v) n r
 
   abbrev pub releaseRest : ℕ → Run rules.Queue → Run rules.Queue
   releaseRest n r =
-      whiles (givenUp (countersOf d) d page negotiated) (releaseMore (countersOf d) d page negotiated) (next (countersOf d) d page negotiated) n r
+      whiles (givenUp (countersOf (v .direction)) v) (releaseMore (countersOf (v .direction)) v) (next (countersOf (v .direction)) v) n r
 
 -- a transfer goes on with the next entry
 abbrev pub goesOn : Flow → ℕ → Bool

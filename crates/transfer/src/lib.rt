@@ -5,7 +5,7 @@ ghost use mathlib.Core.Path.{_≡_};
 ghost use lib.ListN.{length};
 ghost use Rattle.card.specs.Fit.{FitMessage};
 ghost use Rattle.flow.specs.Flow.{FitFlow, freshFlow, Steps, StepsOn};
-ghost use Rattle.message.specs.Message.{directionOf};
+ghost use Rattle.message.specs.Message.{directionOf, virtqueueAs, virtqueueIn};
 ghost use Rattle.rules.specs.Counters.{countersOf};
 ghost use Rattle.rules.specs.Device.{output, input};
 ghost use Rattle.rules.specs.Transfer.{worked, givenUp, next, transferRun, releaseRun};
@@ -19,7 +19,7 @@ use message::Virtqueue;
 // The next entry taken and worked.
 fn play_turn(m: &mut [u8], host: &mut [u8], q: Virtqueue, f: Flow) -> Flow
     requires { ⌜ (q .direction ≡ Direction.Output) × (f .message .count ≡ 0) × FitFlow (length (now m)) (length (now host)) f ⌝ }
-    ensures { λ r. ⌜ StepsOn (turned (worked (countersOf output) output (q .page) (q .indirect)) (next (countersOf output) output (q .page) (q .indirect)))
+    ensures { λ r. ⌜ StepsOn (turned (worked (countersOf output) (virtqueueAs output q)) (next (countersOf output) (virtqueueAs output q)))
         (now (m .entry)) (now (host .entry)) f (now (m .exit)) (now (host .exit)) r ⌝ }
 {
     let met = flow::meet(m, q, f);
@@ -28,7 +28,7 @@ fn play_turn(m: &mut [u8], host: &mut [u8], q: Virtqueue, f: Flow) -> Flow
 
 fn capture_turn(m: &mut [u8], host: &[u8], q: Virtqueue, f: Flow) -> Flow
     requires { ⌜ (q .direction ≡ Direction.Input) × (f .message .count ≡ 0) × FitFlow (length (now m)) (length (now host)) f ⌝ }
-    ensures { λ r. ⌜ StepsOn (turned (worked (countersOf input) input (q .page) (q .indirect)) (next (countersOf input) input (q .page) (q .indirect)))
+    ensures { λ r. ⌜ StepsOn (turned (worked (countersOf input) (virtqueueAs input q)) (next (countersOf input) (virtqueueAs input q)))
         (now (m .entry)) (now (host .entry)) f (now (m .exit)) (now (host .entry)) r ⌝ }
 {
     let met = flow::meet(m, q, f);
@@ -39,8 +39,8 @@ fn capture_turn(m: &mut [u8], host: &[u8], q: Virtqueue, f: Flow) -> Flow
 fn release_turn(m: &mut [u8], q: Virtqueue, f: Flow) -> Flow
     requires { ⌜ (f .message .count ≡ 0) × FitMessage (length (now m)) (f .message) ⌝ }
     ensures { λ r. ⌜ Steps
-        (turned (givenUp (countersOf (directionOf (q .direction))) (directionOf (q .direction)) (q .page) (q .indirect))
-        (next (countersOf (directionOf (q .direction))) (directionOf (q .direction)) (q .page) (q .indirect)))
+        (turned (givenUp (countersOf (directionOf (q .direction))) (virtqueueIn q))
+        (next (countersOf (directionOf (q .direction))) (virtqueueIn q)))
         (now (m .entry)) f (now (m .exit)) r ⌝ }
 {
     let met = flow::meet(m, q, f);
@@ -79,7 +79,7 @@ fn transfer_more(f: Flow, room: usize) -> bool
 // The new entries of the play queue, while the host has room.
 fn play_rest(m: &mut [u8], host: &mut [u8], q: Virtqueue, f: Flow, new: u16) -> Flow
     requires { ⌜ (q .direction ≡ Direction.Output) × FitFlow (length (now m)) (length (now host)) f ⌝ }
-    ensures { λ r. ⌜ StepsOn (restRun output (q .page) (q .indirect) new)
+    ensures { λ r. ⌜ StepsOn (restRun (virtqueueAs output q) new)
         (now (m .entry)) (now (host .entry)) f (now (m .exit)) (now (host .exit)) r ⌝ }
 {
     let mut g = f;
@@ -104,7 +104,7 @@ pub fn play(
     new: u16,
 ) -> Flow
     requires { ⌜ (q .direction ≡ Direction.Output) × FitMessage (length (now m)) message ⌝ }
-    ensures { λ r. ⌜ StepsOn (transferRun (countersOf output) output (q .page) (q .indirect) new)
+    ensures { λ r. ⌜ StepsOn (transferRun (countersOf output) (virtqueueAs output q) new)
         (now (m .entry)) (now (host .entry)) (freshFlow counters message) (now (m .exit)) (now (host .exit)) r ⌝ }
 {
     let first = flow::work_play(m, host, q, begun_flow(counters, message));
@@ -114,7 +114,7 @@ pub fn play(
 // The new entries of the capture queue, while the host has bytes.
 fn capture_rest(m: &mut [u8], host: &[u8], q: Virtqueue, f: Flow, new: u16) -> Flow
     requires { ⌜ (q .direction ≡ Direction.Input) × FitFlow (length (now m)) (length (now host)) f ⌝ }
-    ensures { λ r. ⌜ StepsOn (restRun input (q .page) (q .indirect) new)
+    ensures { λ r. ⌜ StepsOn (restRun (virtqueueAs input q) new)
         (now (m .entry)) (now (host .entry)) f (now (m .exit)) (now (host .entry)) r ⌝ }
 {
     let mut g = f;
@@ -139,7 +139,7 @@ pub fn capture(
     new: u16,
 ) -> Flow
     requires { ⌜ (q .direction ≡ Direction.Input) × FitMessage (length (now m)) message ⌝ }
-    ensures { λ r. ⌜ StepsOn (transferRun (countersOf input) input (q .page) (q .indirect) new)
+    ensures { λ r. ⌜ StepsOn (transferRun (countersOf input) (virtqueueAs input q) new)
         (now (m .entry)) (now (host .entry)) (freshFlow counters message) (now (m .exit)) (now (host .entry)) r ⌝ }
 {
     let first = flow::work_capture(m, host, q, begun_flow(counters, message));
@@ -162,7 +162,7 @@ fn release_more(f: Flow) -> bool
 // The new entries of a queue, ended by a Release.
 fn release_rest(m: &mut [u8], q: Virtqueue, f: Flow, new: u16) -> Flow
     requires { ⌜ FitMessage (length (now m)) (f .message) ⌝ }
-    ensures { λ r. ⌜ Steps (releaseRest (directionOf (q .direction)) (q .page) (q .indirect) new) (now (m .entry)) f (now (m .exit)) r ⌝ }
+    ensures { λ r. ⌜ Steps (releaseRest (virtqueueIn q) new) (now (m .entry)) f (now (m .exit)) r ⌝ }
 {
     let mut g = f;
     let mut left = new;
@@ -179,7 +179,7 @@ fn release_rest(m: &mut [u8], q: Virtqueue, f: Flow, new: u16) -> Flow
 // A queue emptied by a Release: its message in work and the new entries.
 pub fn release(m: &mut [u8], q: Virtqueue, counters: Counters, message: Message, new: u16) -> Flow
     requires { ⌜ FitMessage (length (now m)) message ⌝ }
-    ensures { λ r. ⌜ Steps (releaseRun (countersOf (directionOf (q .direction))) (directionOf (q .direction)) (q .page) (q .indirect) new)
+    ensures { λ r. ⌜ Steps (releaseRun (countersOf (directionOf (q .direction))) (virtqueueIn q) new)
         (now (m .entry)) (freshFlow counters message) (now (m .exit)) r ⌝ }
 {
     let first = flow::give_up(m, q, begun_flow(counters, message));

@@ -1,8 +1,12 @@
 -- Each step of the reading is the rule's; what the request comes to is replied, or a stream is released.
-use mathlib.Core.Path.{_∙_, sym}
+use mathlib.Core.Path.{_≡_, _∙_, sym}
 use borrow.Author.Needs.{needs}
-use Rattle.ranges.specs.Ranges.{rangesOf}
-use Rattle.controlq.proofs.Laws.{chain-mute, chain-bad, chain-acted, served-play}
+use Rattle.ranges.specs.Ranges.{rangesOf, places, bytesAt, total}
+use Rattle.message.specs.Card.{restOf}
+use Rattle.rules.specs.Calls.{acted}
+use Rattle.rules.specs.Control as rules
+use Rattle.controlq.specs.Control.{pendingOf, servedChain}
+use Rattle.controlq.proofs.Laws.{chain-mute, chain-bad, chain-acted, served-queues}
 use Rattle.controlq.proofs.serve_chain.Statement.{statement}
 use Rattle.controlq.proofs.serve_chain.Tie as tie
 
@@ -70,14 +74,24 @@ complete-requires-2 c κs = search needs
 same-length-3 : tie.Need-same-length-3
 same-length-3 c = search needs
 
+-- past the tests of both sides the request decides
+served-as : (c : tie.After-serve) (s : rules.Served)
+    → let a = c .before .before .before .before .before .before .before .before .before .before .args in
+    s ≡ rules.served (restOf (a .card)) (bytesAt (a .m .now) (places (rangesOf (a .request)))) (total (rangesOf (a .reply)))
+    → servedChain (a .card) (a .head) (rangesOf (a .request)) (rangesOf (a .reply)) (a .m .now)
+    ≡ acted s (pendingOf (a .card) (a .head) (rangesOf (a .reply))) (a .m .now)
+served-as c s e =
+    let a = c .before .before .before .before .before .before .before .before .before .before .args in
+    chain-acted (a .card) (a .head) (rangesOf (a .request)) (rangesOf (a .reply)) (a .m .now)
+    (sym (c .before .before .before .before .before .before .before .before .judge .ensures) ∙ c .before .before .before .before .before .before .enum-told .given .1) (sym (c .before .before .before .before .before .judge2 .ensures) ∙ c .before .before .before .enum-told3 .given .1) s e
+
 returns-3 : tie.Need-returns-3
 returns-3 c =
-    let s = c .before .before .before .before .before .before .before .before .before .before .before .before .before .before .before .before .before .before .before in
-    let a = s .args in
-    let o = c .before .before .before .before .before .before .before .before .before .serve in
-    let e = rw (c .before .before .before .before .before .enum-told5 .given .1, s .pre .3 .sum) at (o .ensures .says) in
-    rw (chain-acted (a .card) (a .head) (rangesOf (a .request)) (rangesOf (a .reply)) (a .m .now) (sym (c .before .before .before .before .before .before .before .before .before .before .before .before .before .before .before .before .before .judge .ensures) ∙ c .before .before .before .before .before .before .before .before .before .before .before .before .before .before .before .enum-told .given .1) (sym (c .before .before .before .before .before .before .before .before .before .before .before .before .before .before .judge2 .ensures) ∙ c .before .before .before .before .before .before .before .before .before .before .before .before .enum-told3 .given .1) _ e, ← (served-play (a .card) (o .result .card) (o .ensures .rest)))
-    (c .before .before .complete2 .ensures)
+    let p = c .before .before .before .before .before .before .before .before .before in
+    let a = p .before .before .before .before .before .before .before .before .before .before .args in
+    let e = rw (c .before .before .before .before .before .enum-told5 .given .1, p .before .before .before .before .before .before .before .before .before .before .pre .3 .sum) at (p .serve .ensures .says) in
+    let q = served-queues (a .card) (p .serve .result .card) (p .serve .ensures .rest) in
+    rw (served-as p _ e, ← (q .play), ← (q .capture)) (c .before .before .complete2 .ensures)
 
 release-requires : tie.Need-release-requires
 release-requires c κs = search needs
@@ -87,12 +101,9 @@ same-length-4 c = search needs
 
 returns-4 : tie.Need-returns-4
 returns-4 c =
-    let s = c .before .before .before .before .before .before .before .before .before .before .before .before .before .before .before .before .before .before .before in
-    let a = s .args in
-    let o = c .before .before .before .before .before .before .before .before .before .serve in
-    let e = rw (c .before .before .before .before .before .kind .given .1, s .pre .3 .sum) at (o .ensures .says) in
-    rw (chain-acted (a .card) (a .head) (rangesOf (a .request)) (rangesOf (a .reply)) (a .m .now) (sym (c .before .before .before .before .before .before .before .before .before .before .before .before .before .before .before .before .before .judge .ensures) ∙ c .before .before .before .before .before .before .before .before .before .before .before .before .before .before .before .enum-told .given .1) (sym (c .before .before .before .before .before .before .before .before .before .before .before .before .before .before .judge2 .ensures) ∙ c .before .before .before .before .before .before .before .before .before .before .before .before .enum-told3 .given .1) _ e)
-    (c .before .before .release .ensures)
+    let p = c .before .before .before .before .before .before .before .before .before in
+    let e = rw (c .before .before .before .before .before .kind .given .1, p .before .before .before .before .before .before .before .before .before .before .pre .3 .sum) at (p .serve .ensures .says) in
+    rw (served-as p _ e) (c .before .before .release .ensures)
 
 pub serve-chain-spec : {M : Type 1} → statement M
 serve-chain-spec =

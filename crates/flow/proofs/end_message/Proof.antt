@@ -2,7 +2,7 @@
 use mathlib.Core.Path.{_≡_, refl, ap}
 use borrow.Author.Needs.{needs}
 use mathlib.Core.Option.{some}
-use Rattle.message.specs.Message.{directionOf, answeredOf}
+use Rattle.message.specs.Message.{virtqueueIn, directionOf, answeredOf}
 use Rattle.ranges.specs.Ranges.{rangesOf}
 use Rattle.ring.specs.Rules.{Completion, completion}
 use Rattle.flow.specs.Flow.{endingOf}
@@ -37,7 +37,7 @@ returns c =
     record {
       steps = record {
         run = λ host. rw (c .either .ensures, em, ec, ei)
-            (ended-run (directionOf (a .q .direction)) (a .q .page) (a .q .indirect) (endingOf (a .ending)) code (a .m .now) host f (s .pre .0) (c .before .before .before .before .before .before .status-of .ensures));
+            (ended-run (virtqueueIn (a .q)) (endingOf (a .ending)) code (a .m .now) host f (s .pre .0) (c .before .before .before .before .before .before .status-of .ensures));
         message = ended-fit _ k f (s .pre .1);
         moved = refl;
         long = c .before .before .before .answer .kept .0;

@@ -1,8 +1,8 @@
 -- The form decides.
-use mathlib.Core.Path.{_∙_, sym, refl}
+use mathlib.Core.Path.{refl}
 use borrow.Author.Needs.{needs}
-use Rattle.message.specs.Message.{directionOf, takingIn}
-use Rattle.flow.proofs.Laws.{begun-run, begun-fit, refused-entered}
+use Rattle.message.specs.Message.{virtqueueIn, takingIn}
+use Rattle.flow.proofs.Laws.{begun-run, begun-fit, refused-steps}
 use Rattle.flow.proofs.enter.Statement.{statement}
 use Rattle.flow.proofs.enter.Tie as tie
 
@@ -26,13 +26,20 @@ refuse-requires-2 : tie.Need-refuse-requires-2
 refuse-requires-2 c κs =
     let s = c .before .before .before .before in (s .pre .1, s .pre .2, rw (c .before .enum-told3 .given .1))
 
+enum-told-4 : tie.Need-enum-told-4
+enum-told-4 c = search needs
+
+refuse-requires-3 : tie.Need-refuse-requires-3
+refuse-requires-3 c κs =
+    let s = c .before .before .before .before in (s .pre .1, s .pre .2, rw (c .before .enum-told4 .given .1))
+
 returns : tie.Need-returns
 returns c =
     let s = c .before .before .before .before in
     let a = s .args in
     let w = c .before .enum-told .given .1 in
     record {
-      run = λ host. rw (c .begin .ensures) (begun-run (directionOf (a .q .direction)) (a .q .page) (a .q .indirect) (a .taken) (a .m .now) host (a .f) w);
+      run = λ host. rw (c .begin .ensures) (begun-run (virtqueueIn (a .q)) (a .taken) (a .m .now) host (a .f) w);
       message = rw (c .begin .ensures) (begun-fit _ (a .taken) (a .f) w (s .pre .1));
       moved = rw (c .begin .ensures);
       long = refl;
@@ -44,15 +51,8 @@ same-length c = search needs
 returns-2 : tie.Need-returns-2
 returns-2 c =
     let s = c .before .before .before .before .before .before .before in
-    let a = s .args in
-    let t = c .before .before .refuse .ensures (s .pre .0) in
-    record {
-      run = λ host. t .run host
-          ∙ sym (refused-entered (directionOf (a .q .direction)) (a .q .page) (a .q .indirect) (takingIn (a .taken)) _ (rw (c .before .before .before .before .enum-told2 .given .1)));
-      message = t .message;
-      moved = t .moved;
-      long = t .long;
-    }
+    refused-steps (virtqueueIn (s .args .q)) (takingIn (s .args .taken)) _ _ _ _
+    (rw (c .before .before .before .before .enum-told2 .given .1)) (c .before .before .refuse .ensures (s .pre .0))
 
 same-length-2 : tie.Need-same-length-2
 same-length-2 c = search needs
@@ -60,15 +60,17 @@ same-length-2 c = search needs
 returns-3 : tie.Need-returns-3
 returns-3 c =
     let s = c .before .before .before .before .before .before .before in
-    let a = s .args in
-    let t = c .before .before .refuse2 .ensures (s .pre .0) in
-    record {
-      run = λ host. t .run host
-          ∙ sym (refused-entered (directionOf (a .q .direction)) (a .q .page) (a .q .indirect) (takingIn (a .taken)) _ (rw (c .before .before .before .before .enum-told3 .given .1)));
-      message = t .message;
-      moved = t .moved;
-      long = t .long;
-    }
+    refused-steps (virtqueueIn (s .args .q)) (takingIn (s .args .taken)) _ _ _ _
+    (rw (c .before .before .before .before .enum-told3 .given .1)) (c .before .before .refuse2 .ensures (s .pre .0))
+
+same-length-3 : tie.Need-same-length-3
+same-length-3 c = search needs
+
+returns-4 : tie.Need-returns-4
+returns-4 c =
+    let s = c .before .before .before .before .before .before .before in
+    refused-steps (virtqueueIn (s .args .q)) (takingIn (s .args .taken)) _ _ _ _
+    (rw (c .before .before .before .before .enum-told4 .given .1)) (c .before .before .refuse3 .ensures (s .pre .0))
 
 pub enter-spec : {M : Type 1} → statement M
 enter-spec =
@@ -80,8 +82,12 @@ enter-spec =
     refuse-requires
     enum-told-3
     refuse-requires-2
+    enum-told-4
+    refuse-requires-3
     returns
     same-length
     returns-2
     same-length-2
-    returns-3)
+    returns-3
+    same-length-3
+    returns-4)

@@ -36,7 +36,7 @@ returns c =
     let n = c .before .before .before .before .before .before .least .result in
     let e : n ≡ min (length (a .host .now) - f .moved) (f .message .reply .bytes - 8 - f .message .done) = rw (← (c .before .before .before .before .before .before .before .waiting .ensures)) (c .before .before .before .before .before .before .least .ensures) in (
       rw (c .advanced .ensures, c .before .before .before .scatter .ensures)
-          (filled (a .q .page) (a .q .indirect) (a .m .now) (a .host .now) f n (s .pre .0) (s .pre .1 .inside) (s .pre .1 .message .reply) e),
+          (filled (a .q) (a .m .now) (a .host .now) f n (s .pre .0) (s .pre .1 .inside) (s .pre .1 .message .reply) e),
       rw (c .advanced .ensures) (s .pre .0),
       rw (c .advanced .ensures) (advanced-fit _ _ f n _ 8 (s .pre .1) (s .pre .1 .message .short-reply) e),
     )

@@ -2,7 +2,7 @@
 use mathlib.Core.Path.{_≡_, _∙_, sym, refl}
 use native.Mathlib.Omega.{arith}
 use borrow.Author.Needs.{needs}
-use Rattle.message.specs.Message.{directionOf}
+use Rattle.message.specs.Message.{virtqueueIn, directionOf}
 use Rattle.flow.proofs.Laws.{given-none, given-one}
 use Rattle.flow.proofs.give_up.Statement.{statement}
 use Rattle.flow.proofs.give_up.Tie as tie
@@ -12,7 +12,7 @@ returns c =
     let s = c .before .before .before in
     let a = s .args in
     record {
-      run = λ host. sym (given-none (directionOf (a .q .direction)) (a .q .page) (a .q .indirect) (a .m .now) host (a .f) (c .if1 .taken));
+      run = λ host. sym (given-none (virtqueueIn (a .q)) (a .m .now) host (a .f) (c .if1 .taken));
       message = s .pre;
       moved = refl;
       long = refl;
@@ -31,7 +31,7 @@ returns-2 c =
     let t = c .before .before .end-message .ensures .steps in
     let busy : a .f .message .count ≡ 1 = omega (arith, s .pre .one) in
     record {
-      run = λ host. t .run host ∙ sym (given-one (directionOf (a .q .direction)) (a .q .page) (a .q .indirect) (a .m .now) host (a .f) busy);
+      run = λ host. t .run host ∙ sym (given-one (virtqueueIn (a .q)) (a .m .now) host (a .f) busy);
       message = t .message;
       moved = t .moved;
       long = t .long;

@@ -39,7 +39,7 @@ returns c =
     let n = c .before .before .before .before .before .before .least .result in
     let e : n ≡ min (length (a .host .now) - f .moved) (f .message .request .bytes - 4 - f .message .done) = rw (← (c .before .before .before .before .before .before .before .waiting .ensures)) (c .before .before .before .before .before .before .least .ensures) in (
       rw (c .advanced .ensures, c .before .before .before .gather .ensures)
-          (handed-on (a .q .page) (a .q .indirect) (a .m .now) (a .host .now) f n (s .pre .0) (s .pre .1 .inside) (s .pre .1 .message .request) e),
+          (handed-on (a .q) (a .m .now) (a .host .now) f n (s .pre .0) (s .pre .1 .inside) (s .pre .1 .message .request) e),
       rw (c .advanced .ensures) (s .pre .0),
       rw (c .advanced .ensures) (advanced-fit _ _ f n _ 4 (s .pre .1) (s .pre .1 .message .short-request) e),
     )

@@ -1,7 +1,7 @@
 -- The head decides: a bad one stops the flow, at a good one the chain is taken and entered.
 use mathlib.Core.Path.{_≡_, _∙_, sym, refl}
 use borrow.Author.Needs.{needs}
-use Rattle.message.specs.Message.{directionOf}
+use Rattle.message.specs.Message.{virtqueueIn, directionOf}
 use Rattle.ring.specs.Rules.{headOf}
 use Rattle.ring.specs.declared.Head.{Head}
 use Rattle.registers.specs.Map.{sizeOf}
@@ -32,7 +32,7 @@ returns c =
     let h : headOf (a .m .now) (a .q .page) (sizeOf (rules.queueNumber (directionOf (a .q .direction)))) (a .f .counters .taken) ≡ Head.Broken (c .enum-told .given .0 .0) =
     rw (← (c .before .before .before .before .queue-size .ensures)) (sym (c .before .before .next-head .ensures) ∙ c .enum-told .given .1) in
     record {
-      run = λ host. sym (next-stopped (directionOf (a .q .direction)) (a .q .page) (a .q .indirect) (a .m .now) host (a .f) _ h);
+      run = λ host. sym (next-stopped (virtqueueIn (a .q)) (a .m .now) host (a .f) _ h);
       message = s .pre .1;
       moved = refl;
       long = refl;
@@ -56,7 +56,7 @@ returns-2 c =
     rw (← (c .before .before .before .before .before .before .before .before .before .before .before .queue-size .ensures)) (sym (c .before .before .before .before .before .before .before .before .before .next-head .ensures) ∙ c .before .before .before .before .before .before .before .number .given .1) in
     let t = rw (c .before .before .before .before .take-chain .ensures .0) at (c .before .before .enter .ensures) in
     record {
-      run = λ host. t .run host ∙ sym (next-taken (directionOf (a .q .direction)) (a .q .page) (a .q .indirect) (a .m .now) host (a .f) n h);
+      run = λ host. t .run host ∙ sym (next-taken (virtqueueIn (a .q)) (a .m .now) host (a .f) n h);
       message = t .message;
       moved = t .moved;
       long = t .long;

@@ -1,7 +1,7 @@
 -- One completion beside the message in work, which there is none of.
 use mathlib.Core.Path.{_≡_, refl, ap}
 use borrow.Author.Needs.{needs}
-use Rattle.message.specs.Message.{directionOf, takingIn, statusIn, answeredOf}
+use Rattle.message.specs.Message.{virtqueueIn, directionOf, takingIn, statusIn, answeredOf}
 use Rattle.ranges.specs.Ranges.{rangesOf}
 use Rattle.ring.specs.Rules.{Completion, completion}
 use Rattle.flow.proofs.Laws.{refused-run}
@@ -34,7 +34,7 @@ returns c =
     λ free.
     record {
       run = λ host. rw (c .either .ensures, c .before .wrapping-add-u16 .ensures, em, ec, ei)
-          (refused-run (directionOf (a .q .direction)) (a .q .page) (a .q .indirect) (takingIn (a .taken)) (statusIn (a .status)) (a .m .now) host f free (s .pre .2));
+          (refused-run (virtqueueIn (a .q)) (takingIn (a .taken)) (statusIn (a .status)) (a .m .now) host f free (s .pre .2));
       message = s .pre .1;
       moved = refl;
       long = c .before .before .before .before .answer .kept .0;

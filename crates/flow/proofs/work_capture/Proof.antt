@@ -2,6 +2,7 @@
 use mathlib.Core.Path.{_∙_, sym, refl}
 use borrow.Author.Needs.{needs}
 use Rattle.rules.specs.Device as rules
+use Rattle.message.specs.Message.{virtqueueAs}
 use Rattle.flow.proofs.Laws.{worked-full, worked-idle, worked-busy, one-left, fit-beside}
 use Rattle.flow.proofs.work_capture.Statement.{statement}
 use Rattle.flow.proofs.work_capture.Tie as tie
@@ -11,7 +12,7 @@ returns c =
     let s = c .before .before .before .before in
     let a = s .args in
     record {
-      run = sym (worked-full rules.input (a .q .page) (a .q .indirect) (a .m .now) (a .host .now) (a .f) (c .if1 .taken));
+      run = sym (worked-full (virtqueueAs rules.input (a .q)) (a .m .now) (a .host .now) (a .f) (c .if1 .taken));
       fit = s .pre .1;
       long = refl;
       host-long = refl;
@@ -22,7 +23,7 @@ returns-2 c =
     let s = c .before .before .before .before .before .before in
     let a = s .args in
     record {
-      run = sym (worked-idle rules.input (a .q .page) (a .q .indirect) (a .m .now) (a .host .now) (a .f) (c .if2 .taken));
+      run = sym (worked-idle (virtqueueAs rules.input (a .q)) (a .m .now) (a .host .now) (a .f) (c .if2 .taken));
       fit = s .pre .1;
       long = refl;
       host-long = refl;
@@ -44,7 +45,7 @@ returns-3 c =
     let h = c .before .before .before .before .before .before .fill in
     let t = c .before .before .settle .ensures in
     let busy = one-left (a .f .message .count) (s .pre .1 .message .one) (c .before .before .before .before .before .before .before .before .if2 .left) in
-    let w = worked-busy rules.input (a .q .page) (a .q .indirect) (a .m .now) (a .host .now) (a .f) (c .before .before .before .before .before .before .before .before .before .before .if1 .left) busy in
+    let w = worked-busy (virtqueueAs rules.input (a .q)) (a .m .now) (a .host .now) (a .f) (c .before .before .before .before .before .before .before .before .before .before .if1 .left) busy in
     record {
       run = rw (w, ← (h .ensures .0)) (rw (s .pre .0) at (t .run (a .host .now)));
       fit = fit-beside _ _ _ (c .before .before .settle .result) (rw (h .kept .0) at (t .message)) (t .moved) (h .ensures .2 .inside);

@@ -2,6 +2,7 @@
 use mathlib.Core.Path.{sym, refl}
 use borrow.Author.Needs.{needs}
 use Rattle.rules.specs.Device as rules
+use Rattle.message.specs.Message.{virtqueueAs}
 use Rattle.flow.proofs.Laws.{worked-full, worked-idle, worked-busy, one-left, fit-beside}
 use Rattle.flow.proofs.work_play.Statement.{statement}
 use Rattle.flow.proofs.work_play.Tie as tie
@@ -11,7 +12,7 @@ returns c =
     let s = c .before .before .before .before in
     let a = s .args in
     record {
-      run = sym (worked-full rules.output (a .q .page) (a .q .indirect) (a .m .now) (a .host .now) (a .f) (c .if1 .taken));
+      run = sym (worked-full (virtqueueAs rules.output (a .q)) (a .m .now) (a .host .now) (a .f) (c .if1 .taken));
       fit = s .pre .1;
       long = refl;
       host-long = refl;
@@ -22,7 +23,7 @@ returns-2 c =
     let s = c .before .before .before .before .before .before in
     let a = s .args in
     record {
-      run = sym (worked-idle rules.output (a .q .page) (a .q .indirect) (a .m .now) (a .host .now) (a .f) (c .if2 .taken));
+      run = sym (worked-idle (virtqueueAs rules.output (a .q)) (a .m .now) (a .host .now) (a .f) (c .if2 .taken));
       fit = s .pre .1;
       long = refl;
       host-long = refl;
@@ -47,7 +48,7 @@ returns-3 c =
     let h = c .before .before .before .before .before .before .hand-on in
     let t = c .before .before .settle .ensures in
     let busy = one-left (a .f .message .count) (s .pre .1 .message .one) (c .before .before .before .before .before .before .before .before .before .if2 .left) in
-    let w = worked-busy rules.output (a .q .page) (a .q .indirect) (a .m .now) (a .host .now) (a .f) (c .before .before .before .before .before .before .before .before .before .before .before .if1 .left) busy in
+    let w = worked-busy (virtqueueAs rules.output (a .q)) (a .m .now) (a .host .now) (a .f) (c .before .before .before .before .before .before .before .before .before .before .before .if1 .left) busy in
     record {
       run = rw (w, ← (h .ensures .0)) (rw (s .pre .0) at (t .run (h .last .1 .0)));
       fit = fit-beside _ _ _ (c .before .before .settle .result) (t .message) (t .moved) (h .ensures .2 .inside);

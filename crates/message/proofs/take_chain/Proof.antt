@@ -3,10 +3,9 @@ use mathlib.Core.Path.{_≡_, _∙_, sym, ap}
 use borrow.Author.Needs.{needs}
 use Rattle.chain.specs.Walk.{walkOf, faulted, whole, outcomeOf}
 use Rattle.ranges.specs.Ranges.{rangesOf}
-use Rattle.registers.specs.Map.{sizeOf}
 use Rattle.ring.specs.Rules.{baseOf}
 use Rattle.rules.specs.Device as rules
-use Rattle.message.specs.Message.{directionOf, formIn}
+use Rattle.message.specs.Message.{directionOf, virtqueueIn, formIn}
 use Rattle.message.proofs.Laws.{taken-by, no-ranges-fit, request-inside, reply-inside}
 use Rattle.message.proofs.take_chain.Statement.{statement}
 use Rattle.message.proofs.take_chain.Tie as tie
@@ -20,11 +19,18 @@ queue-size-requires c κs = search needs
 walk-requires : tie.Need-walk-requires
 walk-requires c κs = search needs
 
+-- the walk's outcome, of the queue as the guest laid it out
+walked :
+    (c : tie.After-walk)
+    → let a = c .before .before .before .before .args in
+    outcomeOf (c .walk .result) ≡ walkOf (a .m .now) (baseOf (a .q .page)) (rules.queueSize (virtqueueIn (a .q))) (a .head .0) (a .q .indirect)
+walked c = rw (c .before .before .address .ensures, c .before .queue-size .ensures) at (c .walk .ensures .outcome)
+
+enum-known-end : tie.Need-enum-known-end
+enum-known-end c = search needs
+
 enum-told : tie.Need-enum-told
 enum-told c = search needs
-
-enum-told-2 : tie.Need-enum-told-2
-enum-told-2 c = search needs
 
 none-requires : tie.Need-none-requires
 none-requires c κs = search needs
@@ -34,14 +40,12 @@ none-requires-2 c κs = search needs
 
 returns : tie.Need-returns
 returns c =
-    let w = c .before .before .before .before .walk in
-    let a = c .before .before .before .before .before .before .before .before .args in
-    let o : outcomeOf (w .result) ≡ walkOf (a .m .now) (baseOf (a .q .page)) (sizeOf (rules.queueNumber (directionOf (a .q .direction)))) (a .head .0) (a .q .indirect) =
-    rw (c .before .before .before .before .before .before .address .ensures, c .before .before .before .before .before .queue-size .ensures) at (w .ensures .outcome) in (
+    let w = c .before .before .before .before .before in
+    let a = w .before .before .before .before .args in
+    let fault = c .before .before .before .end .given .0 .0 in (
       rw (c .none2 .ensures, c .before .none .ensures)
-          (taken-by (directionOf (a .q .direction)) (a .m .now) (a .q .page) (a .q .indirect) (a .head .0) (faulted (c .before .before .enum-told2 .given .0 .0))
-          (sym (rw (c .before .before .enum-told2 .given .1)) ∙ o)),
-      rw (c .none2 .ensures, c .before .none .ensures) (no-ranges-fit _ _),
+          (taken-by (virtqueueIn (a .q)) (a .m .now) (a .head .0) (faulted fault) (sym (rw (c .before .before .before .end .given .1)) ∙ walked w)),
+      rw (c .none2 .ensures, c .before .none .ensures) (no-ranges-fit _ _ _),
     )
 
 form-of-requires : tie.Need-form-of-requires
@@ -49,23 +53,23 @@ form-of-requires c κs = let w = c .before .before .before .before .before .walk
 
 returns-2 : tie.Need-returns-2
 returns-2 c =
-    let w = c .before .before .before .before .before .before .walk in
-    let a = c .before .before .before .before .before .before .before .before .before .before .args in
-    let o : outcomeOf (w .result) ≡ walkOf (a .m .now) (baseOf (a .q .page)) (sizeOf (rules.queueNumber (directionOf (a .q .direction)))) (a .head .0) (a .q .indirect) =
-    rw (c .before .before .before .before .before .before .before .before .address .ensures, c .before .before .before .before .before .before .before .queue-size .ensures) at (w .ensures .outcome) in
+    let p = c .before .before .before .before .before .before in
+    let w = p .walk in
+    let a = p .before .before .before .before .args in
+    let d = directionOf (a .q .direction) in
     let request = rangesOf (w .result .chain .request) in
     let reply = rangesOf (w .result .chain .reply) in (
       rw (c .form-of .ensures)
-          (taken-by (directionOf (a .q .direction)) (a .m .now) (a .q .page) (a .q .indirect) (a .head .0) (whole request reply)
-          (sym (rw (c .before .before .before .before .enum-told .given .1)) ∙ o)),
+          (taken-by (virtqueueIn (a .q)) (a .m .now) (a .head .0) (whole request reply)
+          (sym (rw (c .before .before .before .before .enum-told .given .1)) ∙ walked p)),
       record {
         request = w .ensures .sound .request;
         reply = w .ensures .sound .reply;
         few = w .ensures .sound .few;
         short-request = w .ensures .sound .readable;
         short-reply = w .ensures .sound .writable;
-        request-inside = λ e. request-inside (directionOf (a .q .direction)) (a .m .now) request reply (sym (c .form-of .ensures) ∙ ap formIn e);
-        reply-inside = λ e. reply-inside (directionOf (a .q .direction)) (a .m .now) request reply (sym (c .form-of .ensures) ∙ ap formIn e);
+        request-inside = λ e. request-inside d (a .m .now) request reply (sym (c .form-of .ensures) ∙ ap formIn e);
+        reply-inside = λ e. reply-inside d (a .m .now) request reply (sym (c .form-of .ensures) ∙ ap formIn e);
       },
     )
 
@@ -76,10 +80,10 @@ take-chain-spec =
     address-requires
     queue-size-requires
     walk-requires
-    enum-told
-    enum-told-2
+    enum-known-end
     none-requires
     none-requires-2
     returns
+    enum-told
     form-of-requires
     returns-2)

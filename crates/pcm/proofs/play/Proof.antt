@@ -1,20 +1,34 @@
 -- Each check, then the queue, then its entries: each outcome is the rules' step.
-use mathlib.Core.Path.{_≡_, _∙_, sym}
+use mathlib.Core.Path.{_≡_, _∙_, sym, refl}
 use borrow.Author.Needs.{needs}
 use lib.ListN.{length}
+use Rattle.card.specs.Fit.{FitMessage}
 use Rattle.message.specs.Card.{restOf, countersAt}
 use Rattle.message.specs.declared.Direction.the-variants.{Output}
-use Rattle.registers.specs.Map.{sizeOf}
-use Rattle.ring.specs.Rules.{checkOf}
-use Rattle.ring.specs.declared.Check.{Check}
-use Rattle.rules.specs.Device as rules
 use Rattle.stream.proofs.Fits.{broken-card-fit}
-use Rattle.stream.proofs.Laws.{page-in, indirect-in, fresh-run}
+use Rattle.stream.proofs.Laws.{virtqueue-in, fresh-run}
 use Rattle.pcm.specs.Entry.{refusalOf}
 use Rattle.pcm.proofs.Fits.{passed-length, flowed-fit}
-use Rattle.pcm.proofs.Outcomes.{play-refused, play-idle, play-broken, play-new}
+use Rattle.pcm.proofs.Outcomes.{checked, transfer-refused, transfer-idle, transfer-broken, transfer-new}
 use Rattle.pcm.proofs.play.Statement.{statement}
 use Rattle.pcm.proofs.play.Tie as tie
+
+-- the checks 1, 5, 6 are passed
+passed : (c : tie.Else1) → let a = c .before .before .before .before .args in refusalOf (restOf (a .card)) (length (a .m .now)) 0 ≡ 0
+passed c = sym (c .before .refusal .ensures) ∙ c .if1 .left
+
+-- the code's check of the queue is the rules'
+checks : (c : tie.After-check-queue)
+    → let p = c .before .before .before .before .before .before .before in
+    let s = p .before .before .before .before in
+    c .check-queue .result ≡ checked Output (s .args .card) (s .args .m .now) (s .args .host .now) (s .pre) (passed p)
+unfolding restOf
+checks c =
+    rw (c .before .before .before .before .before .before .virtqueue .ensures, c .before .before .queue-size .ensures) at (c .check-queue .ensures)
+
+-- the message in work is fit
+in-work-fit : (c : tie.Else1) → let s = c .before .before .before .before in FitMessage (length (s .args .m .now)) (s .args .card .play)
+in-work-fit c = let s = c .before .before .before .before in rw (passed-length (s .args .card) (length (s .args .m .now)) 0 (passed c)) (s .pre .play)
 
 refusal-requires : tie.Need-refusal-requires
 refusal-requires c κs = search needs
@@ -23,7 +37,7 @@ returns : tie.Need-returns
 returns c =
     let s = c .before .before .before .before in
     let a = s .args in
-    (play-refused (a .card) (a .m .now) (a .host .now) (c .before .refusal .result) (sym (c .before .refusal .ensures)) (c .if1 .taken), s .pre)
+    (transfer-refused Output (a .card) (a .m .now) (a .host .now) _ (sym (c .before .refusal .ensures)) (c .if1 .taken), s .pre)
 
 virtqueue-requires : tie.Need-virtqueue-requires
 virtqueue-requires c κs = search needs
@@ -50,11 +64,7 @@ enum-known-new : tie.Need-enum-known-new
 enum-known-new c = search needs
 
 play-requires : tie.Need-play-requires
-play-requires c κs =
-    let s = c .before .before .before .before .before .before .before .before .before .before .before .before .before .before .before .before in
-    let a = s .args in
-    let p : refusalOf (restOf (a .card)) (length (a .m .now)) 0 ≡ 0 = sym (c .before .before .before .before .before .before .before .before .before .before .before .before .before .refusal .ensures) ∙ c .before .before .before .before .before .before .before .before .before .before .before .before .if1 .left in
-    (rw (c .before .before .before .before .before .before .before .before .before .before .before .virtqueue .ensures), rw (passed-length (a .card) (length (a .m .now)) 0 p) (s .pre .play))
+play-requires c κs = let k = c .before .before .before .before .before in (rw (k .before .before .before .before .before .before .virtqueue .ensures), in-work-fit (k .before .before .before .before .before .before .before))
 
 transferred-requires : tie.Need-transferred-requires
 transferred-requires c κs = search needs
@@ -64,24 +74,25 @@ same-length c = search needs
 
 returns-2 : tie.Need-returns-2
 returns-2 c =
-    let s = c .before .before .before .before .before .before .before .before .before .before .before .before .before in
+    let k = c .before .before in
+    let p = k .before .before .before .before .before .before .before in
+    let s = p .before .before .before .before in
     let a = s .args in
-    let p : refusalOf (restOf (a .card)) (length (a .m .now)) 0 ≡ 0 = sym (c .before .before .before .before .before .before .before .before .before .before .refusal .ensures) ∙ c .before .before .before .before .before .before .before .before .before .if1 .left in
-    let k : checkOf (a .m .now) (rules.pageOf (restOf (a .card)) 2) (sizeOf 2) (countersAt (a .card) 2 .taken) (a .card .play .count) ≡ Check.Idle =
-    rw (c .before .before .before .before .before .before .before .before .virtqueue .ensures, c .before .before .before .before .queue-size .ensures, page-in (a .card) Output) at (sym (c .before .before .check-queue .ensures) ∙ c .enum-told .given .1) in
-    (play-idle (a .card) (a .m .now) (a .host .now) (s .pre) p k, s .pre)
+    (transfer-idle Output (a .card) (a .m .now) (a .host .now) (s .pre) (passed p) (sym (checks k) ∙ c .enum-told .given .1), s .pre)
 
 same-length-2 : tie.Need-same-length-2
 same-length-2 c = search needs
 
 returns-3 : tie.Need-returns-3
 returns-3 c =
-    let s = c .before .before .before .before .before .before .before .before .before .before .before .before .before .before in
+    let k = c .before .before .before in
+    let p = k .before .before .before .before .before .before .before in
+    let s = p .before .before .before .before in
     let a = s .args in
-    let p : refusalOf (restOf (a .card)) (length (a .m .now)) 0 ≡ 0 = sym (c .before .before .before .before .before .before .before .before .before .before .before .refusal .ensures) ∙ c .before .before .before .before .before .before .before .before .before .before .if1 .left in
-    let k : checkOf (a .m .now) (rules.pageOf (restOf (a .card)) 2) (sizeOf 2) (countersAt (a .card) 2 .taken) (a .card .play .count) ≡ Check.Broken (c .before .enum-told2 .given .0 .0) =
-    rw (c .before .before .before .before .before .before .before .before .before .virtqueue .ensures, c .before .before .before .before .before .queue-size .ensures, page-in (a .card) Output) at (sym (c .before .before .before .check-queue .ensures) ∙ c .before .enum-told2 .given .1) in
-    rw (c .broken-down .ensures) (play-broken (a .card) (a .m .now) (a .host .now) (s .pre) p _ k, broken-card-fit (a .card) (s .pre))
+    rw (c .broken-down .ensures) (
+      transfer-broken Output (a .card) (a .m .now) (a .host .now) (s .pre) (passed p) _ (sym (checks k) ∙ c .before .enum-told2 .given .1),
+      broken-card-fit (a .card) (s .pre),
+    )
 
 same-length-3 : tie.Need-same-length-3
 same-length-3 c = search needs
@@ -91,16 +102,18 @@ same-length-4 c = search needs
 
 returns-4 : tie.Need-returns-4
 returns-4 c =
-    let s = c .before .before .before .before .before .before .before .before .before .before .before .before .before .before .before .before .before .before .before .before .before .before in
+    let k = c .before .before .before .before .before .before .before .before .before .before .before in
+    let p = k .before .before .before .before .before .before .before in
+    let s = p .before .before .before .before in
     let a = s .args in
-    let p : refusalOf (restOf (a .card)) (length (a .m .now)) 0 ≡ 0 = sym (c .before .before .before .before .before .before .before .before .before .before .before .before .before .before .before .before .before .before .before .refusal .ensures) ∙ c .before .before .before .before .before .before .before .before .before .before .before .before .before .before .before .before .before .before .if1 .left in
-    let n = c .before .before .before .before .before .before .before .before .before .new .given .0 .0 in
-    let k : checkOf (a .m .now) (rules.pageOf (restOf (a .card)) 2) (sizeOf 2) (countersAt (a .card) 2 .taken) (a .card .play .count) ≡ Check.New n =
-    rw (c .before .before .before .before .before .before .before .before .before .before .before .before .before .before .before .before .before .virtqueue .ensures, c .before .before .before .before .before .before .before .before .before .before .before .before .before .queue-size .ensures, page-in (a .card) Output) at (sym (c .before .before .before .before .before .before .before .before .before .before .before .check-queue .ensures) ∙ c .before .before .before .before .before .before .before .before .before .new .given .1) in
-    let t = rw (c .before .before .before .before .before .before .before .before .before .before .before .before .before .before .before .before .before .virtqueue .ensures, page-in (a .card) Output, indirect-in (a .card) Output) at (c .before .before .before .before .before .play .ensures) in
+    let new = c .before .before .before .before .before .before .before .before .before .new in
+    let g = c .before .before .before .before .before .play in
+    let t = rw (k .before .before .before .before .before .before .virtqueue .ensures, virtqueue-in (a .card) Output) at (g .ensures) in
+    let fresh = fresh-run (countersAt (a .card) 2) (a .card .play) (a .m .now) (a .host .now) in
     rw (c .transferred .ensures) (
-      play-new (a .card) (a .m .now) (a .host .now) (s .pre) p n k _ _ (c .before .before .before .before .before .play .result) (t .run ∙ rw (fresh-run (countersAt (a .card) 2) (a .card .play) (a .m .now) (a .host .now))) (t .fit .inside) (t .host-long),
-      flowed-fit Output (c .before .before .before .before .before .play .result) (a .card) (s .pre) (rw (passed-length (a .card) (length (a .m .now)) 0 p) at (t .fit .message)),
+      transfer-new Output (a .card) (a .m .now) (a .host .now) (s .pre) (passed p) (new .given .0 .0) (sym (checks k) ∙ new .given .1)
+          _ _ (g .result) (t .run ∙ rw fresh) (t .fit .inside) (t .host-long),
+      flowed-fit Output (g .result) (a .card) (s .pre) (rw (passed-length (a .card) (length (a .m .now)) 0 (passed p)) at (t .fit .message)),
     )
 
 pub play-spec : {M : Type 1} → statement M

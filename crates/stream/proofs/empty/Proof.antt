@@ -3,7 +3,7 @@ use mathlib.Core.Path.{_≡_, _∙_, sym}
 use borrow.Author.Needs.{needs}
 use Rattle.message.specs.Card.{restOf}
 use Rattle.stream.proofs.Fits.{message-fit}
-use Rattle.stream.proofs.Laws.{page-in, indirect-in}
+use Rattle.stream.proofs.Laws.{virtqueue-in}
 use Rattle.stream.proofs.Outcomes.{checked, empties-idle, empties-broken, empties-new}
 use Rattle.stream.proofs.empty.Statement.{statement}
 use Rattle.stream.proofs.empty.Tie as tie
@@ -83,8 +83,7 @@ returns-3 c =
       c .before .before .before .before .before .before .before .before .before .before .before .message-of .ensures,
       c .before .before .before .before .before .before .before .before .before .before .before .before .counters-of .ensures,
       c .before .before .before .before .before .before .before .before .before .before .before .before .before .virtqueue .ensures,
-      page-in (a .card) (a .direction),
-      indirect-in (a .card) (a .direction),
+      virtqueue-in (a .card) (a .direction),
     ) at (f .ensures) in
     rw (c .with-flow .ensures)
     (empties-new (a .card) (a .direction) (a .m .now) (s .pre .0) (new .given .0 .0)

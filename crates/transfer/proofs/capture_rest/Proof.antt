@@ -6,6 +6,7 @@ use borrow.Author.Tests.{not-true, not-false}
 use lib.ListN.{length}
 use Rattle.rules.specs.Device as rules
 use Rattle.flow.specs.Flow.{runOf, FitFlow}
+use Rattle.message.specs.Message.{virtqueueAs}
 use Rattle.transfer.specs.Whiles.{restRun}
 use Rattle.transfer.proofs.Laws.{goes-idle}
 use Rattle.transfer.proofs.Rest.{rest-none, rest-stop, rest-more}
@@ -14,7 +15,7 @@ use Rattle.transfer.proofs.capture_rest.Tie as tie
 
 abbrev Inv-loop : tie.InvT-loop
 Inv-loop m₀ host q new g₀ left₀ m g left =
-    (restRun rules.input (q .page) (q .indirect) left (runOf g m host) ≡ restRun rules.input (q .page) (q .indirect) new (runOf g₀ m₀ host))
+    (restRun (virtqueueAs rules.input q) left (runOf g m host) ≡ restRun (virtqueueAs rules.input q) new (runOf g₀ m₀ host))
     × FitFlow (length m₀) (length host) g
     × (length m ≡ length m₀)
     × (length host ≡ length host)
@@ -36,7 +37,7 @@ returns c =
     let a = c .before .before .before .before .before .before .args in
     let l = c .before .before .before .loop in
     record {
-      run = sym (rest-stop rules.input (a .q .page) (a .q .indirect) (l .m) (a .host .now) (l .g) (l .left) (sym (c .before .transfer-more .ensures) ∙ not-true _ (c .if1 .taken))) ∙ l .inv .0;
+      run = sym (rest-stop (virtqueueAs rules.input (a .q)) (l .m) (a .host .now) (l .g) (l .left) (sym (c .before .transfer-more .ensures) ∙ not-true _ (c .if1 .taken))) ∙ l .inv .0;
       fit = l .inv .1;
       long = l .inv .2;
       host-long = l .inv .3;
@@ -66,7 +67,7 @@ loop-again c =
     let t = c .before .before .capture-turn .ensures in (
       rw (
         t .run,
-        ← (rest-more rules.input (a .q .page) (a .q .indirect) (l .m) (a .host .now) (l .g) (l .left) (l .left - 1) (omega (arith, c .before .before .before .before .before .before .loop-test .taken))
+        ← (rest-more (virtqueueAs rules.input (a .q)) (l .m) (a .host .now) (l .g) (l .left) (l .left - 1) (omega (arith, c .before .before .before .before .before .before .loop-test .taken))
             (sym (c .before .before .before .before .before .transfer-more .ensures) ∙ not-false _ (c .before .before .before .before .if1 .left))),
       )
           (l .inv .0),
@@ -83,7 +84,7 @@ returns-2 c =
     let a = c .before .before .before .before .args in
     let l = c .before .loop in
     record {
-      run = sym (rest-none rules.input (a .q .page) (a .q .indirect) (l .m) (a .host .now) (l .g) (l .left) (omega arith)) ∙ l .inv .0;
+      run = sym (rest-none (virtqueueAs rules.input (a .q)) (l .m) (a .host .now) (l .g) (l .left) (omega arith)) ∙ l .inv .0;
       fit = l .inv .1;
       long = l .inv .2;
       host-long = l .inv .3;

@@ -6,6 +6,7 @@ use borrow.Author.Tests.{not-true, not-false}
 use lib.ListN.{length}
 use Rattle.rules.specs.Device as rules
 use Rattle.flow.specs.Flow.{runOf, FitFlow}
+use Rattle.message.specs.Message.{virtqueueAs}
 use Rattle.transfer.specs.Whiles.{restRun}
 use Rattle.transfer.proofs.Laws.{goes-idle}
 use Rattle.transfer.proofs.Rest.{rest-none, rest-stop, rest-more}
@@ -14,7 +15,7 @@ use Rattle.transfer.proofs.play_rest.Tie as tie
 
 abbrev Inv-loop : tie.InvT-loop
 Inv-loop m₀ host₀ q new g₀ left₀ m host g left =
-    (restRun rules.output (q .page) (q .indirect) left (runOf g m host) ≡ restRun rules.output (q .page) (q .indirect) new (runOf g₀ m₀ host₀))
+    (restRun (virtqueueAs rules.output q) left (runOf g m host) ≡ restRun (virtqueueAs rules.output q) new (runOf g₀ m₀ host₀))
     × FitFlow (length m₀) (length host₀) g
     × (length m ≡ length m₀)
     × (length host ≡ length host₀)
@@ -39,7 +40,7 @@ returns c =
     let a = c .before .before .before .before .before .before .args in
     let l = c .before .before .before .loop in
     record {
-      run = sym (rest-stop rules.output (a .q .page) (a .q .indirect) (l .m) (l .host) (l .g) (l .left) (sym (c .before .transfer-more .ensures) ∙ not-true _ (c .if1 .taken))) ∙ l .inv .0;
+      run = sym (rest-stop (virtqueueAs rules.output (a .q)) (l .m) (l .host) (l .g) (l .left) (sym (c .before .transfer-more .ensures) ∙ not-true _ (c .if1 .taken))) ∙ l .inv .0;
       fit = l .inv .1;
       long = l .inv .2;
       host-long = l .inv .3;
@@ -69,7 +70,7 @@ loop-again c =
     let t = c .before .before .before .before .play-turn .ensures in (
       rw (
         t .run,
-        ← (rest-more rules.output (a .q .page) (a .q .indirect) (l .m) (l .host) (l .g) (l .left) (l .left - 1) (omega (arith, c .before .before .before .before .before .before .before .before .before .loop-test .taken))
+        ← (rest-more (virtqueueAs rules.output (a .q)) (l .m) (l .host) (l .g) (l .left) (l .left - 1) (omega (arith, c .before .before .before .before .before .before .before .before .before .loop-test .taken))
             (sym (c .before .before .before .before .before .before .before .before .transfer-more .ensures) ∙ not-false _ (c .before .before .before .before .before .before .before .if1 .left))),
       )
           (l .inv .0),
@@ -89,7 +90,7 @@ returns-2 c =
     let a = c .before .before .before .before .args in
     let l = c .before .loop in
     record {
-      run = sym (rest-none rules.output (a .q .page) (a .q .indirect) (l .m) (l .host) (l .g) (l .left) (omega arith)) ∙ l .inv .0;
+      run = sym (rest-none (virtqueueAs rules.output (a .q)) (l .m) (l .host) (l .g) (l .left) (omega arith)) ∙ l .inv .0;
       fit = l .inv .1;
       long = l .inv .2;
       host-long = l .inv .3;

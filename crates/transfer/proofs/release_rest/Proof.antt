@@ -6,7 +6,7 @@ use borrow.Author.Tests.{not-true, not-false}
 use lib.ListN.{length}
 use mathlib.Core.List.{List}
 use Rattle.card.specs.Fit.{FitMessage}
-use Rattle.message.specs.Message.{directionOf}
+use Rattle.message.specs.Message.{virtqueueIn, directionOf}
 use Rattle.flow.specs.Flow.{runOf}
 use Rattle.transfer.specs.Whiles.{releaseRest}
 use Rattle.transfer.proofs.Laws.{release-goes-idle}
@@ -16,8 +16,8 @@ use Rattle.transfer.proofs.release_rest.Tie as tie
 
 abbrev Inv-loop : tie.InvT-loop
 Inv-loop m₀ q new g₀ left₀ m g left =
-    ((host : List ℕ) → releaseRest (directionOf (q .direction)) (q .page) (q .indirect) left (runOf g m host)
-    ≡ releaseRest (directionOf (q .direction)) (q .page) (q .indirect) new (runOf g₀ m₀ host))
+    ((host : List ℕ) → releaseRest (virtqueueIn q) left (runOf g m host)
+    ≡ releaseRest (virtqueueIn q) new (runOf g₀ m₀ host))
     × FitMessage (length m₀) (g .message)
     × (length m ≡ length m₀)
     × (g .moved ≡ g₀ .moved)
@@ -39,7 +39,7 @@ returns c =
     let a = c .before .before .before .before .before .args in
     let l = c .before .before .before .loop in
     record {
-      run = λ host. sym (release-stop (directionOf (a .q .direction)) (a .q .page) (a .q .indirect) (l .m) host (l .g) (l .left) (sym (c .before .release-more .ensures) ∙ not-true _ (c .if1 .taken))) ∙ l .inv .0 host;
+      run = λ host. sym (release-stop (virtqueueIn (a .q)) (l .m) host (l .g) (l .left) (sym (c .before .release-more .ensures) ∙ not-true _ (c .if1 .taken))) ∙ l .inv .0 host;
       message = l .inv .1;
       moved = l .inv .3;
       long = l .inv .2;
@@ -63,7 +63,7 @@ loop-again c =
     let t = c .before .before .release-turn .ensures in (
       λ host. rw (
         t .run host,
-        ← (release-more (directionOf (a .q .direction)) (a .q .page) (a .q .indirect) (l .m) host (l .g) (l .left) (l .left - 1) (omega (arith, c .before .before .before .before .before .before .loop-test .taken))
+        ← (release-more (virtqueueIn (a .q)) (l .m) host (l .g) (l .left) (l .left - 1) (omega (arith, c .before .before .before .before .before .before .loop-test .taken))
             (sym (c .before .before .before .before .before .release-more .ensures) ∙ not-false _ (c .before .before .before .before .if1 .left))),
       )
           (l .inv .0 host),
@@ -80,7 +80,7 @@ returns-2 c =
     let a = c .before .before .before .args in
     let l = c .before .loop in
     record {
-      run = λ host. sym (release-none (directionOf (a .q .direction)) (a .q .page) (a .q .indirect) (l .m) host (l .g) (l .left) (omega arith)) ∙ l .inv .0 host;
+      run = λ host. sym (release-none (virtqueueIn (a .q)) (l .m) host (l .g) (l .left) (omega arith)) ∙ l .inv .0 host;
       message = l .inv .1;
       moved = l .inv .3;
       long = l .inv .2;

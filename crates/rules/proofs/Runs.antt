@@ -1,0 +1,268 @@
+-- The runs of a play and of a Release over the play queue's history: each step keeps what has been added so far, and that a message in
+-- work is well-formed.
+use mathlib.Core.Path.{_≡_, refl, sym, ap, _∙_}
+use mathlib.Core.Bool.{Bool, true, false, cond, _&&_, not, true≢false}
+use mathlib.Core.List.{List, [], _∷_, _++_}
+use Prim.Native.Nat.{ℕ, suc, _+_, _-_, _*_, _%_, _≤_, _<_}
+use native.Mathlib.Omega.{arith}
+use borrow.Author.Tests.{le-leb, ltb-true}
+use lib.Dec.{ltb}
+use lib.ListN.{length, drop, getD, length-append}
+use lib.Seq.{getD-append-seam}
+use Rattle.counts.specs.declared.PageNumber.{PageNumber}
+use Rattle.memory.specs.Bytes.{le}
+use Rattle.registers.specs.Map.{sizeOf}
+use Rattle.registers.proofs.Keeps.{by-cond}
+use Rattle.ring.specs.Rules.{baseOf, headAt}
+use Rattle.ring.specs.declared.Head.{Head}
+use Rattle.rules.specs.Account.{Adds, InOrder, memoryAfter}
+use Rattle.rules.specs.Claim.{Good, queueOf, card}
+use Rattle.rules.specs.Device.{output, Virtqueue, Form, wellFormed, refused, silent, unwalked, Taking, Ending, finished, released, illFormed}
+use Rattle.rules.specs.Histories as history
+use Rattle.rules.specs.Histories.{History, number, current, handedNow, waiting, took, noted}
+use Rattle.rules.specs.Transfer.{Ops, Run, begun, isNil, isWell, payloadOf, takingOf, completed, moved, settled, worked, givenUp, taking, entered, met, next, transferMore, releaseMore, transferRun, releaseRun}
+use Rattle.rules.proofs.Histories.{free, alike, nothing-left, took-busy}
+use Rattle.rules.proofs.Host.{loop-keeps}
+use Rattle.rules.proofs.Keeps.{same-number, none-left, took-good}
+use Rattle.rules.proofs.Lists.{nil-true}
+use Rattle.rules.proofs.Natural.{Moved, moved-keeps, moved-busy, moved-next, works-busy, worked-keeps, give-keeps, next-keeps, transfer-free, release-free, begun-moved}
+use Rattle.rules.proofs.Written.{v, ops, grows-none, Sofar, taking-sofar, moved-sofar, Fits, played, ended, ill, completed-sofar}
+
+-- the message in work, if any, is well-formed
+abbrev pub Well : History → Type 0
+Well q = free q ≡ false → current q .form ≡ wellFormed
+
+well-of : (f : Form) → isWell f ≡ true → f ≡ wellFormed
+well-of wellFormed e = refl
+well-of refused e = absurd (true≢false (sym e))
+well-of silent e = absurd (true≢false (sym e))
+well-of (unwalked fault) e = absurd (true≢false (sym e))
+
+module _ (page : PageNumber) (negotiated : Bool) (call : Ending) (m : List ℕ) (h : History) where
+  pub record Fair (s : Run History) : Type 0 where
+    pub sofar : Sofar page negotiated call m h s
+    pub well : Well (s .queue)
+
+  abbrev q : Virtqueue
+  q = v page negotiated
+
+  abbrev hs : Ops History
+  hs = ops page negotiated
+
+  -- no message is in work after a completion
+  completed-free : (w : List ℕ) (s : Run History) (e : Ending) → Good output w (s .queue) → free (completed hs q e s .queue) ≡ true
+  unfolding completed history.entered
+  completed-free w s e g =
+      rw length-append (le-leb (length (s .queue .takings)) (number (s .queue) + 1) (omega (arith, g .one)))
+
+  completed-fair :
+      (w : List ℕ) (s : Run History) (e : Ending)
+      → Good output w (s .queue)
+      → free (s .queue) ≡ false
+      → Fits page negotiated call m h e (current (s .queue) .form)
+      → (call ≡ finished → waiting output (s .queue) ≡ [])
+      → Sofar page negotiated call m h s
+      → Fair (completed hs q e s)
+  completed-fair w s e g busy fits spent f =
+      record {
+        sofar = completed-sofar page negotiated call m h w s g busy e fits spent f;
+        well = λ b. absurd (true≢false (sym (completed-free w s e g) ∙ b));
+      }
+
+  -- ---- the next entry
+
+  module _ (w : List ℕ) (s : Run History) (g : Good output w (s .queue)) (idle : free (s .queue) ≡ true) (t : Taking) where
+    taken-now : current (took output t (s .queue)) ≡ t
+    unfolding took
+    taken-now = rw (same-number output w (s .queue) g idle t, getD-append-seam)
+
+    -- an ill-formed message has nothing that waits
+    nothing-waits : isWell (t .form) ≡ false → waiting output (took output t (s .queue)) ≡ []
+    unfolding payloadOf
+    nothing-waits e = none-left output (took output t (s .queue)) (rw (taken-now, e) (omega arith))
+
+    entered-fair :
+        (Sofar page negotiated call m h (taking hs q t s)) → Fair (entered hs q t s)
+    unfolding entered
+    entered-fair f =
+        by-cond Fair (isWell (t .form)) (λ e. record { sofar = f; well = λ b. rw taken-now (well-of (t .form) e) })
+        (λ e.
+        completed-fair w (taking hs q t s) illFormed (took-good output w (s .queue) g idle t) (took-busy output w (s .queue) t g idle)
+        (rw taken-now (ill e refl)) (λ c. nothing-waits e) f)
+
+  next-fair : (w : List ℕ) (s : Run History) → Good output w (s .queue) → free (s .queue) ≡ true → Fair s → Fair (next hs q s)
+  unfolding next headAt sizeOf
+  next-fair w s g idle f =
+      let head : ℕ = le 2 (s .mem) (baseOf page + (4100 + 2 * (length (s .queue .takings) % 256))) in
+      by-cond (λ (x : Head). Fair (met hs q x s)) (ltb head 256)
+      (λ e.
+      entered-fair w s g idle (takingOf q (s .mem) head)
+      (taking-sofar page negotiated call m h w s g idle (takingOf q (s .mem) head) (f .sofar) refl (ltb-true head 256 e)))
+      (λ e. record { sofar = record { adds = f .sofar .adds; memory = f .sofar .memory; order = f .sofar .order }; well = f .well })
+
+  -- ---- at the start of a call
+
+  begun-fair : (host : List ℕ) → Well h → InOrder 0 (length (h .takings)) (h .notes) → Fair (begun h m host)
+  unfolding memoryAfter
+  begun-fair host well order =
+      let z : number h - number h ≡ 0 = omega arith in
+      record {
+        sofar =
+            record {
+              adds =
+                  record {
+                    takings = grows-none (h .takings);
+                    entries = grows-none (h .entries);
+                    notes = grows-none (h .notes);
+                    losses = grows-none (h .losses);
+                    took = λ k lo hi. absurd (omega arith);
+                    answered = λ k lo hi. absurd (omega arith);
+                    held = tt;
+                    handed = refl;
+                    kept = λ c. refl;
+                  };
+              memory = rw z;
+              order = order;
+            };
+        well = well;
+      }
+
+-- ---- a play
+
+module _ (page : PageNumber) (negotiated : Bool) (m : List ℕ) (h : History) (w host : List ℕ) where
+  abbrev vq : Virtqueue
+  vq = v page negotiated
+
+  abbrev over : Ops History
+  over = ops page negotiated
+
+  -- what the simulation keeps, and what was added so far
+  pub record Playing (s : Run History) : Type 0 where
+    pub kept : Moved over (card output) vq queueOf (Good output) (alike output) w host s
+    pub fair : Fair page negotiated finished m h s
+
+  module _ (s : Run History) (p : Playing s) (busy : free (s .queue) ≡ false) where
+    abbrev on : Run History
+    on = moved over vq s
+
+    on-kept : Moved over (card output) vq queueOf (Good output) (alike output) w host on
+    on-kept = moved-keeps over (card output) vq queueOf (Good output) (alike output) w host s (p .kept)
+
+    on-busy : free (on .queue) ≡ false
+    on-busy = moved-busy over (card output) vq queueOf (Good output) (alike output) w host s busy
+
+    on-fair : Fair page negotiated finished m h on
+    unfolding moved noted
+    on-fair =
+        record {
+          sofar = moved-sofar page negotiated finished m h (w ++ s .bytes) s (p .kept .kept) busy (p .fair .well busy) (p .fair .sofar);
+          well = p .fair .well;
+        }
+
+    settled-fair : Fair page negotiated finished m h (settled over vq on)
+    settled-fair =
+        by-cond (Fair page negotiated finished m h) (isNil (over .left (on .queue)))
+        (λ e.
+        completed-fair page negotiated finished m h (w ++ on .bytes) on finished (on-kept .kept) on-busy
+        (rw (on-fair .well on-busy) (played refl refl)) (λ c. nothing-left output (on .queue) (nil-true (over .left (on .queue)) e))
+        (on-fair .sofar))
+        (λ e. on-fair)
+
+  worked-playing : (s : Run History) → Playing s → Playing (worked over vq s)
+  worked-playing s p =
+      record {
+        kept = worked-keeps over (card output) vq queueOf (Good output) (alike output) w host s (p .kept);
+        fair =
+            by-cond (Fair page negotiated finished m h) (ltb 0 (s .room) && not (free (s .queue)))
+            (λ e. settled-fair s p (works-busy over (card output) vq queueOf (Good output) (alike output) w host s e)) (λ e. p .fair);
+      }
+
+  next-playing : (s : Run History) → Playing s → transferMore over vq s ≡ true → Playing (next over vq s)
+  next-playing s p e =
+      let idle = transfer-free over (card output) vq queueOf (Good output) (alike output) w host s e in
+      record {
+        kept = moved-next over (card output) vq queueOf (Good output) (alike output) w host s (p .kept) idle;
+        fair = next-fair page negotiated finished m h (w ++ s .bytes) s (p .kept .kept) idle (p .fair);
+      }
+
+  pub play-fair :
+      (k : ℕ)
+      → Good output w h
+      → Well h
+      → InOrder 0 (length (h .takings)) (h .notes)
+      → Playing (transferRun over vq k (begun h m host))
+  unfolding transferRun
+  play-fair k g well order =
+      loop-keeps Playing (worked over vq) (transferMore over vq) (next over vq) worked-playing next-playing k (begun h m host)
+      (record {
+        kept = begun-moved over (card output) vq queueOf (Good output) (alike output) w host h m g;
+        fair = begun-fair page negotiated finished m h host well order;
+      })
+
+-- ---- a Release
+
+released-not : released ≡ finished → ⊥
+released-not e = let z : _≡_ {A = ℕ} 0 1 = cc in omega arith
+
+module _ (page : PageNumber) (negotiated : Bool) (m : List ℕ) (h : History) (w : List ℕ) where
+  abbrev at : Virtqueue
+  at = v page negotiated
+
+  abbrev by : Ops History
+  by = ops page negotiated
+
+  -- .. and a Release hands nothing on
+  pub record Releasing (s : Run History) : Type 0 where
+    pub kept : Good output w (s .queue)
+    pub fair : Fair page negotiated released m h s
+    pub mute : s .bytes ≡ []
+
+  completed-mute : (e : Ending) (s : Run History) → s .bytes ≡ [] → completed by at e s .bytes ≡ []
+  unfolding completed
+  completed-mute e s b = b
+
+  met-mute : (x : Head) (s : Run History) → s .bytes ≡ [] → met by at x s .bytes ≡ []
+  unfolding entered
+  met-mute (Head.At n) s b =
+      let t : Taking = takingOf at (s .mem) (n .0) in
+      by-cond (λ (u : Run History). u .bytes ≡ []) (isWell (t .form)) {x = taking by at t s} {y = completed by at illFormed (taking by at t s)}
+      (λ e. b) (λ e. completed-mute illFormed (taking by at t s) b)
+  met-mute (Head.Broken cause) s b = b
+
+  next-mute : (s : Run History) → s .bytes ≡ [] → next by at s .bytes ≡ []
+  unfolding next
+  next-mute s b = met-mute (headAt (s .mem) page (sizeOf 2) (by .place (s .queue))) s b
+
+  give-releasing : (s : Run History) → Releasing s → Releasing (givenUp by at s)
+  give-releasing s p =
+      record {
+        kept = give-keeps by (card output) at queueOf (Good output) (alike output) (λ o. w) s (p .kept);
+        fair =
+            by-cond (Fair page negotiated released m h) (free (s .queue)) (λ e. p .fair)
+            (λ e.
+            completed-fair page negotiated released m h w s released (p .kept) e (rw (p .fair .well e) (ended refl refl))
+            (λ c. absurd (released-not c)) (p .fair .sofar));
+        mute =
+            by-cond (λ (u : Run History). u .bytes ≡ []) (free (s .queue)) {x = s} {y = completed by at released s} (λ e. p .mute)
+            (λ e. completed-mute released s (p .mute));
+      }
+
+  next-releasing : (s : Run History) → Releasing s → releaseMore by at s ≡ true → Releasing (next by at s)
+  next-releasing s p e =
+      let idle = release-free by (card output) at queueOf (Good output) (alike output) w s e in
+      record {
+        kept = next-keeps by (card output) at queueOf (Good output) (alike output) (λ o. w) s (p .kept) idle;
+        fair = next-fair page negotiated released m h w s (p .kept) idle (p .fair);
+        mute = next-mute s (p .mute);
+      }
+
+  pub release-fair :
+      (k : ℕ)
+      → Good output w h
+      → Well h
+      → InOrder 0 (length (h .takings)) (h .notes)
+      → Releasing (releaseRun by at k (begun h m []))
+  unfolding releaseRun
+  release-fair k g well order =
+      loop-keeps Releasing (givenUp by at) (releaseMore by at) (next by at) give-releasing next-releasing k (begun h m [])
+      (record { kept = g; fair = begun-fair page negotiated released m h [] well order; mute = refl })
