@@ -2,14 +2,14 @@
 -- to the play queue's history what is claimed of it (`turns`).
 use mathlib.Core.Path.{_≡_, refl, sym, ap, _∙_}
 use mathlib.Core.Bool.{Bool, true, false, cond}
-use mathlib.Core.List.{List, [], _∷_, _++_, map}
+use mathlib.Core.List.{List, [], _∷_, _++_}
 use mathlib.Core.Logic.{_⊎_, inl, inr}
 use mathlib.Core.Option.{some}
-use Prim.Native.Nat.{ℕ, _+_, _-_, _%_, _≤_, _<_}
+use Prim.Native.Nat.{ℕ, _+_, _-_}
 use native.Mathlib.Omega.{arith}
 use borrow.Author.Tests.{leb-true, leb-false}
 use lib.Dec.{leb}
-use lib.ListN.{length, drop, getD, length-drop, length-map, List·getD-eq-default}
+use lib.ListN.{length, drop, length-drop, length-map, List·getD-eq-default}
 use Rattle.description.specs.declared.Description.{Description}
 use Rattle.ranges.specs.Ranges.{total, places}
 use Rattle.ranges.proofs.Laws.{length-places}
@@ -23,9 +23,9 @@ use Rattle.message.specs.Card.{deviceOf}
 use Rattle.message.proofs.Steps.{power-start}
 use Rattle.rules.specs.Account.{takingAt, entryAt, startsAnew, Answers, finishedOk, releasedIoErr, illFormedIoErr, illFormedMute, Answered, Book}
 use Rattle.rules.specs.Calls.{Call, Told, Step, step}
-use Rattle.rules.specs.Claim.{start, after, clears, countFor, bytesFor, heard, counted, Good, queueOf, shownAs, card, account}
+use Rattle.rules.specs.Claim.{start, after, countFor, bytesFor, heard, counted, Good, queueOf, shownAs, card, account}
 use Rattle.rules.specs.Device.{Direction, output, Taking, Ending, finished, released, illFormed, Device, Queue}
-use Rattle.rules.specs.Histories.{History, unanswered, number, lostOf}
+use Rattle.rules.specs.Histories.{History, unanswered, number}
 use Rattle.rules.specs.Numbers.{sIoErr}
 use Rattle.rules.specs.Transfer.{isWell, payloadOf}
 use Rattle.rules.proofs.Anew.{anew-clears}

@@ -1,3 +1,3 @@
--- Demand 3 of the entries.
+-- The entries' calls follow the rules and the account; demand 3.
 pub mod Tied
 pub mod Demand3

@@ -1,5 +1,5 @@
--- Demand 3 of the entries: a list of calls, each doing what `call` promises, tells and leaves what the rules' card does, by induction,
--- and so what the account does, by `demand-3`.
+-- A list of calls, each doing what `call` promises, tells and leaves what the rules' card does, by induction, and so what the account
+-- does, by `holds`.
 use mathlib.Core.Path.{_≡_, refl, _∙_, ap}
 use mathlib.Core.Bool.{Bool, true, false}
 use mathlib.Core.List.{List, _∷_}
@@ -16,7 +16,7 @@ use Rattle.message.specs.Card.{deviceOf}
 use Rattle.message.proofs.Steps.{power-start}
 use Rattle.rules.specs.Calls.{Call, Told}
 use Rattle.rules.specs.Claim.{start, toldBy, after, card}
-use Rattle.rules.proofs.Theorem.{demand-3}
+use Rattle.rules.proofs.Theorem.{holds}
 use Rattle.calls.specs.Tied.{Runs, none, next, Follows, Tied}
 
 -- ---- from any fit card
@@ -54,5 +54,5 @@ pub tied :
 tied d len p (e, f) ok cs ts last r =
     let s : deviceOf (p .card) ≡ start card d len = rw e (power-start d len (powered-lawful d len (rw e at ok))) in
     let g : Follows (start card d len) cs ts last = rw s at (runs-from (p .card) cs ts last f r) in
-    let h = demand-3 d len cs in
+    let h = holds d len cs in
     record { follows = g; account-told = g .told ∙ h .same; stands = g .state ∙ h .stands; claim = h }

@@ -1,4 +1,4 @@
--- Demand 3 of the entries: any list of calls from the card that `card::power_up` gives. `Tied` is the claim; the theorem is `tied`
+-- Any list of calls from the card that `card::power_up` gives, by the rules and by the account. `Tied` is the claim; the theorem is `tied`
 -- of proofs/Tied.
 use mathlib.Core.Path.{_≡_}
 use mathlib.Core.List.{List, [], _∷_}

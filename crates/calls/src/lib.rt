@@ -1,4 +1,5 @@
-// Any call of the monitor on a card. What it promises is what demand 3 is proved of (proofs/Tied).
+// Any call of the monitor on a card. What it promises is what demand 3 is proved of
+// (proofs/Demand3).
 ghost use mathlib.Core.Path.{_≡_};
 ghost use Rattle.card.specs.Fit.{Fit};
 ghost use Rattle.calls.specs.Calls.{callOf, toldOf, hostOf, queueOutcome, Does};

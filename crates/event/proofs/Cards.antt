@@ -18,7 +18,7 @@ use Rattle.card.specs.declared.Card.{Card}
 use Rattle.card.specs.declared.Jack.{Jack}
 use Rattle.rules.specs.Calls.{Result, Step, Event, ended, refused, withConnected, admitted, eventAllowed, recorded, eventOf}
 use Rattle.rules.specs.Control.{noJack}
-use Rattle.rules.specs.Device.{Rest, Device, Queue, output, withJacks, streamAt}
+use Rattle.rules.specs.Device.{Rest, Device, Queue, withJacks, streamAt}
 use Rattle.rules.specs.Numbers.{jackConnected, jackDisconnected, eventQueue}
 use Rattle.message.specs.Card.{restOf, deviceOf, stepOf, leaves}
 use Rattle.event_queue.specs.Attempts.{holding, resultIn, sentOf}

@@ -1,5 +1,5 @@
 -- The host buffer after a transfer: the bytes moved in front, the rest as it was.
-use mathlib.Core.Path.{_≡_, sym}
+use mathlib.Core.Path.{_≡_}
 use mathlib.Core.List.{List}
 use Prim.Native.Nat.{ℕ, _≤_}
 use native.Mathlib.Nat.{zero-add}

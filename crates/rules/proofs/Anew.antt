@@ -4,7 +4,7 @@ use mathlib.Core.Path.{_≡_, refl, sym, _∙_}
 use mathlib.Core.Bool.{Bool, true, false, cond, _&&_, _||_, not}
 use Prim.Native.Nat.{ℕ, _+_, _-_, _^_}
 use native.Mathlib.Decide.{ℕ-discrete}
-use borrow.Author.Tests.{eq-eqb, ne-eqb}
+use borrow.Author.Tests.{ne-eqb}
 use lib.Dec.{eqb, leb, ltb}
 use Rattle.registers.specs.Map.{registerAt, configAt}
 use Rattle.registers.specs.Rules.{writeOf, writeRegister, wroteFeatures, wrotePage, wroteSelector, wroteNotify, wroteStatus, driverOk, wrote, withPage}
@@ -12,7 +12,7 @@ use Rattle.registers.specs.declared.Effect.{Effect}
 use Rattle.registers.specs.declared.Registers.{Registers}
 use Rattle.registers.specs.declared.Written.{Written}
 use Rattle.register_map.specs.declared.Register.{Register}
-use Rattle.register_map.specs.declared.Register.the-variants.{HostFeatures, GuestFeatures, QueuePfn, QueueNum, QueueSel, QueueNotify, Status, Isr, DeviceConfig, Absent}
+use Rattle.register_map.specs.declared.Register.the-variants.{GuestFeatures, QueuePfn, QueueSel, QueueNotify, Status, DeviceConfig, Absent}
 use Rattle.registers.proofs.Keeps.{by-cond}
 use Rattle.rules.specs.Account.{startsAnew}
 use Rattle.rules.specs.Calls.{Request, ReadRegister, WriteRegister, Control, Play, Capture, Event, clearsQueue}

@@ -1,8 +1,8 @@
 -- A transfer and the host's bytes: what is left of the host buffer is its part past the bytes moved, and the room is its length.
-use mathlib.Core.Path.{_≡_, refl, ap}
-use mathlib.Core.Bool.{Bool, true, cond, _&&_, not}
-use mathlib.Core.List.{List, _++_}
-use Prim.Native.Nat.{ℕ, zero, suc, _+_, _-_, _≤_}
+use mathlib.Core.Path.{_≡_, refl}
+use mathlib.Core.Bool.{Bool, true, _&&_, not}
+use mathlib.Core.List.{List}
+use Prim.Native.Nat.{ℕ, zero, suc, _-_, _≤_}
 use native.Mathlib.Omega.{arith}
 use lib.Dec.{ltb}
 use lib.ListN.{length, take, drop, length-append, length-take, length-drop, length-map}
@@ -12,7 +12,7 @@ use Rattle.ring.specs.Rules.{headAt}
 use Rattle.ring.specs.declared.Head.{Head}
 use Rattle.rules.specs.Device.{Direction, output, input, Virtqueue, queueSize, Taking, Ending, finished, illFormed}
 use Rattle.rules.specs.Loop.{loop}
-use Rattle.rules.specs.Transfer.{Ops, Run, begun, isNil, isWell, bytesMoved, takingOf, completed, moved, settled, worked, taking, entered, met, next, transferMore, transferRun}
+use Rattle.rules.specs.Transfer.{Ops, Run, begun, isNil, isWell, bytesMoved, takingOf, completed, moved, worked, taking, entered, met, next, transferMore, transferRun}
 
 -- what every step of a loop keeps, the loop keeps
 pub loop-keeps :

@@ -1,4 +1,4 @@
--- Demand 3: cases and lists; what each change of a history keeps; that the rules, and with them the calls, run alike over any two ways
+-- Below demand 3: cases and lists; what each change of a history keeps; that the rules, and with them the calls, run alike over any two ways
 -- of keeping the play queue; that histories and counters are two such; the theorem; and what follows from it, and from the account
 -- alone, in a reader's words.
 pub mod Cases

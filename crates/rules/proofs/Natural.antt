@@ -13,7 +13,7 @@ use Rattle.ring.specs.Rules.{headAt, indexOf}
 use Rattle.ring.specs.declared.Check.{Check}
 use Rattle.ring.specs.declared.Head.{Head}
 use Rattle.rules.specs.Calls.{Emptied, emptiedBy, emptiedFound, emptied, Transferred, transferredBy}
-use Rattle.rules.specs.Device.{Direction, output, input, Virtqueue, queueSize, Taking, Ending, finished, released, illFormed}
+use Rattle.rules.specs.Device.{Direction, Virtqueue, queueSize, Taking, Ending, finished, released, illFormed}
 use Rattle.rules.specs.Loop.{loop}
 use Rattle.rules.specs.Transfer.{Ops, Run, isWell, isNil, payloadOf, takingOf, begun, completed, bytesMoved, moved, settled, worked, givenUp, taking, entered, met, next, transferMore, releaseMore, transferRun, releaseRun, found}
 use Rattle.rules.proofs.Cases.{map-cond}

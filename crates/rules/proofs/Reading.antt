@@ -3,7 +3,6 @@
 use mathlib.Core.Path.{_≡_, refl, ap}
 use mathlib.Core.Bool.{cond}
 use mathlib.Core.List.{List, [], _∷_, _++_, append-nil}
-use mathlib.Core.Option.{some}
 use Prim.Native.Nat.{ℕ, zero, suc, _+_, _≤_, _<_}
 use native.Mathlib.Omega.{arith}
 use native.Mathlib.Decide.{ℕ-discrete}
@@ -11,16 +10,11 @@ use borrow.Author.Tests.{eq-eqb, ne-eqb}
 use lib.Dec.{eqb}
 use lib.ListN.{length, getD}
 use lib.Seq.{take-length}
-use Rattle.description.specs.declared.Description.{Description}
 use Rattle.ranges.specs.Ranges.{upFrom}
 use Rattle.ranges.proofs.Laws.{length-upFrom}
-use Rattle.rules.specs.Calls.{Call}
-use Rattle.rules.specs.Claim.{start, after, Good, waitingOf, payloadAt, account}
+use Rattle.rules.specs.Claim.{Good, waitingOf, payloadAt}
 use Rattle.rules.specs.Device.{Direction, Ending, finished, released, illFormed}
 use Rattle.rules.specs.Histories.{History, unanswered, handedOf, readOf, lostOf, number}
-use Rattle.rules.specs.Numbers.{sIoErr}
-use Rattle.rules.specs.Transfer.{statusOf}
-use Rattle.rules.proofs.Theorem.{demand-3}
 
 -- ---- how often p stands in a list
 

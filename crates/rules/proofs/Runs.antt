@@ -1,13 +1,13 @@
 -- The runs of a play and of a Release over the play queue's history: each step keeps what has been added so far, and that a message in
 -- work is well-formed.
-use mathlib.Core.Path.{_≡_, refl, sym, ap, _∙_}
-use mathlib.Core.Bool.{Bool, true, false, cond, _&&_, not, true≢false}
-use mathlib.Core.List.{List, [], _∷_, _++_}
-use Prim.Native.Nat.{ℕ, suc, _+_, _-_, _*_, _%_, _≤_, _<_}
+use mathlib.Core.Path.{_≡_, refl, sym, _∙_}
+use mathlib.Core.Bool.{Bool, true, false, _&&_, not, true≢false}
+use mathlib.Core.List.{List, [], _++_}
+use Prim.Native.Nat.{ℕ, _+_, _-_, _*_, _%_}
 use native.Mathlib.Omega.{arith}
 use borrow.Author.Tests.{le-leb, ltb-true}
 use lib.Dec.{ltb}
-use lib.ListN.{length, drop, getD, length-append}
+use lib.ListN.{length, length-append}
 use lib.Seq.{getD-append-seam}
 use Rattle.counts.specs.declared.PageNumber.{PageNumber}
 use Rattle.memory.specs.Bytes.{le}
@@ -15,11 +15,11 @@ use Rattle.registers.specs.Map.{sizeOf}
 use Rattle.registers.proofs.Keeps.{by-cond}
 use Rattle.ring.specs.Rules.{baseOf, headAt}
 use Rattle.ring.specs.declared.Head.{Head}
-use Rattle.rules.specs.Account.{Adds, InOrder, memoryAfter}
+use Rattle.rules.specs.Account.{InOrder, memoryAfter}
 use Rattle.rules.specs.Claim.{Good, queueOf, card}
 use Rattle.rules.specs.Device.{output, Virtqueue, Form, wellFormed, refused, silent, unwalked, Taking, Ending, finished, released, illFormed}
 use Rattle.rules.specs.Histories as history
-use Rattle.rules.specs.Histories.{History, number, current, handedNow, waiting, took, noted}
+use Rattle.rules.specs.Histories.{History, number, current, waiting, took, noted}
 use Rattle.rules.specs.Transfer.{Ops, Run, begun, isNil, isWell, payloadOf, takingOf, completed, moved, settled, worked, givenUp, taking, entered, met, next, transferMore, releaseMore, transferRun, releaseRun}
 use Rattle.rules.proofs.Histories.{free, alike, nothing-left, took-busy}
 use Rattle.rules.proofs.Host.{loop-keeps}

@@ -1,4 +1,4 @@
--- Demand 3: for every list of calls the card's answers, counts, bytes, host buffers and memories are the account's, and what is
+-- For every list of calls the card's answers, counts, bytes, host buffers and memories are the account's, and what is
 -- claimed of the account's histories holds. The laws about runs start from any good state, so that they serve a resumed card too.
 use mathlib.Core.Path.{_≡_, refl, ap}
 use mathlib.Core.Bool.{cond}
@@ -98,8 +98,8 @@ pub start-good : (d : Description) (len : ℕ) → Goods unsaid (start account d
 start-good d len output = alike output .empty-keeps
 start-good d len input = alike input .empty-keeps
 
-pub demand-3 : (d : Description) (len : ℕ) (cs : List Call) → Holds d len cs
-demand-3 d len cs =
+pub holds : (d : Description) (len : ℕ) (cs : List Call) → Holds d len cs
+holds d len cs =
     let e = start-good d len in
     let g = run-good cs unsaid (start account d len) e in
     record {

@@ -1,15 +1,15 @@
 -- Each call does to the play queue's account what is claimed of it: by its checks it adds nothing, or runs over the new entries.
-use mathlib.Core.Path.{_≡_, refl, sym, ap, _∙_}
+use mathlib.Core.Path.{_≡_, refl, sym, _∙_}
 use mathlib.Core.Bool.{Bool, true, false, cond, _&&_, true≢false}
 use mathlib.Core.List.{List, []}
 use mathlib.Core.Logic.{_⊎_, inl, inr}
 use mathlib.Core.Option.{Option, none, some}
-use Prim.Native.Nat.{ℕ, _≤_, _<_}
+use Prim.Native.Nat.{ℕ, _<_}
 use native.Mathlib.Decide.{ℕ-discrete}
 use native.Mathlib.Omega.{arith}
-use borrow.Author.Tests.{eq-eqb, ne-eqb, leb-true, leb-false, lt-leb}
+use borrow.Author.Tests.{ne-eqb, leb-true, leb-false, lt-leb}
 use lib.Dec.{eqb, leb}
-use lib.ListN.{length, getD, List·getD-append}
+use lib.ListN.{length, List·getD-append}
 use Rattle.counts.specs.declared.PageNumber.{PageNumber}
 use Rattle.registers.specs.Answers.{done, lengthDiffers, notLive, notRunning}
 use Rattle.registers.specs.Map.{sizeOf}
@@ -17,16 +17,14 @@ use Rattle.registers.specs.Rules.{live, writeOf, signalled}
 use Rattle.registers.specs.declared.Registers.{Registers}
 use Rattle.ring.specs.declared.Check.{Check}
 use Rattle.rules.specs.Account.{takingAt, entryAt, entriesWritten, Answered, Adds, ifNew, ordersRelease, addsBy, startsAnew, releaseReplied, Turn, Book, end}
-use Rattle.rules.specs.Calls.{Request, ReadRegister, WriteRegister, Control, Play, Capture, Event, Call, Told, Order, Done, ReleaseFirst, Pending, Emptied, emptiedFound, emptied, indirect, virtqueueOf, clearsQueue, orderOf, replied, releasedOf, Transferred, untouched, isRunning, transferFound, transferred, readStep, writeStep, releaseStep, transferStep, ordered, asked, step}
+use Rattle.rules.specs.Calls.{Request, ReadRegister, WriteRegister, Control, Play, Capture, Event, Call, Told, Order, Done, ReleaseFirst, Pending, Emptied, emptiedFound, emptied, indirect, virtqueueOf, clearsQueue, orderOf, replied, releasedOf, Transferred, untouched, isRunning, transferFound, transferred, readStep, writeStep, releaseStep, transferStep, ordered, asked}
 use Rattle.rules.specs.Claim.{Good, clears, account}
-use Rattle.rules.specs.Device.{Direction, output, input, Ending, finished, released, Rest, Device, directionOf, queueFor, pageOf, bytesOf}
+use Rattle.rules.specs.Device.{output, Ending, finished, released, Rest, Device, pageOf, bytesOf}
 use Rattle.rules.specs.Histories.{History, blank, number}
 use Rattle.rules.specs.Numbers.{playQueue}
-use Rattle.rules.specs.Transfer.{Run, begun, found, transferRun, releaseRun}
+use Rattle.rules.specs.Transfer.{Run, found}
 use Rattle.rules.proofs.Anew.{anew-clears}
-use Rattle.rules.proofs.Histories.{free}
 use Rattle.rules.proofs.Runs.{Well, Fair, play-fair, release-fair}
-use Rattle.rules.proofs.Written.{grows-length}
 
 -- a call that adds nothing is none that adds, and a play is no Release
 none-some : (e : Ending) → _≡_ {A = Option Ending} none (some e) → ⊥

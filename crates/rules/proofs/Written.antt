@@ -2,26 +2,25 @@
 -- left, a byte handed on too, and a completion writes its entry behind them.
 use mathlib.Core.Path.{_≡_, refl, sym, ap, _∙_}
 use mathlib.Core.Bool.{Bool, true, false, true≢false}
-use mathlib.Core.List.{List, [], _∷_, _++_, map, append-nil, append-assoc, map-append}
+use mathlib.Core.List.{List, [], _∷_, _++_, append-nil, append-assoc, map-append}
 use mathlib.Core.Option.{Option, none, some}
 use Prim.Native.Nat.{ℕ, zero, suc, _+_, _-_, _*_, _%_, _≤_, _<_}
 use native.Mathlib.Decide.{ℕ-discrete}
 use native.Mathlib.Nat.{le-refl}
-use native.Mathlib.Numerals.{add-one}
 use native.Mathlib.Omega.{arith}
-use borrow.Author.Tests.{leb-true, leb-false}
-use lib.ListN.{length, take, drop, getD, length-append, length-take, length-drop, length-map}
+use borrow.Author.Tests.{leb-false}
+use lib.ListN.{length, take, drop, getD, length-append, length-take, length-map}
 use lib.Seq.{getD-append-seam, getD-take, getD-drop, drop-drop}
 use Rattle.counts.specs.declared.PageNumber.{PageNumber}
 use Rattle.memory.specs.Bytes.{le}
 use Rattle.ranges.specs.Ranges.{places, bytesAt}
 use Rattle.registers.specs.Map.{sizeOf}
 use Rattle.ring.specs.Rules.{baseOf, postedAt}
-use Rattle.rules.specs.Account.{takingAt, entryAt, Grows, Each, statusWritten, written, memoryAfter, entriesWritten, Held, isSilent, Answers, finishedOk, releasedIoErr, illFormedIoErr, illFormedMute, Answered, Adds, InOrder, end, next}
+use Rattle.rules.specs.Account.{takingAt, entryAt, Grows, Each, statusWritten, written, memoryAfter, entriesWritten, Held, Answers, finishedOk, releasedIoErr, illFormedIoErr, illFormedMute, Answered, Adds, InOrder, end, next}
 use Rattle.rules.specs.Claim.{Good}
 use Rattle.rules.specs.Device.{output, Virtqueue, Form, wellFormed, refused, silent, unwalked, Taking, Ending, finished, released, illFormed}
 use Rattle.rules.specs.Histories as history
-use Rattle.rules.specs.Histories.{Entry, Note, Loss, History, number, current, handedNow, waiting, took, noted, notesOf, lossesOf, historiesOf}
+use Rattle.rules.specs.Histories.{Entry, Note, History, number, current, handedNow, waiting, took, noted, notesOf, lossesOf, historiesOf}
 use Rattle.rules.specs.Transfer.{Ops, Run, isWell, payloadOf, statusOf, withStatus, usedLength, takingOf, completed, moved, taking}
 use Rattle.rules.proofs.Histories.{free}
 use Rattle.rules.proofs.Keeps.{same-number}

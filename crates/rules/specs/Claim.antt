@@ -1,5 +1,6 @@
--- Demand 3 (01, The play queue's account): one claim about any list of calls from power-up, refused ones included, the guest
--- rewriting memory between calls and changing its length. `Holds` is the claim; the theorem is `demand-3` of proofs/Theorem.
+-- The card and the account run alike over any list of calls from power-up, refused ones included, the guest rewriting memory between
+-- calls and changing its length; and what holds of the histories of either stream queue (`Good`). Demand 3 stands on it
+-- (calls/specs/Demand3). `Holds` is the claim; the theorem is `holds` of proofs/Theorem.
 use mathlib.Core.Path.{_≡_}
 use mathlib.Core.Bool.{Bool, true, false, cond}
 use mathlib.Core.List.{List, [], _∷_, _++_, map}

@@ -2,7 +2,7 @@
 use mathlib.Core.Path.{_≡_, _∙_, sym, refl}
 use native.Mathlib.Omega.{arith}
 use borrow.Author.Needs.{needs}
-use Rattle.message.specs.Message.{virtqueueIn, directionOf}
+use Rattle.message.specs.Message.{virtqueueIn}
 use Rattle.flow.proofs.Laws.{given-none, given-one}
 use Rattle.flow.proofs.give_up.Statement.{statement}
 use Rattle.flow.proofs.give_up.Tie as tie

@@ -2,7 +2,7 @@
 use mathlib.Core.Path.{_≡_, _∙_, sym, refl}
 use native.Mathlib.Omega.{arith}
 use borrow.Author.Needs.{needs}
-use Rattle.message.specs.Message.{virtqueueIn, directionOf}
+use Rattle.message.specs.Message.{virtqueueIn}
 use Rattle.flow.proofs.Laws.{settled-now, settled-later}
 use Rattle.flow.proofs.settle.Statement.{statement}
 use Rattle.flow.proofs.settle.Tie as tie

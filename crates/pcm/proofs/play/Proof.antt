@@ -1,5 +1,5 @@
 -- Each check, then the queue, then its entries: each outcome is the rules' step.
-use mathlib.Core.Path.{_≡_, _∙_, sym, refl}
+use mathlib.Core.Path.{_≡_, _∙_, sym}
 use borrow.Author.Needs.{needs}
 use lib.ListN.{length}
 use Rattle.card.specs.Fit.{FitMessage}

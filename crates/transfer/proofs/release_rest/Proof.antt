@@ -6,7 +6,7 @@ use borrow.Author.Tests.{not-true, not-false}
 use lib.ListN.{length}
 use mathlib.Core.List.{List}
 use Rattle.card.specs.Fit.{FitMessage}
-use Rattle.message.specs.Message.{virtqueueIn, directionOf}
+use Rattle.message.specs.Message.{virtqueueIn}
 use Rattle.flow.specs.Flow.{runOf}
 use Rattle.transfer.specs.Whiles.{releaseRest}
 use Rattle.transfer.proofs.Laws.{release-goes-idle}
