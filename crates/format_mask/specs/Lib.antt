@@ -1,0 +1,2 @@
+-- Masks of formats, bit by bit.
+pub mod Mask

@@ -1,0 +1,2 @@
+-- Laws of fractions.
+pub mod Laws
