@@ -61,6 +61,10 @@ records-joined a b h =
 
 -- ---- blocks
 
+pub taken-none : (i : Input) → i .bytes < 2 ^ 64 → i ≡ taken i []
+unfolding records
+taken-none i h = let n : (i .bytes + 0) % 2 ^ 64 ≡ i .bytes = omega arith in rw n
+
 pub taken-joined : (i : Input) (a b : List ℕ) → length a % 8 ≡ 0 → taken (taken i a) b ≡ taken i (a ++ b)
 taken-joined i a b h =
     let n : ((i .bytes + length a) % 2 ^ 64 + length b) % 2 ^ 64 ≡ (i .bytes + (length a + length b)) % 2 ^ 64 = omega arith in

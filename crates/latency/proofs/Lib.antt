@@ -1,0 +1,4 @@
+-- Laws of texts and of the report.
+pub mod Texts
+pub mod Decimals
+pub mod Reports

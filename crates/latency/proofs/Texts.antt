@@ -1,0 +1,35 @@
+-- Laws of texts that are put together byte by byte.
+use mathlib.Core.Path.{_≡_, refl, sym, _∙_, ap}
+use mathlib.Core.List.{List, [], _∷_, _++_, foldl, append-nil, append-assoc}
+use Prim.Native.Nat.{ℕ, _+_, _≤_, _<_}
+use native.Mathlib.Numerals.{add-one}
+use native.Mathlib.Omega.{arith}
+use borrow.Author.Tests.{lt-ltb}
+use lib.ListN.{length, getD, take, drop, set, drop-of-length-le, length-set}
+use lib.Seq.{drop-cons, take-suc-set}
+use Rattle.latency.specs.Text.{noText, withByte, collected, kept}
+use Rattle.latency.specs.declared.text.Text.{Text}
+
+-- ---- a fold over the bytes from a place on
+
+module _ {A : Type 0} (f : A → ℕ → A) (a : A) (s : List ℕ) (i : ℕ) where
+  pub fold-more : i < length s → foldl f a (drop i s) ≡ foldl f (f a (getD s i 0)) (drop (i + 1) s)
+  fold-more h = rw (add-one, drop-cons s i 0 h)
+
+  pub fold-end : length s ≤ i → foldl f a (drop i s) ≡ a
+  fold-end h = rw (drop-of-length-le s h)
+
+-- ---- a text that fits is kept whole
+
+kept-fold : (s : List ℕ) (t : Text) → length (t .bytes) ≡ 256 → t .count + length s ≤ 256 → kept (foldl withByte t s) ≡ kept t ++ s
+unfolding withByte
+kept-fold [] t long h = sym (append-nil (kept t))
+kept-fold (b ∷ s) t long h =
+    let next : Text = record { bytes = set (t .bytes) (t .count) b; count = t .count + 1 } in
+    let e : withByte t b ≡ next = rw (lt-ltb (t .count) 256 (omega arith)) in
+    ap (λ (x : Text). kept (foldl withByte x s)) e
+    ∙ kept-fold s next (length-set (t .bytes) (t .count) b ∙ long) (omega arith)
+    ∙ rw (add-one, take-suc-set (t .bytes) (t .count) b (omega arith), append-assoc)
+
+pub kept-collected : (s : List ℕ) → length s ≤ 256 → kept (collected s) ≡ s
+kept-collected s h = kept-fold s noText refl (omega arith)

@@ -1,0 +1,102 @@
+// Standard input, read block by block, and the report of it.
+ghost use mathlib.Core.Path.{_≡_};
+ghost use mathlib.Core.List.{List};
+ghost use Prim.Native.Nat.{_≤_};
+ghost use lib.ListN.{length, take};
+ghost use Rattle.latency_tally.specs.Tally.{opened, taken};
+ghost use Rattle.latency.specs.Reading.{Bytes, Behind, Reported, Answered};
+use crate::MOST;
+use crate::Text;
+use latency_tally::Input;
+use libc::STDIN_FILENO;
+use libc::STDOUT_FILENO;
+
+// The input after a block, and how many bytes the block had.
+struct Turn {
+    input: Input,
+    count: usize,
+}
+
+// The first bytes: what the read left in the buffer.
+fn read_head(buffer: &mut [u8]) -> Turn
+    ensures { λ r. ⌜ r .count ≤ length (now (buffer .exit)) ⌝ }
+    ensures { λ r. ⌜ Bytes (now (buffer .exit)) ⌝ }
+    ensures { λ r. ⌜ r .input ≡ opened (take (r .count) (now (buffer .exit))) ⌝ }
+{
+    let count = io::read_full(STDIN_FILENO, buffer);
+    Turn {
+        input: latency_tally::open(&buffer[..count]),
+        count: count,
+    }
+}
+
+// One block behind them.
+fn read_block(input: Input, buffer: &mut [u8]) -> Turn
+    ensures { λ r. ⌜ r .count ≤ length (now (buffer .exit)) ⌝ }
+    ensures { λ r. ⌜ Bytes (now (buffer .exit)) ⌝ }
+    ensures { λ r. ⌜ r .input ≡ taken input (take (r .count) (now (buffer .exit))) ⌝ }
+{
+    let count = io::read_full(STDIN_FILENO, buffer);
+    Turn {
+        input: latency_tally::take_block(input, &buffer[..count]),
+        count: count,
+    }
+}
+
+// The records behind the mask. A block that is not full is the last; past the limit nothing more is
+// read.
+fn read_records(opened: Input) -> Input
+    requires { ⌜ opened .bytes ≡ 8 ⌝ }
+    ensures { λ r. ⌜ Behind opened r ⌝ }
+{
+    let mut buffer = io::large_buffer();
+    let mut input = opened;
+    while input.bytes <= MOST {
+        let turn = read_block(input, &mut buffer);
+        input = turn.input;
+        if turn.count < 65536 {
+            return input;
+        }
+    }
+    input
+}
+
+// The mask, and what stands behind it.
+fn read_input() -> Input
+    ensures { λ r. ⌜ Reported r ⌝ }
+{
+    let mut head = [0u8; 8];
+    let turn = read_head(&mut head);
+    let opened = turn.input;
+    if turn.count < 8 {
+        return opened;
+    }
+    read_records(opened)
+}
+
+// The first `count` bytes of `s`, or all of `s` where it has no more, written out.
+fn write(s: &[u8], count: usize) {
+    if s.len() <= count {
+        io::write_all(STDOUT_FILENO, s);
+        return;
+    }
+    io::write_all(STDOUT_FILENO, &s[..count]);
+}
+
+// A text, handed to standard output.
+pub fn print(text: Text) {
+    let bytes = text.bytes;
+    write(&bytes, text.count);
+}
+
+// What is printed.
+fn answer() -> Text
+    ensures { λ r. ⌜ Answered r ⌝ }
+{
+    crate::report(read_input())
+}
+
+// The whole program.
+pub fn run() {
+    print(answer());
+}
