@@ -43,8 +43,8 @@ linesText n t mask = countsText n t ++ latenciesText t ++ maskText mask
 unfoldable pub refusalText : ℕ → List ℕ
 refusalText n = field n 10
 
--- "Refusals, in order: 50 mask missing, 51 too many (any byte past the millionth record), 52 last record cut", for an input of so many bytes:
--- 8 of the mask, 8 of each record
+-- "Refusals, in order: 50 mask missing, 51 too many (any byte past the millionth record), 52 last record cut": of an input of so many
+-- bytes, 8 of the mask and 8 of each record
 unfoldable pub judged : ℕ → List ℕ → List ℕ
 judged bytes text =
     cond (ltb bytes 8) (refusalText 50)

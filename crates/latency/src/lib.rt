@@ -10,6 +10,7 @@ mod input;
 mod text;
 
 use decimal::with_field;
+pub use input::print;
 pub use input::run;
 use latency_tally::Input;
 use latency_tally::Tally;

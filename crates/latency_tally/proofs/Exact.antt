@@ -34,10 +34,10 @@ record Room (t : Tally) (n : ℕ) : Type 0 where
   top : t .smallest < 2 ^ 32
   added : t .sum + n * 2 ^ 32 < 2 ^ 64
 
-same : (a a′ b b′ c c′ d d′ e e′ f f′ : ℕ) → a ≡ a′ → b ≡ b′ → c ≡ c′ → d ≡ d′ → e ≡ e′ → f ≡ f′
+same : {a a′ b b′ c c′ d d′ e e′ f f′ : ℕ} → (a ≡ a′) × (b ≡ b′) × (c ≡ c′) × (d ≡ d′) × (e ≡ e′) × (f ≡ f′)
     → _≡_ {A = Tally} (record { ok = a; «io_err» = b; others = c; smallest = d; largest = e; sum = f })
     (record { ok = a′; «io_err» = b′; others = c′; smallest = d′; largest = e′; sum = f′ })
-same a a′ b b′ c c′ d d′ e e′ f f′ p q r s t u = cc
+same (p, q, r, s, t, u) = cc
 
 -- a record is of one of three kinds
 data Kind (r : Status) : Type 0 where
@@ -55,19 +55,19 @@ kind r = by (isOk r) (isIoErr r) refl refl where
 module _ (t : Tally) (r : Status) (n : ℕ) (room : Room t (suc n)) (small : r .latency < 2 ^ 32) where
   kept : Kind r → Room (withRecord t r) n
   unfolding withRecord withCode withLatency
-  kept (ok p q) = rw (p, q) (record { counts = omega arith; top = omega arith; added = omega arith })
-  kept (io-err p q) = rw (p, q) (record { counts = omega arith; top = omega arith; added = omega arith })
-  kept (other p q) = rw (p, q) (record { counts = omega arith; top = omega arith; added = omega arith })
+  kept (ok p q) = rw p (omega arith)
+  kept (io-err p q) = rw (p, q) (omega arith)
+  kept (other p q) = rw (p, q) (omega arith)
 
   moved : (l : List Status) → Kind r → both (withRecord t r) (tallyOf l) ≡ both t (tallyOf (r ∷ l))
   unfolding withRecord withCode withLatency tallyOf count okLatencies smallest largest sum
-  moved l (ok p q) = rw (p, q) (same _ _ _ _ _ _ _ _ _ _ _ _ (omega arith) (omega arith) (omega arith) (omega arith) (omega arith) (omega arith))
-  moved l (io-err p q) = rw (p, q) (same _ _ _ _ _ _ _ _ _ _ _ _ (omega arith) (omega arith) (omega arith) (omega arith) (omega arith) (omega arith))
-  moved l (other p q) = rw (p, q) (same _ _ _ _ _ _ _ _ _ _ _ _ (omega arith) (omega arith) (omega arith) (omega arith) (omega arith) (omega arith))
+  moved l (ok p q) = rw (p, q) (same (omega arith))
+  moved l (io-err p q) = rw (p, q) (same (omega arith))
+  moved l (other p q) = rw (p, q) (same (omega arith))
 
 exact : (l : List Status) (t : Tally) → Room t (length l) → Small l → foldl withRecord t l ≡ both t (tallyOf l)
 unfolding Small tallyOf count okLatencies smallest largest sum
-exact [] t room small = same _ _ _ _ _ _ _ _ _ _ _ _ (omega arith) (omega arith) (omega arith) (omega arith) (omega arith) (omega arith)
+exact [] t room small = same (omega arith)
 exact (r ∷ l) t room small =
     exact l (withRecord t r) (kept t r (length l) room (small .0) (kind r)) (small .1)
     ∙ moved t r (length l) room (small .0) l (kind r)
@@ -82,5 +82,4 @@ pub tally-exact : (l : List Status) → length l ≤ 1000000 → Small l → fol
 unfolding tallyOf
 tally-exact l h small =
     let top = smallest-top (okLatencies l) in
-    exact l noTally (record { counts = omega arith; top = omega arith; added = omega arith }) small
-    ∙ same _ _ _ _ _ _ _ _ _ _ _ _ (omega arith) (omega arith) (omega arith) (omega arith) (omega arith) (omega arith)
+    exact l noTally (omega arith) small ∙ same (omega arith)

@@ -57,7 +57,13 @@ pub records-joined : (a b : List ℕ) → length a % 8 ≡ 0
 records-joined a b h =
     let n : length (a ++ b) / 8 ≡ length a / 8 + length b / 8 = rw length-append (omega arith) in
     let e : 0 + 8 * (length a / 8) ≡ length a + 0 = omega arith in
-    rw (n, records-split (length a / 8) (length b / 8) (a ++ b) 0, records-front (length a / 8) a b 0 (omega arith), e, records-back (length b / 8) a b 0)
+    rw (
+      n,
+      records-split (length a / 8) (length b / 8) (a ++ b) 0,
+      records-front (length a / 8) a b 0 (omega arith),
+      e,
+      records-back (length b / 8) a b 0,
+    )
 
 -- ---- blocks
 

@@ -31,13 +31,16 @@ noTally = record { ok = 0; «io_err» = 0; others = 0; smallest = 4294967295; la
 abbrev pub oneMore : ℕ → ℕ
 oneMore n = (n + 1) % 2 ^ 32
 
+-- other counts, the same latencies
+abbrev pub withCounts : Tally → ℕ → ℕ → ℕ → Tally
+withCounts t ok err others =
+    record { ok = ok; «io_err» = err; others = others; smallest = t .smallest; largest = t .largest; sum = t .sum }
+
 unfoldable pub withCode : Tally → ℕ → Tally
 withCode t code =
-    cond (eqb code 32768)
-    (record { ok = oneMore (t .ok); «io_err» = t .«io_err»; others = t .others; smallest = t .smallest; largest = t .largest; sum = t .sum })
-    (cond (eqb code 32771)
-    (record { ok = t .ok; «io_err» = oneMore (t .«io_err»); others = t .others; smallest = t .smallest; largest = t .largest; sum = t .sum })
-    (record { ok = t .ok; «io_err» = t .«io_err»; others = oneMore (t .others); smallest = t .smallest; largest = t .largest; sum = t .sum }))
+    cond (eqb code 32768) (withCounts t (oneMore (t .ok)) (t .«io_err») (t .others))
+    (cond (eqb code 32771) (withCounts t (t .ok) (oneMore (t .«io_err»)) (t .others))
+    (withCounts t (t .ok) (t .«io_err») (oneMore (t .others))))
 
 unfoldable pub withLatency : Tally → ℕ → Tally
 withLatency t x =

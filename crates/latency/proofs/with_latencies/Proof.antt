@@ -33,7 +33,9 @@ with-mean-requires c κs = search needs
 
 returns-2 : tie.Need-returns-2
 unfolding latenciesText
-returns-2 c = rw (ne-eqb _ _ (c .before .before .before .before .before .if1 .left)) (simp foldl-append (rw (c .with-mean .ensures, c .before .before .with-three .ensures)))
+returns-2 c =
+    rw (ne-eqb _ _ (c .before .before .before .before .before .if1 .left))
+    (simp foldl-append (rw (c .with-mean .ensures, c .before .before .with-three .ensures)))
 
 pub with-latencies-spec : {M : Type 1} → statement M
 with-latencies-spec =

@@ -20,7 +20,8 @@ same-length c = search needs
 
 returns : tie.Need-returns
 returns c =
-    (c .before .before .before .before .read-full .ensures .0, (λ i. c .before .before .slice-known2 .given i .fits, c .take-block .ensures))
+    let bytes = c .before .before .slice-known2 .given in
+    (c .before .before .before .before .read-full .ensures .0, (λ i. bytes i .fits, c .take-block .ensures))
 
 pub read-block-spec : {M : Type 1} → statement M
 read-block-spec =

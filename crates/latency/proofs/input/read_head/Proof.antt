@@ -20,7 +20,8 @@ same-length c = search needs
 
 returns : tie.Need-returns
 returns c =
-    (c .before .before .before .before .read-full .ensures .0, (λ i. c .before .before .slice-known2 .given i .fits, c .«open» .ensures))
+    let bytes = c .before .before .slice-known2 .given in
+    (c .before .before .before .before .read-full .ensures .0, (λ i. bytes i .fits, c .«open» .ensures))
 
 pub read-head-spec : {M : Type 1} → statement M
 read-head-spec =

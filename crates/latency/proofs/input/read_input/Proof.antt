@@ -3,7 +3,7 @@ use mathlib.Core.Path.{_≡_, sym, _∙_}
 use Prim.Native.Nat.{_≤_}
 use native.Mathlib.Omega.{arith}
 use lib.ListN.{length, take, length-take}
-use Rattle.latency.proofs.Reports.{Head, bytes-taken, reported-short, head-eight, reported-more}
+use Rattle.latency.proofs.Readings.{Head, bytes-taken, reported-short, head-eight, reported-more}
 use borrow.Author.Needs.{needs}
 use Rattle.latency.proofs.input.read_input.Statement.{statement}
 use Rattle.latency.proofs.input.read_input.Tie as tie

@@ -1,11 +1,12 @@
--- Every block but the last is full, so that whole records stand before each. The measure is how far the bytes read are from passing the limit.
+-- Every block but the last is full, so that whole records stand before each. The measure is how far the bytes read are
+-- from passing the limit.
 use mathlib.Core.Path.{_≡_, refl, sym, _∙_, ap}
 use Prim.Native.Nat.{ℕ, _+_, _-_, _%_, _^_, _≤_}
 use native.Mathlib.Omega.{arith}
 use lib.ListN.{length, take, length-take}
 use Rattle.latency_tally.specs.declared.Input.{Input}
 use Rattle.latency.specs.Reading.{Behind}
-use Rattle.latency.proofs.Reports.{bytes-taken, behind-none, behind-more}
+use Rattle.latency.proofs.Readings.{bytes-taken, behind-none, behind-more}
 use Rattle.latency.proofs.input.read_records.Statement.{statement}
 use Rattle.latency.proofs.input.read_records.Tie as tie
 
@@ -20,7 +21,8 @@ record Next (c : tie.After-read-block Inv-loop μ-loop) : Type 0 where
   behind : Behind (c .before .before .before .before .before .before .args .opened) (c .read-block .result .input)
   whole : 65536 ≤ c .read-block .result .count → length (behind .read) % 8 ≡ 0
   buffer : 65536 ≡ length (c .read-block .last .1 .0)
-  bytes : c .read-block .result .input .bytes ≡ (c .before .before .before .before .loop .input .bytes + c .read-block .result .count) % 2 ^ 64
+  bytes : c .read-block .result .input .bytes
+      ≡ (c .before .before .before .before .loop .input .bytes + c .read-block .result .count) % 2 ^ 64
 
 next : (c : tie.After-read-block Inv-loop μ-loop) → Next c
 next c =

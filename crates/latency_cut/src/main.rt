@@ -1,0 +1,4 @@
+// The latency report of an input whose last record is cut after three bytes.
+fn main() {
+    latency::run();
+}
