@@ -4,7 +4,7 @@ use mathlib.Core.Path.{_≡_, refl, sym, _∙_}
 use mathlib.Core.Bool.{Bool, true, false, cond, _&&_, and-eq-true-iff, true≢false}
 use Prim.Native.Nat.{ℕ, zero, suc, _*_, _/_, _%_, _≤_, _<_, _∣_}
 use native.Mathlib.Nat.{one-dvd, dvd-refl, dvd-zero, dvd-mod-iff, le-of-dvd, mod-eq-zero-of-dvd, dvd-of-mod-eq-zero}
-use native.Mathlib.Nat.{mul-dvd-mul-right, div-mul-cancel, mul-le-mul-right, le-antisymm, pos-of-dvd-of-pos}
+use native.Mathlib.Nat.{mul-dvd-mul-right, div-mul-cancel, mul-le-mul-right, le-antisymm, pos-of-dvd-of-pos, div-self, zero-div}
 use native.Mathlib.Omega.{arith}
 use borrow.Author.Tests.{eqb-true, eqb-false, eq-eqb, ne-eqb, ltb-true, ltb-false}
 use lib.Dec.{eqb, ltb}
@@ -90,3 +90,11 @@ module _ (a b : ℕ) (p : 0 < b) where
         by : (t : Bool) → ltb 1 d ≡ t → d * g ≤ g → d ≤ 1
         by true e m = absurd (omega (arith, mul-le-mul-right g (ltb-true 1 d e), pos-of-dvd-of-pos (greatest-divides a b .1) p))
         by false e m = ltb-false 1 d e
+
+-- 02, order 12: "0/1 for sum 0"
+pub terms-zero : (n : ℕ) → 0 < n → lowestTerms 0 n ≡ record { above = 0; below = 1 }
+unfolding lowestTerms
+terms-zero n p =
+    let g : greatestCommon 0 n ≡ n =
+      le-antisymm (le-of-dvd p (greatest-divides 0 n .1)) (greatest-most 0 n n p (dvd-zero n) (dvd-refl n)) in
+    rw (ne-eqb n 0 (λ e. omega arith), g, div-self p, zero-div)
