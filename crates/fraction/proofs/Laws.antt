@@ -96,5 +96,5 @@ pub terms-zero : (n : ℕ) → 0 < n → lowestTerms 0 n ≡ record { above = 0;
 unfolding lowestTerms
 terms-zero n p =
     let g : greatestCommon 0 n ≡ n =
-      le-antisymm (le-of-dvd p (greatest-divides 0 n .1)) (greatest-most 0 n n p (dvd-zero n) (dvd-refl n)) in
+    le-antisymm (le-of-dvd p (greatest-divides 0 n .1)) (greatest-most 0 n n p (dvd-zero n) (dvd-refl n)) in
     rw (ne-eqb n 0 (λ e. omega arith), g, div-self p, zero-div)
