@@ -16,7 +16,7 @@ use Rattle.latency.specs.Reading.{Bytes, Behind, Reported, Answered}
 use Rattle.latency.specs.Text.{collected}
 use Rattle.latency.proofs.Lengths.{text-fits}
 use Rattle.latency.proofs.Reports.{report-short, report-whole}
-use Rattle.latency.proofs.Texts.{kept-collected}
+use Rattle.latency.proofs.Texts.{collected-holds}
 
 -- ---- bytes
 
@@ -82,4 +82,9 @@ reported-more i r h b =
     }
 
 pub answered : (i : Input) → Reported i → Answered (collected (inputText i))
-answered i r = record { read = r .read; bytes = r .bytes; same = kept-collected (inputText i) (omega (arith, text-fits i)) ∙ r .same }
+answered i r =
+    let h = collected-holds (inputText i) (omega (arith, text-fits i)) in
+    record {
+      inside = omega (arith, h .count, h .long, text-fits i);
+      handed = record { read = r .read; bytes = r .bytes; same = h .whole ∙ r .same };
+    }

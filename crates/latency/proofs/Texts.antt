@@ -1,5 +1,5 @@
 -- Laws of texts that are put together byte by byte.
-use mathlib.Core.Path.{_≡_, refl, sym, _∙_, ap}
+use mathlib.Core.Path.{_≡_, refl, sym, _∙_, subst}
 use mathlib.Core.List.{List, [], _∷_, _++_, foldl, append-nil, append-assoc}
 use Prim.Native.Nat.{ℕ, _+_, _≤_, _<_}
 use native.Mathlib.Numerals.{add-one}
@@ -21,15 +21,23 @@ module _ {A : Type 0} (f : A → ℕ → A) (a : A) (s : List ℕ) (i : ℕ) whe
 
 -- ---- a text that fits is kept whole
 
-kept-fold : (s : List ℕ) (t : Text) → length (t .bytes) ≡ 256 → t .count + length s ≤ 256 → kept (foldl withByte t s) ≡ kept t ++ s
+-- s behind t
+pub record Holds (r t : Text) (s : List ℕ) : Type 0 where
+  pub whole : kept r ≡ kept t ++ s
+  pub count : r .count ≡ t .count + length s
+  pub long : length (r .bytes) ≡ 256
+
+holds-fold : (s : List ℕ) (t : Text) → length (t .bytes) ≡ 256 → t .count + length s ≤ 256 → Holds (foldl withByte t s) t s
 unfolding withByte
-kept-fold [] t long h = sym (append-nil (kept t))
-kept-fold (b ∷ s) t long h =
+holds-fold [] t long h = record { whole = sym (append-nil (kept t)); count = omega arith; long = long }
+holds-fold (b ∷ s) t long h =
     let next : Text = record { bytes = set (t .bytes) (t .count) b; count = t .count + 1 } in
     let e : withByte t b ≡ next = rw (lt-ltb (t .count) 256 (omega arith)) in
-    ap (λ (x : Text). kept (foldl withByte x s)) e
-    ∙ kept-fold s next (length-set (t .bytes) (t .count) b ∙ long) (omega arith)
-    ∙ rw (add-one, take-suc-set (t .bytes) (t .count) b (omega arith), append-assoc)
+    let r : Holds (foldl withByte next s) next s = holds-fold s next (length-set (t .bytes) (t .count) b ∙ long) (omega arith) in
+    let one : kept next ≡ kept t ++ b ∷ [] = rw (add-one, take-suc-set (t .bytes) (t .count) b (omega arith)) in
+    let n : Holds (foldl withByte next s) t (b ∷ s) =
+    record { whole = r .whole ∙ rw (one, append-assoc); count = omega (arith, r .count); long = r .long } in
+    subst (λ (x : Text). Holds (foldl withByte x s) t (b ∷ s)) (sym e) n
 
-pub kept-collected : (s : List ℕ) → length s ≤ 256 → kept (collected s) ≡ s
-kept-collected s h = kept-fold s noText refl (omega arith)
+pub collected-holds : (s : List ℕ) → length s ≤ 256 → Holds (collected s) noText s
+collected-holds s h = holds-fold s noText refl (omega arith)

@@ -26,7 +26,11 @@ pub record Reported (i : Input) : Type 0 where
   pub same : inputText i ≡ reportOf read
 
 -- what is handed to the write is the report of the bytes read
-pub record Answered (t : Text) : Type 0 where
+pub record Handed (text : List ℕ) : Type 0 where
   pub read : List ℕ
   pub bytes : Bytes read
-  pub same : kept t ≡ reportOf read
+  pub same : text ≡ reportOf read
+
+pub record Answered (t : Text) : Type 0 where
+  pub inside : t .count ≤ length (t .bytes)
+  pub handed : Handed (kept t)

@@ -4,7 +4,7 @@ ghost use mathlib.Core.List.{List};
 ghost use Prim.Native.Nat.{_≤_};
 ghost use lib.ListN.{length, take};
 ghost use Rattle.latency_tally.specs.Tally.{opened, taken};
-ghost use Rattle.latency.specs.Reading.{Bytes, Behind, Reported, Answered};
+ghost use Rattle.latency.specs.Reading.{Bytes, Behind, Reported, Handed, Answered};
 use crate::MOST;
 use crate::Text;
 use latency_tally::Input;
@@ -89,14 +89,24 @@ pub fn print(text: Text) {
     write(&bytes, text.count);
 }
 
-// What is printed.
+// The report of what is read.
 fn answer() -> Text
     ensures { λ r. ⌜ Answered r ⌝ }
 {
     crate::report(read_input())
 }
 
+// Writes a report, and nothing that is none.
+fn hand_out(s: &[u8])
+    requires { ⌜ Handed (now s) ⌝ }
+{
+    io::write_all(STDOUT_FILENO, s);
+}
+
 // The whole program.
 pub fn run() {
-    print(answer());
+    let text = answer();
+    let bytes = text.bytes;
+    let count = text.count;
+    hand_out(&bytes[..count]);
 }

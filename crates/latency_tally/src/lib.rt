@@ -44,7 +44,7 @@ fn greatest(a: u32, b: u32) -> u32
 
 impl Tally {
     // No record yet. No latency is above 4,294,967,295.
-    pub fn none() -> Tally
+    fn none() -> Tally
         ensures { λ r. ⌜ r ≡ noTally ⌝ }
     {
         Tally {
