@@ -1,5 +1,6 @@
 -- What is read from standard input. No contract can say which bytes a read delivers: they are some bytes.
 use mathlib.Core.Path.{_≡_}
+use mathlib.Core.Logic.{_⊎_}
 use mathlib.Core.List.{List}
 use Prim.Native.Nat.{ℕ, _≤_, _<_}
 use lib.ListN.{length, getD}
@@ -18,6 +19,10 @@ pub record Behind (i r : Input) : Type 0 where
   pub bytes : Bytes read
   pub few : length read ≤ 8065536
   pub same : r ≡ taken i read
+
+-- why nothing more is read: the last block of n bytes was not full, or too many came
+abbrev pub Last : Input → ℕ → Type 0
+Last r n = (n < 65536) ⊎ (8000008 < r .bytes)
 
 -- what was kept of the bytes read gives their report
 pub record Reported (i : Input) : Type 0 where

@@ -4,7 +4,7 @@ ghost use mathlib.Core.List.{List};
 ghost use Prim.Native.Nat.{_≤_};
 ghost use lib.ListN.{length, take};
 ghost use Rattle.latency_tally.specs.Tally.{opened, taken};
-ghost use Rattle.latency.specs.Reading.{Bytes, Behind, Reported, Handed, Answered};
+ghost use Rattle.latency.specs.Reading.{Bytes, Behind, Last, Reported, Handed, Answered};
 use crate::MOST;
 use crate::Text;
 use latency_tally::Input;
@@ -43,22 +43,26 @@ fn read_block(input: Input, buffer: &mut [u8]) -> Turn
     }
 }
 
-// The records behind the mask. A block that is not full is the last; past the limit nothing more is
-// read.
-fn read_records(opened: Input) -> Input
+// The records behind the mask, up to the last block. A block that is not full is the last, and so is
+// the one that passes the limit.
+fn read_records(opened: Input) -> Turn
     requires { ⌜ opened .bytes ≡ 8 ⌝ }
-    ensures { λ r. ⌜ Behind opened r ⌝ }
+    ensures { λ r. ⌜ Behind opened (r .input) ⌝ }
+    ensures { λ r. ⌜ Last (r .input) (r .count) ⌝ }
 {
     let mut buffer = io::large_buffer();
     let mut input = opened;
     while input.bytes <= MOST {
         let turn = read_block(input, &mut buffer);
-        input = turn.input;
         if turn.count < 65536 {
-            return input;
+            return turn;
         }
+        input = turn.input;
     }
-    input
+    Turn {
+        input: input,
+        count: 65536,
+    }
 }
 
 // The mask, and what stands behind it.
@@ -66,12 +70,13 @@ fn read_input() -> Input
     ensures { λ r. ⌜ Reported r ⌝ }
 {
     let mut head = [0u8; 8];
-    let turn = read_head(&mut head);
-    let opened = turn.input;
-    if turn.count < 8 {
+    let first = read_head(&mut head);
+    let opened = first.input;
+    if first.count < 8 {
         return opened;
     }
-    read_records(opened)
+    let last = read_records(opened);
+    last.input
 }
 
 // The first `count` bytes of `s`, or all of `s` where it has no more, written out.

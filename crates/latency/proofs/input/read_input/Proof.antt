@@ -37,8 +37,8 @@ read-records-requires c κs = head-eight _ (eight (c .before .before .before .be
 
 returns-2 : tie.Need-returns-2
 returns-2 c =
-    let h = c .before .before .before .before .before in
-    reported-more (h .read-head .result .input) _ (eight h (c .before .if1 .left)) (c .read-records .ensures)
+    let h = c .before .before .before .before .before .before in
+    reported-more (h .read-head .result .input) _ (eight h (c .before .before .if1 .left)) (c .before .read-records .ensures .0)
 
 pub read-input-spec : {M : Type 1} → statement M
 read-input-spec =

@@ -1,6 +1,7 @@
 -- Every block but the last is full, so that whole records stand before each. The measure is how far the bytes read are
 -- from passing the limit.
 use mathlib.Core.Path.{_≡_, refl, sym, _∙_, ap}
+use mathlib.Core.Logic.{inl, inr}
 use Prim.Native.Nat.{ℕ, _+_, _-_, _%_, _^_, _≤_}
 use native.Mathlib.Omega.{arith}
 use lib.ListN.{length, take, length-take}
@@ -56,7 +57,7 @@ read-block-requires : tie.Need-read-block-requires Inv-loop μ-loop
 read-block-requires c κs = omega arith
 
 returns : tie.Need-returns Inv-loop μ-loop
-returns c = next (c .before .before .before .before) .behind
+returns c = (next (c .before .before .before) .behind, inl (c .if2 .taken))
 
 loop-less : tie.Need-loop-less Inv-loop μ-loop
 loop-less c =
@@ -66,10 +67,10 @@ loop-less c =
 loop-again : tie.Need-loop-again Inv-loop μ-loop
 loop-again c =
     let n = next (c .before .before .before .before) in
-    (n .buffer, n .behind, n .whole (c .if2 .left))
+    (n .buffer, n .behind, n .whole (c .before .if2 .left))
 
 returns-2 : tie.Need-returns-2 Inv-loop μ-loop
-returns-2 c = c .before .before .loop .inv .1
+returns-2 c = (c .before .before .loop .inv .1, inr (c .if1 .left))
 
 pub read-records-spec : {M : Type 1} → statement M
 read-records-spec =
