@@ -2,7 +2,7 @@
 -- terms has no divisor above 1 in common.
 use mathlib.Core.Path.{_≡_, refl, sym, _∙_}
 use mathlib.Core.Bool.{Bool, true, false, cond, _&&_, and-eq-true-iff, true≢false}
-use Prim.Native.Nat.{ℕ, zero, suc, _*_, _/_, _%_, _≤_, _<_, _∣_}
+use Prim.Native.Nat.{ℕ, zero, suc, _*_, _%_, _≤_, _<_, _∣_}
 use native.Mathlib.Nat.{one-dvd, dvd-refl, dvd-zero, dvd-mod-iff, le-of-dvd, mod-eq-zero-of-dvd, dvd-of-mod-eq-zero}
 use native.Mathlib.Nat.{mul-dvd-mul-right, div-mul-cancel, mul-le-mul-right, le-antisymm, pos-of-dvd-of-pos, div-self, zero-div}
 use native.Mathlib.Omega.{arith}

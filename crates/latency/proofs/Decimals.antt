@@ -1,14 +1,13 @@
 -- The fewest digits that hold a number are as many as it has, and a number of 64 bits has at most 20.
 use mathlib.Core.Path.{_≡_, refl}
 use mathlib.Core.Bool.{Bool, true, false, cond}
-use mathlib.Core.List.{[], _∷_, _++_}
-use Prim.Native.Nat.{ℕ, zero, suc, _+_, _-_, _/_, _%_, _^_, _≤_, _<_}
+use Prim.Native.Nat.{ℕ, zero, suc, _-_, _/_, _^_, _≤_, _<_}
 use native.Mathlib.Nat.{pow-le-pow-right}
 use native.Mathlib.Omega.{arith}
 use borrow.Author.Tests.{leb-true, leb-false, ltb-true, ltb-false}
 use lib.Dec.{leb, ltb}
 use lib.ListN.{length, length-append}
-use Rattle.io.specs.Digits.{digits, glyph, Fewest}
+use Rattle.io.specs.Digits.{digits, Fewest}
 use Rattle.latency.specs.Decimal.{places, digitsOf, field}
 
 -- a power of ten in a number that is below another

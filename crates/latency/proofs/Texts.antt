@@ -5,7 +5,7 @@ use Prim.Native.Nat.{ℕ, _+_, _≤_, _<_}
 use native.Mathlib.Numerals.{add-one}
 use native.Mathlib.Omega.{arith}
 use borrow.Author.Tests.{lt-ltb}
-use lib.ListN.{length, getD, take, drop, set, drop-of-length-le, length-set}
+use lib.ListN.{length, getD, drop, set, drop-of-length-le, length-set}
 use lib.Seq.{drop-cons, take-suc-set}
 use Rattle.latency.specs.Text.{noText, withByte, collected, kept}
 use Rattle.latency.specs.declared.text.Text.{Text}

@@ -1,6 +1,5 @@
 // Standard input, read block by block, and the report of it.
 ghost use mathlib.Core.Path.{_≡_};
-ghost use mathlib.Core.List.{List};
 ghost use Prim.Native.Nat.{_≤_};
 ghost use lib.ListN.{length, take};
 ghost use Rattle.latency_tally.specs.Tally.{opened, taken};

@@ -1,7 +1,6 @@
 // The latency report: from the input's bytes to the one or two lines that are printed.
 ghost use mathlib.Core.Path.{_≡_};
-ghost use mathlib.Core.List.{List, foldl};
-ghost use lib.ListN.{length, take};
+ghost use mathlib.Core.List.{foldl};
 ghost use Rattle.latency.specs.Text.{withByte, collected};
 ghost use Rattle.latency.specs.Report.{threeText, countsText, meanText, latenciesText, maskText, linesText, refusalText, inputText};
 

@@ -1,13 +1,12 @@
 -- The tally of at most 1,000,000 records, kept record by record in 32 and 64 bits, is that of all of them at once: no sum wraps.
-use mathlib.Core.Path.{_≡_, refl, sym, _∙_}
-use mathlib.Core.Bool.{Bool, true, false, cond, _||_, not}
+use mathlib.Core.Path.{_≡_, refl, _∙_}
+use mathlib.Core.Bool.{Bool, true, false}
 use mathlib.Core.List.{List, [], _∷_, foldl}
-use Prim.Native.Nat.{ℕ, zero, suc, _+_, _*_, _%_, _^_, _≤_, _<_, min, max}
+use Prim.Native.Nat.{ℕ, suc, _+_, _*_, _^_, _≤_, _<_, min, max}
 use native.Mathlib.Omega.{arith}
-use lib.Dec.{eqb}
 use lib.ListN.{length}
 use borrow.Author.Tests.{eqb-true}
-use Rattle.latency_tally.specs.Records.{Status, isOk, isIoErr, isOther, count, okLatencies, smallest, largest, sum}
+use Rattle.latency_tally.specs.Records.{Status, isOk, isIoErr, count, okLatencies, smallest, largest, sum}
 use Rattle.latency_tally.specs.Tally.{noTally, withCode, withLatency, withRecord, tallyOf}
 use Rattle.latency_tally.specs.declared.Tally.{Tally}
 

@@ -3,15 +3,13 @@ use mathlib.Core.Path.{_≡_, refl, sym, _∙_, ap}
 use mathlib.Core.List.{List, [], _∷_, _++_, foldl, foldl-append, append-assoc}
 use Prim.Native.Nat.{ℕ, zero, suc, _+_, _-_, _*_, _/_, _%_, _^_, _≤_, _<_}
 use native.Mathlib.Nat.{add-assoc, zero-add, suc-add, add-zero}
-use native.Mathlib.Numerals.{add-one}
 use native.Mathlib.Omega.{arith}
-use lib.ListN.{length, getD, take, drop, length-append, length-take, length-drop, take-append-drop, List·getD-append}
+use lib.ListN.{length, getD, length-append, List·getD-append}
 use lib.Seq.{getD-append-add}
 use Rattle.memory.specs.Bytes.{le}
 use Rattle.memory.proofs.Laws.{le-same, le-bound}
 use Rattle.latency_tally.specs.Records.{records, recordsOf}
 use Rattle.latency_tally.specs.Tally.{withRecord, opened, taken, tallyOf, joined, Whole}
-use Rattle.latency_tally.specs.declared.Tally.{Tally}
 use Rattle.latency_tally.specs.declared.Input.{Input}
 use Rattle.latency_tally.proofs.Exact.{Small, tally-exact}
 

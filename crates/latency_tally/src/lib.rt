@@ -1,7 +1,7 @@
 // The records of a latency report, 8 bytes each, read from blocks and counted.
 ghost use mathlib.Core.Path.{_≡_};
 ghost use mathlib.Core.List.{foldl};
-ghost use Prim.Native.Nat.{_+_, _/_, _%_, _^_, min, max};
+ghost use Prim.Native.Nat.{_+_, _/_, min, max};
 ghost use lib.ListN.{length};
 ghost use Rattle.latency_tally.specs.Records.{status, records};
 ghost use Rattle.latency_tally.specs.Tally.{noTally, withCode, withLatency, withRecord, opened, taken};

@@ -1,5 +1,4 @@
 -- The report of what was kept is that of the bytes read, and fits its text whole.
-use Rattle.latency.specs.Reading.{Answered}
 use Rattle.latency.proofs.Readings.{answered}
 use borrow.Author.Needs.{needs}
 use Rattle.latency.proofs.input.answer.Statement.{statement}

@@ -1,8 +1,8 @@
 -- What was read is the first bytes, and, where these are eight, all bytes behind them.
-use mathlib.Core.Path.{_≡_, sym, _∙_}
+use mathlib.Core.Path.{_≡_}
 use Prim.Native.Nat.{_≤_}
 use native.Mathlib.Omega.{arith}
-use lib.ListN.{length, take, length-take}
+use lib.ListN.{take, length-take}
 use Rattle.latency.proofs.Readings.{Head, bytes-taken, reported-short, head-eight, reported-more}
 use borrow.Author.Needs.{needs}
 use Rattle.latency.proofs.input.read_input.Statement.{statement}
