@@ -1,7 +1,7 @@
 -- 02, order 12: what is printed. 32 is a space, 10 a line feed, 45 a dash, 47 a slash.
 use mathlib.Core.List.{List, [], _∷_, _++_}
 use mathlib.Core.Bool.{cond}
-use Prim.Native.Nat.{ℕ, _-_, _/_, _%_}
+use Prim.Native.Nat.{ℕ, _+_, _-_, _*_, _/_, _%_}
 use lib.Dec.{eqb, ltb}
 use lib.ListN.{length}
 use Rattle.memory.specs.Bytes.{le}
@@ -48,7 +48,7 @@ refusalText n = field n 10
 unfoldable pub judged : ℕ → List ℕ → List ℕ
 judged bytes text =
     cond (ltb bytes 8) (refusalText 50)
-    (cond (ltb 8000008 bytes) (refusalText 51)
+    (cond (ltb (8 + 8 * 1000000) bytes) (refusalText 51)
     (cond (eqb (bytes % 8) 0) text (refusalText 52)))
 
 -- ---- the report of all bytes

@@ -10,6 +10,9 @@ use latency_tally::Input;
 use libc::STDIN_FILENO;
 use libc::STDOUT_FILENO;
 
+// The bytes of a full block.
+const BLOCK: usize = 65536;
+
 // The input after a block, and how many bytes the block had.
 struct Turn {
     input: Input,
@@ -53,14 +56,14 @@ fn read_records(opened: Input) -> Turn
     let mut input = opened;
     while input.bytes <= MOST {
         let turn = read_block(input, &mut buffer);
-        if turn.count < 65536 {
+        if turn.count < BLOCK {
             return turn;
         }
         input = turn.input;
     }
     Turn {
         input: input,
-        count: 65536,
+        count: BLOCK,
     }
 }
 
