@@ -1,0 +1,36 @@
+-- The answers, each in its causes: w is the bytes of a sample.
+use mathlib.Core.Path.{_≡_}
+use mathlib.Core.List.{List}
+use Prim.Native.Nat.{ℕ, _*_, _/_, _%_, _≤_, _<_}
+use native.Mathlib.Nat.{mod-add-div}
+use native.Mathlib.Omega.{arith}
+use borrow.Author.Tests.{le-leb, lt-leb, eq-eqb, ne-eqb}
+use lib.ListN.{length}
+use Rattle.samples.specs.Formats.{Coding, width}
+use Rattle.samples.specs.Outcome.{written, outcome, convertedBy}
+
+module _ (c : Coding) (from to : List ℕ) (w : ℕ) (e : w ≡ width c) where
+  pub no-format : w ≡ 0 → outcome 30 to ≡ convertedBy c from to
+  unfolding convertedBy
+  no-format h = rw (← e, h)
+
+  module _ (some : w ≡ 0 → ⊥) where
+    pub not-whole : (length from % w ≡ 0 → ⊥) → outcome 31 to ≡ convertedBy c from to
+    unfolding convertedBy
+    not-whole h = rw (← e, ne-eqb w 0 some, ne-eqb (length from % w) 0 h)
+
+    module _ (whole : length from % w ≡ 0) where
+      pub no-room : length to < 2 * (length from / w) → outcome 32 to ≡ convertedBy c from to
+      unfolding convertedBy
+      no-room h = rw (← e, ne-eqb w 0 some, eq-eqb (length from % w) 0 whole, lt-leb (2 * (length from / w)) (length to) h)
+
+      pub done : 2 * (length from / w) ≤ length to → outcome 0 (written c from 0 (length from / w) to) ≡ convertedBy c from to
+      unfolding convertedBy
+      done h = rw (← e, ne-eqb w 0 some, eq-eqb (length from % w) 0 whole, le-leb (2 * (length from / w)) (length to) h)
+
+      -- what the loops are told
+      pub ready : 2 * (length from / w) ≤ length to
+          → (0 < width c) × (length from ≡ width c * (length from / w)) × (2 * (length from / w) ≤ length to)
+      ready h =
+          let m = mod-add-div (length from) w in
+          rw (← e) (omega arith, omega arith, h)
