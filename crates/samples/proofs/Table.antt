@@ -1,6 +1,6 @@
 -- The mu-law table's rule, proved once over the whole table: a test that is computed at each entry, and a law that turns it into the rule
 -- at any one.
-use mathlib.Core.Path.{_≡_, sym, _∙_, subst, ap}
+use mathlib.Core.Path.{_≡_, sym, _∙_, ap}
 use mathlib.Core.Bool.{Bool, true, false}
 use mathlib.Core.List.{List, [], _∷_}
 use Prim.Native.Nat.{ℕ, zero, suc, _+_, _<_}
@@ -9,9 +9,7 @@ use native.Mathlib.Nat.{zero-add, add-zero, add-suc, suc-add}
 use lib.Dec.{T, eqb, eqb→eq}
 use lib.ListN.{length, getD}
 use lib.IntN.{ℤ, pos, negsuc}
-use mir.Syntax.{w16}
-use mir.Val.{toZ, ofZ}
-use Rattle.samples.specs.MuLaw.{muLaw}
+use Rattle.samples.specs.MuLaw.{muLaw, MuLawTable}
 
 abbrev both : Bool → Bool → Bool
 both true b = b
@@ -37,17 +35,18 @@ same-eq (negsuc a) (negsuc b) t = ap negsuc (eqb→eq a b t)
 same-eq (pos a) (negsuc b) t = absurd t
 same-eq (negsuc a) (pos b) t = absurd t
 
--- each entry, as a machine reads it back from its 16 bits, is the number of its place, counted from i
+-- each entry is the number of its place, counted from i
 abbrev pub right : ℕ → List ℤ → Bool
 right i [] = true
-right i (z ∷ zs) = both (same (toZ w16 (ofZ w16 z)) (muLaw i)) (right (suc i) zs)
+right i (z ∷ zs) = both (same z (muLaw i)) (right (suc i) zs)
 
-right-from : (zs : List ℤ) (i k : ℕ) → T (right i zs) → k < length zs → toZ w16 (ofZ w16 (getD zs k (pos 0))) ≡ muLaw (i + k)
+right-from : (zs : List ℤ) (i k : ℕ) → T (right i zs) → k < length zs → getD zs k (pos 0) ≡ muLaw (i + k)
 right-from [] i k t h = absurd (omega arith)
-right-from (z ∷ zs) i zero t h =
-    rw (add-zero i) (same-eq (toZ w16 (ofZ w16 z)) (muLaw i) (both-left (same (toZ w16 (ofZ w16 z)) (muLaw i)) (right (suc i) zs) t))
+right-from (z ∷ zs) i zero t h = rw (add-zero i) (same-eq z (muLaw i) (both-left (same z (muLaw i)) (right (suc i) zs) t))
 right-from (z ∷ zs) i (suc k) t h =
-    right-from zs (suc i) k (both-right (same (toZ w16 (ofZ w16 z)) (muLaw i)) (right (suc i) zs) t) (omega arith) ∙ ap muLaw (suc-add i k ∙ sym (add-suc i k))
+    right-from zs (suc i) k (both-right (same z (muLaw i)) (right (suc i) zs) t) (omega arith) ∙ ap muLaw (suc-add i k ∙ sym (add-suc i k))
 
-pub right-at : (zs : List ℤ) (k : ℕ) → T (right 0 zs) → k < length zs → toZ w16 (ofZ w16 (getD zs k (pos 0))) ≡ muLaw k
-right-at zs k t h = right-from zs 0 k t h ∙ ap muLaw (zero-add k)
+pub table-right : (zs : List ℤ) → T (right 0 zs) → length zs ≡ 256 → MuLawTable zs
+table-right zs t e = record {
+  long = e;
+  entry = λ k h. right-from zs 0 k t (omega arith) ∙ ap muLaw (zero-add k) }

@@ -1,7 +1,10 @@
 -- 02, order 7: "Mu-law decodes all 256 codes by ITU-T G.711 scaled to 16 bits".
+use mathlib.Core.Path.{_≡_}
+use mathlib.Core.List.{List}
 use mathlib.Core.Bool.{cond}
-use Prim.Native.Nat.{ℕ, _+_, _*_, _-_, _/_, _%_, _^_}
+use Prim.Native.Nat.{ℕ, _+_, _*_, _-_, _/_, _%_, _^_, _<_}
 use lib.Dec.{ltb}
+use lib.ListN.{length, getD}
 use lib.IntN.{ℤ, pos, negℤ}
 
 -- "mantissa m from bits 3:0"
@@ -23,3 +26,8 @@ decoded u = cond (ltb u 128) (pos (magnitude (mantissa u) (exponent u))) (negℤ
 -- "complement the byte"
 unfoldable pub muLaw : ℕ → ℤ
 muLaw code = decoded (255 - code)
+
+-- a table of all 256 codes
+pub record MuLawTable (table : List ℤ) : Type 0 where
+  pub long : length table ≡ 256
+  pub entry : (code : ℕ) → code < 256 → getD table code (pos 0) ≡ muLaw code

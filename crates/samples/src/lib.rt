@@ -4,7 +4,7 @@ ghost use Prim.Native.Nat.{_+_, _*_, _%_, _≤_, _<_};
 ghost use lib.ListN.{length};
 ghost use Rattle.memory.specs.Bytes.{le, put};
 ghost use Rattle.samples.specs.Values.{bits};
-ghost use Rattle.samples.specs.MuLaw.{muLaw};
+ghost use Rattle.samples.specs.MuLaw.{muLaw, MuLawTable};
 ghost use Rattle.samples.specs.Formats.{Coding, codingOf, width, bitsAt};
 ghost use Rattle.samples.specs.Loops.{turn};
 ghost use Rattle.samples.specs.Outcome.{written, outcome, converted};
@@ -284,11 +284,19 @@ const MU_LAW_TABLE: [i16; 256] = [
     0,
 ];
 
+// The table in a local, so that a loop over samples has it made once.
+fn mu_law_table() -> [i16; 256]
+    ensures { λ r. ⌜ MuLawTable r ⌝ }
+{
+    MU_LAW_TABLE
+}
+
 // The number of a mu-law code.
-fn decoded(code: u8) -> i16
+fn decoded(table: &[i16; 256], code: u8) -> i16
+    requires { ⌜ MuLawTable (now table) ⌝ }
     ensures { λ r. ⌜ r ≡ muLaw code ⌝ }
 {
-    MU_LAW_TABLE[code as usize]
+    table[code as usize]
 }
 
 // The 16 bits of `z` in two's complement.
@@ -348,11 +356,11 @@ fn wide_sample(unsigned: bool, bytes: usize, from: &[u8], i: usize) -> u16
 }
 
 // Sample i in mu-law, converted.
-fn mu_law_sample(from: &[u8], i: usize) -> u16
-    requires { ⌜ i < length (now from) ⌝ }
+fn mu_law_sample(table: &[i16; 256], from: &[u8], i: usize) -> u16
+    requires { ⌜ MuLawTable (now table) × (i < length (now from)) ⌝ }
     ensures { λ r. ⌜ r ≡ bitsAt Coding.mulaw (now (from .entry)) i ⌝ }
 {
-    bits(decoded(from[i]))
+    bits(decoded(table, from[i]))
 }
 
 fn narrow(unsigned: bool, samples: usize, from: &[u8], to: &mut [u8])
@@ -381,9 +389,10 @@ fn mu_law(samples: usize, from: &[u8], to: &mut [u8])
     requires { ⌜ (samples ≤ length (now from)) × (2 * samples ≤ length (now to)) ⌝ }
     ensures { λ r. ⌜ now (to .exit) ≡ written Coding.mulaw (now (from .entry)) 0 samples (now (to .entry)) ⌝ }
 {
+    let table = mu_law_table();
     let mut i = 0;
     while i < samples {
-        store(to, 2 * i, mu_law_sample(from, i));
+        store(to, 2 * i, mu_law_sample(&table, from, i));
         i += 1;
     }
 }

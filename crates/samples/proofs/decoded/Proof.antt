@@ -1,22 +1,17 @@
--- `samples::decoded` is right since each entry of its table is the number of its place, which one computed test shows.
+-- `samples::decoded` is right by the table's rule at the code.
+use Rattle.samples.proofs.Machine.{as-read}
 use borrow.Author.Needs.{needs}
-use Rattle.samples.specs.MuLaw.{muLaw}
-use Rattle.samples.proofs.Table.{right-at}
 use Rattle.samples.proofs.decoded.Statement.{statement}
 use Rattle.samples.proofs.decoded.Tie as tie
 
 mul-result : tie.Need-mul-result
 mul-result c = search needs
 
-array-copy-out-result : tie.Need-array-copy-out-result
-array-copy-out-result c = search needs
+element-copy-out-result : tie.Need-element-copy-out-result
+element-copy-out-result c = search needs
 
 returns : tie.Need-returns
-unfolding muLaw
-returns c =
-    let h = c .before .fits .code .fits in
-    let t : Unit {0} = tt in
-    rw right-at
+returns c = rw (as-read _ (record { sfits = c .result .given })) (c .before .pre .entry _ (c .before .fits .code .fits))
 
 pub decoded-spec : {M : Type 1} → statement M
-decoded-spec = tie.close (tie.spec mul-result array-copy-out-result returns)
+decoded-spec = tie.close (tie.spec mul-result element-copy-out-result returns)

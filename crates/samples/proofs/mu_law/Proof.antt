@@ -8,10 +8,13 @@ use Rattle.samples.proofs.mu_law.Statement.{statement}
 use Rattle.samples.proofs.mu_law.Tie as tie
 
 abbrev Inv-loop : tie.InvT-loop
-Inv-loop samples from to₀ i₀ to i = Going mulaw from samples to₀ to i
+Inv-loop samples from to₀ table i₀ to i = Going mulaw from samples to₀ to i
 
 abbrev μ-loop : tie.MeasureT-loop
-μ-loop samples from to₀ i₀ to i = samples - i
+μ-loop samples from to₀ table i₀ to i = samples - i
+
+mu-law-table-requires : tie.Need-mu-law-table-requires Inv-loop μ-loop
+mu-law-table-requires c κs = search needs
 
 loop-holds : tie.Need-loop-holds Inv-loop μ-loop
 loop-holds c = going-first _ _ _ _
@@ -20,7 +23,7 @@ mul-store : tie.Need-mul-store Inv-loop μ-loop
 mul-store c = omega arith
 
 mu-law-sample-requires : tie.Need-mu-law-sample-requires Inv-loop μ-loop
-mu-law-sample-requires c κs = omega arith
+mu-law-sample-requires c κs = (c .before .before .before .before .mu-law-table .ensures, omega arith)
 
 store-requires : tie.Need-store-requires Inv-loop μ-loop
 store-requires c κs = omega arith
@@ -33,7 +36,7 @@ loop-less c = omega arith
 
 loop-again : tie.Need-loop-again Inv-loop μ-loop
 loop-again c =
-    let before = c .before .before .before .before .before in
+    let before = c .before .before .before .before .before .before in
     let g = before .before .loop .inv in
     rw (c .before .before .store .ensures) (going-on _ _ _ _ _ _ g _ (before .loop-test .taken) (c .before .before .before .mu-law-sample .ensures))
 
@@ -49,6 +52,7 @@ mu-law-spec =
     (tie.spec
     Inv-loop
     μ-loop
+    mu-law-table-requires
     loop-holds
     mul-store
     mu-law-sample-requires

@@ -15,7 +15,7 @@ bits-requires : tie.Need-bits-requires
 bits-requires c κs = search needs
 
 returns : tie.Need-returns
-returns c = 
+returns c =
     let a = c .before .before .before .before .args in
     let d = c .before .decoded in
     rw (c .bits .ensures, as-read (d .result) (record { sfits = d .ok }), d .ensures)
