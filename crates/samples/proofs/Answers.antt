@@ -7,7 +7,7 @@ use native.Mathlib.Omega.{arith}
 use borrow.Author.Tests.{le-leb, lt-leb, eq-eqb, ne-eqb}
 use lib.ListN.{length}
 use Rattle.samples.specs.Formats.{Coding, width}
-use Rattle.samples.specs.Outcome.{written, outcome, convertedBy}
+use Rattle.samples.specs.Outcome.{written, Ready, outcome, convertedBy}
 
 module _ (c : Coding) (from to : List ℕ) (w : ℕ) (e : w ≡ width c) where
   pub no-format : w ≡ 0 → outcome 30 to ≡ convertedBy c from to
@@ -29,8 +29,7 @@ module _ (c : Coding) (from to : List ℕ) (w : ℕ) (e : w ≡ width c) where
       done h = rw (← e, ne-eqb w 0 some, eq-eqb (length from % w) 0 whole, le-leb (2 * (length from / w)) (length to) h)
 
       -- what the loops are told
-      pub ready : 2 * (length from / w) ≤ length to
-          → (0 < width c) × (length from ≡ width c * (length from / w)) × (2 * (length from / w) ≤ length to)
+      pub ready : 2 * (length from / w) ≤ length to → Ready c (length from / w) from to
       ready h =
           let m = mod-add-div (length from) w in
           rw (← e) (omega arith, omega arith, h)

@@ -12,11 +12,11 @@ use Rattle.samples.specs.Formats.{Coding, bitsAt}
 use Rattle.samples.specs.Outcome.{written}
 
 module _ (c : Coding) (from : List ℕ) where
-  written-none : (i n : ℕ) (to : List ℕ) → n ≡ 0 → written c from i n to ≡ to
+  pub written-none : (i n : ℕ) (to : List ℕ) → n ≡ 0 → written c from i n to ≡ to
   unfolding written
   written-none i n to h = rw h
 
-  written-more : (i n k : ℕ) (to : List ℕ) → n ≡ k + 1
+  pub written-more : (i n k : ℕ) (to : List ℕ) → n ≡ k + 1
       → written c from i n to ≡ written c from (i + 1) k (put 2 to (2 * i) (bitsAt c from i))
   unfolding written
   written-more i n k to h = rw (h, add-one)
@@ -39,7 +39,8 @@ module _ (c : Coding) (from : List ℕ) (n : ℕ) (to₀ : List ℕ) where
     going-on v h e = record {
       begun = omega arith;
       long = length-put 2 to (2 * i) v ∙ g .long;
-      same = rw (e, ← (written-more c from i (n - i) (n - (i + 1)) to (omega arith))) (g .same) }
+      same = rw (e, ← (written-more c from i (n - i) (n - (i + 1)) to (omega arith))) (g .same);
+    }
 
     pub going-last : n ≤ i → to ≡ written c from 0 n to₀
     going-last h = sym (written-none c from i (n - i) to (omega arith)) ∙ g .same

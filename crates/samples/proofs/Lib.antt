@@ -7,3 +7,5 @@ pub mod Samples
 pub mod Going
 pub mod Taken
 pub mod Answers
+pub mod Promise
+pub mod Cases

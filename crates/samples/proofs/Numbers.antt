@@ -56,13 +56,20 @@ module _ (x q k : ℕ) (h : 0 < q) where
       below : x < k * q → floorDiv (subℕ x (k * q)) q ≡ subℕ (x / q) k
       below l =
           let t = quotient-below l in
-          rw (sub-below x (k * q) l, sub-below (x / q) k t,
-            rest-below q (x / q) (x % q) (k - suc (x / q)) x k (mod-lt x h) whole (omega arith))
+          rw (
+            sub-below x (k * q) l,
+            sub-below (x / q) k t,
+            rest-below q (x / q) (x % q) (k - suc (x / q)) x k (mod-lt x h) whole (omega arith),
+          )
+
       above : k * q ≤ x → floorDiv (subℕ x (k * q)) q ≡ subℕ (x / q) k
       above l =
           let t = quotient-above l in
-          rw (sub-above x (k * q) l, sub-above (x / q) k t,
-            rest-above q (x / q) (x % q) (x / q - k) x k (mod-lt x h) whole (omega arith))
+          rw (
+            sub-above x (k * q) l,
+            sub-above (x / q) k t,
+            rest-above q (x / q) (x % q) (x / q - k) x k (mod-lt x h) whole (omega arith),
+          )
 
 -- a difference of bytes, times 256
 pub times-sub : (x k : ℕ) → subℕ x k *ℤ pos 256 ≡ subℕ (x * 256) (k * 256)
@@ -72,6 +79,7 @@ times-sub x k = ⊎-elim below above (below-or-not x k)
     below l =
         let e : suc (k - suc x) * 256 ≡ suc (k * 256 - suc (x * 256)) = omega arith in
         rw (sub-below x k l, sub-below (x * 256) (k * 256) (omega arith), e)
+
     above : k ≤ x → subℕ x k *ℤ pos 256 ≡ subℕ (x * 256) (k * 256)
     above l =
         let e : (x - k) * 256 ≡ x * 256 - k * 256 = omega arith in
@@ -95,6 +103,7 @@ module _ (y : ℕ) where
     where
       low : y < 32768 → bits (signed 2 y) ≡ y
       low l = rw (signed-low y l) (omega arith)
+
       high : 32768 ≤ y → bits (signed 2 y) ≡ y
       high l = rw (signed-high y l, sub-below y 65536 h) (omega arith)
 
@@ -107,6 +116,7 @@ module _ (y : ℕ) where
           let e : (y + 32768) % 65536 ≡ y + 32768 = omega arith in
           let f : 65536 - suc (y + 32768) ≡ 32768 - suc y = omega arith in
           rw (e, signed-high (y + 32768) (omega arith), sub-below (y + 32768) 65536 (omega arith), sub-below y 32768 l, f)
+
       high : 32768 ≤ y → subℕ y 32768 ≡ signed 2 ((y + 32768) % 65536)
       high l =
           let e : (y + 32768) % 65536 ≡ y - 32768 = omega arith in

@@ -15,8 +15,13 @@ pub none-left : (f : ℕ) → NotSix f × (f ≡ 17 → ⊥) → codingOf f ≡ 
 unfolding codingOf
 none-left f (n, s32) =
     rw (
-      ne-eqb f 1 (n .0 .0 .0 .0 .0 .1), ne-eqb f 3 (n .0 .0 .0 .0 .1), ne-eqb f 4 (n .0 .0 .0 .1), ne-eqb f 5 (n .0 .0 .1),
-      ne-eqb f 6 (n .0 .1), ne-eqb f 11 (n .1), ne-eqb f 17 s32,
+      ne-eqb f 1 (n .0 .0 .0 .0 .0 .1),
+      ne-eqb f 3 (n .0 .0 .0 .0 .1),
+      ne-eqb f 4 (n .0 .0 .0 .1),
+      ne-eqb f 5 (n .0 .0 .1),
+      ne-eqb f 6 (n .0 .1),
+      ne-eqb f 11 (n .1),
+      ne-eqb f 17 s32,
     )
 
 pub last-format : (f : ℕ) → NotSix f → 0 < width (codingOf f) → f ≡ 17

@@ -13,7 +13,15 @@ use lib.Pow.{pow-add}
 use Rattle.samples.specs.Values.{signed, centred, value, floorDiv, scaled, bits}
 use Rattle.samples.specs.Loops.{top, turn}
 use Rattle.samples.proofs.Numbers.{
-  below-or-not, floor-sub, times-sub, signed-low, signed-high, middle-signed, bits-signed, quotient-below, quotient-above,
+  below-or-not,
+  floor-sub,
+  times-sub,
+  signed-low,
+  signed-high,
+  middle-signed,
+  bits-signed,
+  quotient-below,
+  quotient-above,
 }
 
 -- ---- one byte
@@ -29,6 +37,7 @@ module _ (x : ℕ) (b : x < 256) where
     where
       low : x < 128 → scaled 1 (signed 1 x) ≡ signed 2 (x * 256)
       low l = rw (lt-ltb (2 * x) 256 (omega arith), lt-ltb (2 * (x * 256)) 65536 (omega arith))
+
       high : 128 ≤ x → scaled 1 (signed 1 x) ≡ signed 2 (x * 256)
       high l = rw (le-ltb (2 * x) 256 (omega arith), le-ltb (2 * (x * 256)) 65536 (omega arith)) (times-sub x 256)
 
@@ -72,11 +81,13 @@ module _ (w x : ℕ) (two : 2 ≤ w) (b : x < 256 ^ w) where
           let h : 2 * x < 65536 * unit = rw split at l in
           let t = quotient-below x unit 32768 unit-some (omega arith) in
           rw (wide-scaled, lt-ltb (2 * x) (256 ^ w) l, lt-ltb (2 * (x / unit)) 65536 (omega arith))
+
       high : 256 ^ w ≤ 2 * x → scaled w (signed w x) ≡ signed 2 (x / unit)
       high l =
           let h : 65536 * unit ≤ 2 * x = rw split at l in
           let t = quotient-above x unit 32768 unit-some (omega arith) in
-          rw (wide-scaled, le-ltb (2 * x) (256 ^ w) l, le-ltb (2 * (x / unit)) 65536 (omega arith), split) (floor-sub x unit 65536 unit-some)
+          rw (wide-scaled, le-ltb (2 * x) (256 ^ w) l, le-ltb (2 * (x / unit)) 65536 (omega arith), split)
+          (floor-sub x unit 65536 unit-some)
 
   wide-centred : scaled w (centred w x) ≡ subℕ (x / unit) 32768
   unfolding centred
@@ -97,6 +108,7 @@ module _ (w x : ℕ) (one : 1 ≤ w) (b : x < 256 ^ w) where
       narrow h =
           let c : x < 256 ^ 1 = rw (byte h) at b in
           rw (byte h, narrow-top x c) (omega arith)
+
       wide : 2 ≤ w → top w x < 65536
       wide h = rw (wide-top w x h b) (wide-bound w x h b)
 
@@ -107,6 +119,7 @@ module _ (w x : ℕ) (one : 1 ≤ w) (b : x < 256 ^ w) where
       narrow h =
           let c : x < 256 ^ 1 = rw (byte h) at b in
           rw (byte h, narrow-top x c) (narrow-signed x c)
+
       wide : 2 ≤ w → scaled w (signed w x) ≡ signed 2 (top w x)
       wide h = rw (wide-top w x h b) (wide-signed w x h b)
 
@@ -117,6 +130,7 @@ module _ (w x : ℕ) (one : 1 ≤ w) (b : x < 256 ^ w) where
       narrow h =
           let c : x < 256 ^ 1 = rw (byte h) at b in
           rw (byte h, narrow-top x c) (narrow-centred x c)
+
       wide : 2 ≤ w → scaled w (centred w x) ≡ subℕ (top w x) 32768
       wide h = rw (wide-top w x h b) (wide-centred w x h b)
 

@@ -1,7 +1,8 @@
 -- What a call of the converter answers and leaves in the output buffer, for all inputs.
+use mathlib.Core.Path.{_≡_}
 use mathlib.Core.List.{List}
 use mathlib.Core.Bool.{Bool, true, false, cond}
-use Prim.Native.Nat.{ℕ, zero, suc, _+_, _*_, _/_, _%_}
+use Prim.Native.Nat.{ℕ, zero, suc, _+_, _*_, _/_, _%_, _≤_, _<_}
 use lib.Dec.{eqb, leb}
 use lib.ListN.{length}
 use Rattle.memory.specs.Bytes.{put}
@@ -12,6 +13,10 @@ unfoldable pub written : Coding → List ℕ → ℕ → ℕ → List ℕ → Li
 written c from i zero to = to
 written c from i (suc n) to =
     written c from (i + 1) n (put 2 to (2 * i) (bitsAt c from i))
+
+-- n samples fill `from`, and `to` has room for their conversions
+abbrev pub Ready : Coding → ℕ → List ℕ → List ℕ → Type 0
+Ready c n from to = (0 < width c) × (length from ≡ width c * n) × (2 * n ≤ length to)
 
 -- the answer, and the output buffer after the call
 pub record Outcome : Type 0 where

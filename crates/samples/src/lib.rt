@@ -7,21 +7,30 @@ ghost use Rattle.samples.specs.Values.{bits};
 ghost use Rattle.samples.specs.MuLaw.{muLaw, MuLawTable};
 ghost use Rattle.samples.specs.Formats.{Coding, codingOf, width, bitsAt};
 ghost use Rattle.samples.specs.Loops.{turn};
-ghost use Rattle.samples.specs.Outcome.{written, outcome, converted};
+ghost use Rattle.samples.specs.Outcome.{written, Ready, outcome, converted};
 
 // VIRTIO_SND_PCM_FMT_: the formats taken.
 pub const MU_LAW: u32 = 1;
+
 pub const S8: u32 = 3;
+
 pub const U8: u32 = 4;
+
 pub const S16: u32 = 5;
+
 pub const U16: u32 = 6;
+
 pub const S24_3: u32 = 11;
+
 pub const S32: u32 = 17;
 
 // The answers.
 pub const DONE: u32 = 0;
+
 pub const OTHER_FORMAT: u32 = 30;
+
 pub const NOT_WHOLE: u32 = 31;
+
 pub const NO_ROOM: u32 = 32;
 
 // Mu-law: the 16-bit number of each code (ITU-T G.711).
@@ -415,7 +424,7 @@ pub fn sample_bytes(format: u32) -> usize
 
 // `samples` whole samples of `from`, converted to the start of `to`.
 fn convert(format: u32, samples: usize, from: &[u8], to: &mut [u8])
-    requires { ⌜ (0 < width (codingOf format)) × (length (now from) ≡ width (codingOf format) * samples) × (2 * samples ≤ length (now to)) ⌝ }
+    requires { ⌜ Ready (codingOf format) samples (now from) (now to) ⌝ }
     ensures { λ r. ⌜ now (to .exit) ≡ written (codingOf format) (now (from .entry)) 0 samples (now (to .entry)) ⌝ }
 {
     match format {

@@ -19,7 +19,7 @@ returns c =
     let a = c .before .before .before .before .args in
     let d = c .before .decoded in
     rw (c .bits .ensures, as-read (d .result) (record { sfits = d .ok }), d .ensures)
-      (mu-law-bits (a .from .now) (λ k. c .before .before .shared-slice-known2 .given k .fits) (a .i))
+    (mu-law-bits (a .from .now) (λ k. c .before .before .shared-slice-known2 .given k .fits) (a .i))
 
 pub mu-law-sample-spec : {M : Type 1} → statement M
 mu-law-sample-spec =

@@ -35,7 +35,8 @@ loop-again : tie.Need-loop-again Inv-loop μ-loop
 loop-again c =
     let before = c .before .before .before .before .before in
     let g = before .before .loop .inv in
-    rw (c .before .before .store .ensures) (going-on _ _ _ _ _ _ g _ (before .loop-test .taken) (c .before .before .before .narrow-sample .ensures))
+    let e = c .before .before .before .narrow-sample .ensures in
+    rw (c .before .before .store .ensures) (going-on _ _ _ _ _ _ g _ (before .loop-test .taken) e)
 
 same-length : tie.Need-same-length Inv-loop μ-loop
 same-length c = c .before .loop .inv .long

@@ -17,10 +17,10 @@ turned-requires : tie.Need-turned-requires
 turned-requires c κs = search needs
 
 returns : tie.Need-returns
-returns c = 
+returns c =
     let a = c .before .before .before .before .args in
     rw (c .turned .ensures, c .before .widened .ensures .0)
-      (narrow-bits (a .from .now) (λ k. c .before .before .shared-slice-known2 .given k .fits) (a .unsigned) (a .i))
+    (narrow-bits (a .from .now) (λ k. c .before .before .shared-slice-known2 .given k .fits) (a .unsigned) (a .i))
 
 pub narrow-sample-spec : {M : Type 1} → statement M
 narrow-sample-spec =

@@ -1,12 +1,12 @@
 -- `samples::wekshurag_to_s16` is right since its tests are those of `converted`, in that order, and `convert` does the rest.
 use mathlib.Core.Path.{_≡_}
-use Prim.Native.Nat.{_*_, _/_, _≤_, _<_}
+use Prim.Native.Nat.{_/_}
 use native.Mathlib.Omega.{arith}
 use borrow.Author.Needs.{needs}
 use lib.ListN.{length}
 use Rattle.samples.proofs.Answers.{no-format, not-whole, no-room, ready, done}
-use Rattle.samples.specs.Formats.{codingOf, width}
-use Rattle.samples.specs.Outcome.{outcome, written, converted}
+use Rattle.samples.specs.Formats.{codingOf}
+use Rattle.samples.specs.Outcome.{written, Ready, outcome, converted}
 use Rattle.samples.proofs.wekshurag_to_s16.Statement.{statement}
 use Rattle.samples.proofs.wekshurag_to_s16.Tie as tie
 
@@ -32,9 +32,8 @@ returns-3 c =
 -- past the tests: what `convert` asks, and what is to be left
 ready-at : (c : tie.Else3)
     → let a = c .before .before .before .before .before .before .args in
-      let n = length (a .from .now) / c .before .before .before .sample-bytes .result in
-      let w = width (codingOf (a .format)) in
-      (0 < w) × (length (a .from .now) ≡ w * n) × (2 * n ≤ length (a .to .now))
+    let n = length (a .from .now) / c .before .before .before .sample-bytes .result in
+    Ready (codingOf (a .format)) n (a .from .now) (a .to .now)
 ready-at c =
     let a = c .before .before .before .before .before .before .args in
     let b = c .before .before .before .sample-bytes .ensures in
@@ -45,8 +44,8 @@ convert-requires c κs = ready-at (c .before)
 
 all-written : (c : tie.Else3)
     → let a = c .before .before .before .before .before .before .args in
-      let n = length (a .from .now) / c .before .before .before .sample-bytes .result in
-      outcome 0 (written (codingOf (a .format)) (a .from .now) 0 n (a .to .now)) ≡ converted (a .format) (a .from .now) (a .to .now)
+    let n = length (a .from .now) / c .before .before .before .sample-bytes .result in
+    outcome 0 (written (codingOf (a .format)) (a .from .now) 0 n (a .to .now)) ≡ converted (a .format) (a .from .now) (a .to .now)
 all-written c =
     let b = c .before .before .before .sample-bytes .ensures in
     done _ _ _ _ b (c .before .before .if1 .left) (c .before .if2 .left) (ready-at c .2)

@@ -20,7 +20,7 @@ mul-store : tie.Need-mul-store Inv-loop μ-loop
 mul-store c = omega arith
 
 wide-sample-requires : tie.Need-wide-sample-requires Inv-loop μ-loop
-wide-sample-requires c κs = 
+wide-sample-requires c κs =
     let a = c .before .before .before .before .before .args in
     let i = c .before .before .loop .i in
     let m = sample-inside (a .bytes) i (a .samples) (c .before .loop-test .taken) in
@@ -39,7 +39,8 @@ loop-again : tie.Need-loop-again Inv-loop μ-loop
 loop-again c =
     let before = c .before .before .before .before .before in
     let g = before .before .loop .inv in
-    rw (c .before .before .store .ensures) (going-on _ _ _ _ _ _ g _ (before .loop-test .taken) (c .before .before .before .wide-sample .ensures))
+    let e = c .before .before .before .wide-sample .ensures in
+    rw (c .before .before .store .ensures) (going-on _ _ _ _ _ _ g _ (before .loop-test .taken) e)
 
 same-length : tie.Need-same-length Inv-loop μ-loop
 same-length c = c .before .loop .inv .long

@@ -21,10 +21,10 @@ turned-requires : tie.Need-turned-requires
 turned-requires c κs = search needs
 
 returns : tie.Need-returns
-returns c = 
+returns c =
     let a = c .before .before .before .args in
     rw (c .turned .ensures, c .before .pair .ensures)
-      (wide-bits (a .from .now) (λ k. c .before .before .shared-slice-known .given k .fits) (a .unsigned) (a .i) (a .bytes) (omega arith))
+    (wide-bits (a .from .now) (λ k. c .before .before .shared-slice-known .given k .fits) (a .unsigned) (a .i) (a .bytes) (omega arith))
 
 pub wide-sample-spec : {M : Type 1} → statement M
 wide-sample-spec =
