@@ -1,0 +1,2 @@
+-- Laws of the digits of an argument.
+pub mod Digits
