@@ -62,4 +62,5 @@ module _ (s : List ℕ) where
     begun = omega arith;
     short = h;
     small = omega arith;
-    same = rw (le-leb 1 (length s) (omega arith), le-leb (length s) 10 h) }
+    same = rw (le-leb 1 (length s) (omega arith), le-leb (length s) 10 h);
+  }

@@ -1,13 +1,15 @@
 -- The answers, each in its causes: w is the bytes of a sample.
-use mathlib.Core.Path.{_≡_}
+use mathlib.Core.Path.{_≡_, _∙_, refl, ap}
 use mathlib.Core.List.{List}
+use mathlib.Core.Logic.{⊎-elim}
 use Prim.Native.Nat.{ℕ, _*_, _/_, _%_, _≤_, _<_}
 use native.Mathlib.Nat.{mod-add-div}
 use native.Mathlib.Omega.{arith}
 use borrow.Author.Tests.{le-leb, lt-leb, eq-eqb, ne-eqb}
 use lib.ListN.{length}
 use Rattle.samples.specs.Formats.{Coding, width}
-use Rattle.samples.specs.Outcome.{written, Ready, outcome, convertedBy}
+use Rattle.samples.specs.Outcome.{written, Ready, Outcome, outcome, convertedBy, samplesIn}
+use Rattle.samples.proofs.Numbers.{below-or-not}
 
 module _ (c : Coding) (from to : List ℕ) (w : ℕ) (e : w ≡ width c) where
   pub no-format : w ≡ 0 → outcome 30 to ≡ convertedBy c from to
@@ -33,3 +35,25 @@ module _ (c : Coding) (from to : List ℕ) (w : ℕ) (e : w ≡ width c) where
       ready h =
           let m = mod-add-div (length from) w in
           rw (← e) (omega arith, omega arith, h)
+
+-- 0 is answered only where there was something to be done
+module _ (c : Coding) (from to : List ℕ) (h : convertedBy c from to .answer ≡ 0) where
+  none : (r : ℕ) → (r ≡ 0 → ⊥) → outcome r to ≡ convertedBy c from to → Ready c (samplesIn c from) from to
+  none r n e = absurd (n (ap (λ (o : Outcome). o .answer) e ∙ h))
+
+  pub done-only : Ready c (samplesIn c from) from to
+  done-only = ⊎-elim taken (λ z. none 30 (λ e. omega arith) (no-format c from to (width c) refl (omega arith))) (below-or-not 0 (width c))
+    where
+      roomy : 0 < width c → length from % width c ≡ 0 → Ready c (samplesIn c from) from to
+      roomy s w =
+          ⊎-elim
+          (λ l. none 32 (λ e. omega arith) (no-room c from to (width c) refl (λ e. omega arith) w l))
+          (λ l. ready c from to (width c) refl (λ e. omega arith) w l)
+          (below-or-not (length to) (2 * (length from / width c)))
+
+      taken : 0 < width c → Ready c (samplesIn c from) from to
+      taken s =
+          ⊎-elim
+          (λ l. none 31 (λ e. omega arith) (not-whole c from to (width c) refl (λ e. omega arith) (λ e. omega arith)))
+          (λ l. roomy s (omega arith))
+          (below-or-not 0 (length from % width c))

@@ -4,7 +4,15 @@ use Prim.Native.Nat.{_-_, _^_, _<_}
 use native.Mathlib.Omega.{arith}
 use lib.ListN.{length}
 use Rattle.argument.proofs.Digits.{
-  Reading, reading-first, reading-on, small-ten, digit-below, digit-above, read-end, none-at-all, too-long,
+  Reading,
+  reading-first,
+  reading-on,
+  small-ten,
+  digit-below,
+  digit-above,
+  read-end,
+  none-at-all,
+  too-long,
 }
 use Rattle.argument.proofs.read_number.Statement.{statement}
 use Rattle.argument.proofs.read_number.Tie as tie

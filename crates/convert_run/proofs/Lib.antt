@@ -1,0 +1,2 @@
+-- Laws of the blocks that the program converts one after the other.
+pub mod Blocks

@@ -1,0 +1,2 @@
+-- What the program makes of a block.
+pub mod Blocks

@@ -1,0 +1,307 @@
+// The program `convert FORMAT FROM TO`: the samples of a file, as S16, into another file, a block at a time.
+ghost use mathlib.Core.Path.{_≡_};
+ghost use Prim.Native.Nat.{_≤_, _<_};
+ghost use lib.ListN.{length};
+ghost use Rattle.io.specs.Counts.{Counts};
+ghost use Rattle.samples.specs.Formats.{codingOf};
+ghost use Rattle.convert_run.specs.Blocks.{MadeBy};
+use argument::Number;
+use libc::SEEK_END;
+use libc::SEEK_SET;
+use libc::STDOUT_FILENO;
+
+// No file to write to: a pass without one only counts what it reads.
+const NO_SINK: i32 = -1;
+
+// Wrong arguments, and a file that can't be used.
+const USAGE: u32 = 99;
+
+const UNUSABLE: u32 = 98;
+
+// The bytes read at a time: whole samples of every format.
+const BLOCK: usize = 49152;
+
+// More blocks than a file can have: the loops over them count down from here, so that they end whatever is read.
+const BLOCKS: u64 = 281474976710656;
+
+// What is printed: an answer, and beside 0 how many samples.
+struct Report {
+    answer: u32,
+    samples: u64,
+}
+
+// Bytes at the start of a buffer, and whether all went well.
+struct Piece {
+    count: usize,
+    sound: bool,
+}
+
+// The bytes that a pass read, and whether all went well to the end.
+struct Passed {
+    bytes: u64,
+    sound: bool,
+}
+
+fn block_buffer() -> [u8; 49152]
+    ensures { λ r. ⌜ 49152 ≡ length r ⌝ }
+{
+    [0; 49152]
+}
+
+fn output_buffer() -> [u8; 98304]
+    ensures { λ r. ⌜ 98304 ≡ length r ⌝ }
+{
+    [0; 98304]
+}
+
+fn refused(answer: u32) -> Report {
+    Report {
+        answer: answer,
+        samples: 0,
+    }
+}
+
+// The next block of a file. A short one is the last, unless reading failed.
+fn read_block(file: i32, block: &mut [u8]) -> Piece
+    ensures { λ r. ⌜ r .count ≤ length (now (block .exit)) ⌝ }
+{
+    let count = io::read_full(file, block);
+    if count == block.len() {
+        return Piece {
+            count: count,
+            sound: true,
+        };
+    }
+    let mut more = [0u8; 1];
+    let got = libc::read(file, &mut more);
+    Piece {
+        count: count,
+        sound: got == 0,
+    }
+}
+
+// A block of samples, converted: the bytes to write stand in `out`.
+fn convert_block(format: u32, block: &[u8], out: &mut [u8]) -> Piece
+    ensures { λ r. ⌜ MadeBy (codingOf format) (now (block .entry)) (now (out .entry)) r (now (out .exit)) ⌝ }
+{
+    let answer = samples::wekshurag_to_s16(format, block, out);
+    if answer != samples::DONE {
+        return Piece {
+            count: 0,
+            sound: false,
+        };
+    }
+    let bytes = samples::sample_bytes(format);
+    Piece {
+        count: 2 * (block.len() / bytes),
+        sound: true,
+    }
+}
+
+// The next block of `source`, converted into `sink`.
+fn pass_block(source: i32, sink: i32, format: u32, block: &mut [u8], out: &mut [u8]) -> Piece
+    ensures { λ r. ⌜ r .count ≤ length (now (block .exit)) ⌝ }
+{
+    let read = read_block(source, block);
+    if sink < 0 {
+        return read;
+    }
+    let count = read.count;
+    let made = convert_block(format, &block[..count], out);
+    let bytes = made.count;
+    let wrote = io::write_all(sink, &out[..bytes]);
+    Piece {
+        count: count,
+        sound: read.sound && made.sound && wrote,
+    }
+}
+
+// A pass over `source`, from where it stands to its end.
+fn pass(source: i32, sink: i32, format: u32) -> Passed {
+    let mut block = block_buffer();
+    let mut out = output_buffer();
+    let mut bytes: u64 = 0;
+    let mut left = BLOCKS;
+    while 0 < left {
+        let piece = pass_block(source, sink, format, &mut block, &mut out);
+        bytes += piece.count as u64;
+        if !piece.sound {
+            return Passed {
+                bytes: bytes,
+                sound: false,
+            };
+        }
+        if piece.count < BLOCK {
+            return Passed {
+                bytes: bytes,
+                sound: true,
+            };
+        }
+        left -= 1;
+    }
+    Passed {
+        bytes: bytes,
+        sound: false,
+    }
+}
+
+// All of `source`, which had so many bytes, converted into `sink`.
+fn write_samples(source: i32, sink: i32, format: u32, bytes: u64) -> bool {
+    if libc::lseek(source, 0, SEEK_SET) != 0 {
+        return false;
+    }
+    let passed = pass(source, sink, format);
+    passed.sound && passed.bytes == bytes
+}
+
+fn process_number() -> u64 {
+    let number = libc::getpid();
+    if number < 0 {
+        return 0;
+    }
+    number as u64
+}
+
+// `s` put into `name` at `at`, as far as it goes; answers the place behind it.
+fn put_at(s: &[u8], at: usize, name: &mut [u8]) -> usize
+    requires { ⌜ at ≤ length (now name) ⌝ }
+    ensures { λ r. ⌜ Counts r (now (name .exit)) ⌝ }
+{
+    let mut i = 0;
+    let mut d = at;
+    while i < s.len() {
+        if name.len() <= d {
+            return d;
+        }
+        name[d] = s[i];
+        i += 1;
+        d += 1;
+    }
+    d
+}
+
+// The name of the file that is written before it takes TO's place: TO, a dot and the process's number. One that does not fit fills the
+// 4,096 bytes, which is too long for a path.
+fn part_name(to: &[u8], name: &mut [u8]) -> usize
+    ensures { λ r. ⌜ Counts r (now (name .exit)) ⌝ }
+{
+    let mut digits = [0u8; 20];
+    let count = io::decimal(process_number(), &mut digits);
+    let named = put_at(to, 0, name);
+    let dotted = put_at(b".", named, name);
+    put_at(&digits[..count], dotted, name)
+}
+
+// A new file takes TO's place once it is whole; until then, and where it can't be, TO is as it was.
+fn replace(to: &[u8], source: i32, format: u32, bytes: u64) -> bool {
+    let mut name = io::buffer();
+    let n = part_name(to, &mut name);
+    let part = os::create(&name[..n]);
+    if part < 0 {
+        return false;
+    }
+    let wrote = write_samples(source, part, format, bytes);
+    let closed = libc::close(part);
+    if wrote && closed == 0 {
+        if os::rename(&name[..n], to) == 0 {
+            return true;
+        }
+    }
+    os::unlink(&name[..n]);
+    false
+}
+
+// Whether what is open is a device, a pipe or the like, which can't be cut to a length and is not to be replaced.
+fn is_special(file: i32) -> bool {
+    let size = libc::lseek(file, 0, SEEK_END);
+    if size < 0 {
+        return true;
+    }
+    libc::ftruncate(file, size) != 0
+}
+
+// TO made to hold the samples of `source`.
+fn write_to(to: &[u8], source: i32, format: u32, bytes: u64) -> bool {
+    let old = os::open_append(to);
+    if old < 0 {
+        if os::errno() != libc::ENOENT {
+            return false;
+        }
+        return replace(to, source, format, bytes);
+    }
+    if is_special(old) {
+        let wrote = write_samples(source, old, format, bytes);
+        let closed = libc::close(old);
+        return wrote && closed == 0;
+    }
+    libc::close(old);
+    replace(to, source, format, bytes)
+}
+
+// The order of the checks past FORMAT: FROM can't be used, not whole samples, TO can't be used.
+fn convert_open(source: i32, format: u32, bytes: u64, to: &[u8]) -> Report
+    requires { ⌜ 0 < bytes ⌝ }
+{
+    let length = pass(source, NO_SINK, format);
+    if !length.sound {
+        return refused(UNUSABLE);
+    }
+    if length.bytes % bytes != 0 {
+        return refused(samples::NOT_WHOLE);
+    }
+    if !write_to(to, source, format, length.bytes) {
+        return refused(UNUSABLE);
+    }
+    Report {
+        answer: samples::DONE,
+        samples: length.bytes / bytes,
+    }
+}
+
+fn convert_file(format: u32, from: &[u8], to: &[u8]) -> Report {
+    let bytes = samples::sample_bytes(format) as u64;
+    if bytes == 0 {
+        return refused(samples::OTHER_FORMAT);
+    }
+    let source = os::open_read(from);
+    if source < 0 {
+        return refused(UNUSABLE);
+    }
+    let report = convert_open(source, format, bytes, to);
+    libc::close(source);
+    report
+}
+
+// The arguments: FORMAT, 1 to 10 digits; FROM; TO. One that is too long for its buffer is read as empty.
+fn from_arguments() -> Report {
+    if os::arg_count() != 4 {
+        return refused(USAGE);
+    }
+    let mut word = io::buffer();
+    let n = os::arg(1, &mut word);
+    let Number::Is(format) = argument::read_number(&word[..n]) else {
+        return refused(USAGE);
+    };
+    if 4294967295 < format {
+        return refused(samples::OTHER_FORMAT);
+    }
+    let mut from = io::buffer();
+    let from_len = os::arg(2, &mut from);
+    let mut to = io::buffer();
+    let to_len = os::arg(3, &mut to);
+    convert_file(format as u32, &from[..from_len], &to[..to_len])
+}
+
+fn print(report: Report) {
+    io::print_decimal(STDOUT_FILENO, report.answer as u64);
+    if report.answer == samples::DONE {
+        io::write_all(STDOUT_FILENO, b" ");
+        io::print_decimal(STDOUT_FILENO, report.samples);
+    }
+    io::write_all(STDOUT_FILENO, b"\n");
+}
+
+// The whole program.
+pub fn run() {
+    print(from_arguments());
+}
