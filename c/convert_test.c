@@ -1,4 +1,7 @@
-/* The converter against an independent plain C one: every code of 8 and 16 bits, random ones of 24 and 32, refusals and bounds. */
+/*
+ * The converter against an independent plain C one: every code of 8 and 16 bits, random ones of 24 and 32, refusals and bounds.
+ * With a format's number as its argument it is that plain one as a filter.
+ */
 #define _DEFAULT_SOURCE
 #include "wekshurag_convert.h"
 
@@ -238,8 +241,25 @@ static void refusals(void)
     }
 }
 
-int main(void)
+/* Standard input, samples of `format`, converted to standard output: what the program's output is held against. */
+static int filter(uint32_t format)
 {
+    uint8_t bytes[4];
+    while (fread(bytes, 1, bytes_of(format), stdin) == bytes_of(format)) {
+        uint64_t x = 0;
+        for (size_t k = 0; k < bytes_of(format); k++)
+            x |= (uint64_t)bytes[k] << (8 * k);
+        uint32_t s = (uint32_t)expected(format, x);
+        putchar((int)(s & 0xffu));
+        putchar((int)(s >> 8 & 0xffu));
+    }
+    return 0;
+}
+
+int main(int argc, char **argv)
+{
+    if (argc > 1)
+        return filter((uint32_t)strtoul(argv[1], NULL, 10));
     every_code();
     every_length();
     refusals();
