@@ -1,7 +1,7 @@
 -- One digit of an argument more, or none: the equations that the loop over them follows.
 use mathlib.Core.Path.{_≡_}
 use mathlib.Core.List.{List}
-use Prim.Native.Nat.{ℕ, suc, _+_, _-_, _*_, _^_, _≤_, _<_}
+use Prim.Native.Nat.{ℕ, _+_, _-_, _*_, _^_, _≤_, _<_}
 use native.Mathlib.Nat.{pow-suc, pow-le-pow-right, lt-of-lt-of-le}
 use native.Mathlib.Numerals.{add-one}
 use native.Mathlib.Omega.{arith}
@@ -9,7 +9,6 @@ use borrow.Author.Tests.{le-leb, lt-leb}
 use lib.ListN.{length, getD, drop, drop-of-length-le}
 use lib.Seq.{drop-cons}
 use Rattle.argument.specs.Number.{isDigit, read, numberOf}
-use Rattle.argument.specs.declared.Number.{Number}
 use Rattle.argument.specs.declared.Number.the-variants.{Is, None}
 
 -- what is known with i digits read: their number v, which has at most i digits

@@ -13,7 +13,7 @@ use Rattle.samples.specs.Outcome.{Outcome, outcome, convertedBy, samplesIn, Rea
 use Rattle.samples.specs.Promise.{Block}
 use Rattle.samples.proofs.Answers.{done-only}
 use Rattle.samples.proofs.Promise.{promise, block}
-use Rattle.convert_run.specs.Blocks.{Made, made}
+use Rattle.convert_run.specs.Blocks.{made}
 
 module _ (r : ℕ) (c : Coding) (from to out : List ℕ) (e : outcome r out ≡ convertedBy c from to) where
   answered : r ≡ convertedBy c from to .answer

@@ -1,29 +1,28 @@
 -- Every call keeps the promise: sample i of the output is written once, and nothing else is (`promise`). Blocks that were converted
 -- apart, joined, are the conversion of the joined input (`joined`).
-use mathlib.Core.Path.{_≡_, _∙_, sym, refl, ap}
-use mathlib.Core.Bool.{Bool, true, false}
+use mathlib.Core.Path.{_≡_, _∙_, sym, refl}
+use mathlib.Core.Bool.{Bool}
 use mathlib.Core.List.{List, _++_}
-use mathlib.Core.Logic.{_⊎_, inl, inr, ⊎-elim}
+use mathlib.Core.Logic.{_⊎_, ⊎-elim}
 use Prim.Native.Nat.{ℕ, zero, suc, _+_, _*_, _-_, _/_, _%_, _^_, _≤_, _<_}
-use native.Mathlib.Nat.{mul-add, mod-add-div}
-use native.Mathlib.Numerals.{add-one}
+use native.Mathlib.Nat.{mul-add}
 use native.Mathlib.Omega.{arith}
 use lib.Dec.{T}
 use lib.IntN.{ℤ, pos, negsuc}
-use lib.ListN.{length, getD, take, length-append, length-take, List·getD-append}
+use lib.ListN.{length, getD, take, length-append, List·getD-append}
 use lib.Seq.{getD-append-add, getD-take, length-take-le}
 use Rattle.memory.specs.Bytes.{le, put}
 use Rattle.memory.proofs.Laws.{le-bound, le-put, le-same, getD-put, getD-put-above, length-put}
 use Rattle.samples.specs.Values.{signed, bits}
 use Rattle.samples.specs.Loops.{top, turn}
 use Rattle.samples.specs.MuLaw.{muLaw}
-use Rattle.samples.specs.Formats.{Coding, linear, mulaw, other, codingOf, width, conversion, sampleAt, bitsAt}
-use Rattle.samples.specs.Outcome.{written, converted, convertedBy, outcome}
-use Rattle.samples.specs.Promise.{Sounds, Left, Promise, Block}
+use Rattle.samples.specs.Formats.{Coding, linear, mulaw, other, width, conversion, sampleAt, bitsAt}
+use Rattle.samples.specs.Outcome.{written, convertedBy}
+use Rattle.samples.specs.Promise.{Left, Promise, Block}
 use Rattle.samples.proofs.Numbers.{below-or-not, bits-signed}
 use Rattle.samples.proofs.Table.{same, same-eq, below, below-at}
-use Rattle.samples.proofs.Width.{linear-signed, linear-bits}
-use Rattle.samples.proofs.Going.{written-none, written-more, sample-inside}
+use Rattle.samples.proofs.Width.{linear-signed}
+use Rattle.samples.proofs.Going.{sample-inside}
 use Rattle.samples.proofs.Answers as answers
 
 -- ---- the bytes of a written buffer

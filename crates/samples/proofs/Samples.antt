@@ -1,10 +1,9 @@
 -- What the loops form of a sample's bytes are the bits of its conversion.
-use mathlib.Core.Path.{_≡_, _∙_, sym, refl, ap}
+use mathlib.Core.Path.{_≡_, refl}
 use mathlib.Core.Bool.{Bool}
 use mathlib.Core.List.{List}
 use Prim.Native.Nat.{ℕ, zero, suc, _+_, _*_, _-_, _/_, _%_, _^_, _≤_, _<_}
-use native.Mathlib.Nat.{pow-succ', div-div-eq-div-mul, add-assoc, add-comm, div-one}
-use native.Mathlib.Numerals.{add-one}
+use native.Mathlib.Nat.{pow-succ', div-div-eq-div-mul, div-one}
 use native.Mathlib.Omega.{arith}
 use borrow.Author.Tests.{le-ltb}
 use lib.ListN.{getD}

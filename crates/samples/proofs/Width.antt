@@ -1,28 +1,17 @@
 -- A linear sample of any width becomes its top 16 bits in two's complement, an unsigned one with the top bit turned: one law over the
 -- width and the sign (`linear-signed`).
-use mathlib.Core.Path.{_≡_, _∙_, sym, refl, ap}
-use mathlib.Core.Bool.{Bool, true, false, cond}
-use mathlib.Core.Logic.{_⊎_, inl, inr, ⊎-elim}
-use Prim.Native.Nat.{ℕ, suc, _+_, _*_, _-_, _/_, _%_, _^_, _≤_, _<_}
+use mathlib.Core.Path.{_≡_, _∙_, refl, ap}
+use mathlib.Core.Bool.{Bool, true, false}
+use mathlib.Core.Logic.{_⊎_, ⊎-elim}
+use Prim.Native.Nat.{ℕ, _+_, _*_, _-_, _/_, _%_, _^_, _≤_, _<_}
 use native.Mathlib.Nat.{one-le-pow}
 use native.Mathlib.Omega.{arith}
 use borrow.Author.Tests.{lt-ltb, le-ltb}
-use lib.Dec.{ltb}
-use lib.IntN.{ℤ, pos, negsuc, subℕ, _*ℤ_}
+use lib.IntN.{ℤ, subℕ}
 use lib.Pow.{pow-add}
 use Rattle.samples.specs.Values.{signed, centred, value, floorDiv, scaled, bits}
 use Rattle.samples.specs.Loops.{top, turn}
-use Rattle.samples.proofs.Numbers.{
-  below-or-not,
-  floor-sub,
-  times-sub,
-  signed-low,
-  signed-high,
-  middle-signed,
-  bits-signed,
-  quotient-below,
-  quotient-above,
-}
+use Rattle.samples.proofs.Numbers.{below-or-not, floor-sub, times-sub, middle-signed, bits-signed, quotient-below, quotient-above}
 
 -- ---- one byte
 

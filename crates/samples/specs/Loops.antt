@@ -1,5 +1,5 @@
 -- The 16 bits that the loops form of a linear sample. That they are those of its conversion is proved (`proofs/Width.antt`).
-use mathlib.Core.Bool.{Bool, true, false, cond}
+use mathlib.Core.Bool.{Bool, cond}
 use Prim.Native.Nat.{ℕ, _*_, _-_, _/_, _^_}
 use lib.Dec.{ltb}
 

@@ -4,7 +4,7 @@ use mathlib.Core.List.{List}
 use Prim.Native.Nat.{ℕ, _*_, _/_, _%_, _≤_, _<_}
 use lib.ListN.{length, getD}
 use Rattle.samples.specs.Values.{signed}
-use Rattle.samples.specs.Formats.{Coding, codingOf, width, conversion, sampleAt}
+use Rattle.samples.specs.Formats.{Coding, width, conversion, sampleAt}
 use Rattle.samples.specs.Outcome.{Outcome, outcome}
 
 -- Each of the n samples of `out`, read as S16, is the conversion of its sample of `from`.
@@ -28,7 +28,7 @@ pub record Promise (c : Coding) (from to : List ℕ) (o : Outcome) : Type 0 wher
   pub done : 0 < width c → length from % width c ≡ 0 → 2 * (length from / width c) ≤ length to
       → (o .answer ≡ 0) × Left c (length from / width c) from to (o .out)
 
--- Two parts of a sound, converted apart: a block of whole samples, and what it became.
+-- A block of whole samples, and what it became. Blocks that were converted apart join (`joined`).
 pub record Block (c : Coding) (n : ℕ) (from out : List ℕ) : Type 0 where
   pub whole : length from ≡ width c * n
   pub room : length out ≡ 2 * n

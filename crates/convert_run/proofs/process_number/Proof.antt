@@ -2,10 +2,10 @@
 use mathlib.Core.Path.{_≡_, subst}
 use mathlib.Core.Bool.{false}
 use lib.Dec.{T}
-use lib.IntN.{ℤ, pos, negsuc, natAbs}
+use lib.IntN.{ℤ, pos, negsuc}
 use lib.Signed.{ltZ, nonNeg}
 use mir.Syntax.{w32, w64}
-use mir.Val.{SFits, Fits, toZ, ofZ}
+use mir.Val.{SFits}
 use mir.Facts.{toZ-ofZ, fits-natAbs}
 use borrow.Author.Needs.{needs}
 use Rattle.convert_run.proofs.process_number.Statement.{statement}

@@ -1,7 +1,6 @@
 -- `samples::narrow` is right since each turn writes the bits of one more sample, as `written` does (`Going`).
 use Prim.Native.Nat.{_-_}
 use native.Mathlib.Omega.{arith}
-use borrow.Author.Needs.{needs}
 use Rattle.samples.specs.Formats.{linear}
 use Rattle.samples.proofs.Going.{Going, going-first, going-on, going-last}
 use Rattle.samples.proofs.narrow.Statement.{statement}
