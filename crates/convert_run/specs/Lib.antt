@@ -1,2 +1,3 @@
--- What the program makes of a block.
+-- What the program makes of a block, and what it answers.
 pub mod Blocks
+pub mod Reports

@@ -5,6 +5,7 @@ ghost use lib.ListN.{length};
 ghost use Rattle.io.specs.Counts.{Counts};
 ghost use Rattle.samples.specs.Formats.{codingOf};
 ghost use Rattle.convert_run.specs.Blocks.{MadeBy};
+ghost use Rattle.convert_run.specs.Reports.{refusal, lengthAnswer, FormatFirst};
 use argument::Number;
 use libc::SEEK_END;
 use libc::SEEK_SET;
@@ -54,7 +55,9 @@ fn output_buffer() -> [u8; 98304]
     [0; 98304]
 }
 
-fn refused(answer: u32) -> Report {
+fn refused(answer: u32) -> Report
+    ensures { λ r. ⌜ r ≡ refusal answer ⌝ }
+{
     Report {
         answer: answer,
         samples: 0,
@@ -238,16 +241,29 @@ fn write_to(to: &[u8], source: i32, format: u32, bytes: u64) -> bool {
     replace(to, source, format, bytes)
 }
 
-// The order of the checks past FORMAT: FROM can't be used, not whole samples, TO can't be used.
-fn convert_open(source: i32, format: u32, bytes: u64, to: &[u8]) -> Report
+// FROM's length judged: 98 unless it was read to its end, 31 unless it is whole samples.
+fn judge_length(length: Passed, bytes: u64) -> u32
     requires { ⌜ 0 < bytes ⌝ }
+    ensures { λ r. ⌜ r ≡ lengthAnswer (length .sound) (length .bytes) bytes ⌝ }
 {
-    let length = pass(source, NO_SINK, format);
     if !length.sound {
-        return refused(UNUSABLE);
+        return UNUSABLE;
     }
     if length.bytes % bytes != 0 {
-        return refused(samples::NOT_WHOLE);
+        return samples::NOT_WHOLE;
+    }
+    samples::DONE
+}
+
+// The order past FROM's opening: FROM can't be read, not whole samples, TO can't be used.
+fn convert_open(source: i32, format: u32, bytes: u64, to: &[u8]) -> Report
+    requires { ⌜ 0 < bytes ⌝ }
+    ensures { λ r. ⌜ (r .answer ≡ 30 → ⊥) ⌝ }
+{
+    let length = pass(source, NO_SINK, format);
+    let answer = judge_length(length, bytes);
+    if answer != samples::DONE {
+        return refused(answer);
     }
     if !write_to(to, source, format, length.bytes) {
         return refused(UNUSABLE);
@@ -258,7 +274,10 @@ fn convert_open(source: i32, format: u32, bytes: u64, to: &[u8]) -> Report
     }
 }
 
-fn convert_file(format: u32, from: &[u8], to: &[u8]) -> Report {
+// The order past FORMAT's reading: not in the list (30, then only), FROM can't be opened.
+fn convert_file(format: u32, from: &[u8], to: &[u8]) -> Report
+    ensures { λ r. ⌜ FormatFirst format r ⌝ }
+{
     let bytes = samples::sample_bytes(format) as u64;
     if bytes == 0 {
         return refused(samples::OTHER_FORMAT);
