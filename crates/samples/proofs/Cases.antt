@@ -1,12 +1,15 @@
 -- Order 7's numbers, with those on each side of them, as one statement over the definitions (`cases`); and that `floorDiv` is the floor.
 use mathlib.Core.Path.{_≡_, refl, ap}
+use mathlib.Core.List.{[], _∷_}
 use Prim.Native.Nat.{ℕ, suc, _+_, _*_, _-_, _/_, _%_, _<_}
 use native.Mathlib.Nat.{div-add-mod', mod-lt, suc-mul}
 use native.Mathlib.Omega.{arith}
 use lib.IntN.{ℤ, pos, negsuc, negℤ, _+ℤ_, _*ℤ_}
-use Rattle.samples.specs.Values.{signed, centred, value, floorDiv, scaled}
+use Rattle.memory.specs.Bytes.{le, put}
+use Rattle.samples.specs.Values.{signed, centred, value, floorDiv, scaled, bits}
 use Rattle.samples.specs.MuLaw.{muLaw}
-use Rattle.samples.specs.Formats.{codingOf, conversion}
+use Rattle.samples.specs.Formats.{codingOf, width, other, conversion}
+use Rattle.samples.specs.Outcome.{written, outcome, convertedBy, converted}
 use Rattle.samples.proofs.Numbers.{sub-below}
 
 -- a sample of a format, by its virtio number, becomes z
@@ -40,9 +43,20 @@ pub record Cases : Type 0 where
   -- S32: −1 and the least
   pub s32-minus : becomes 17 4294967295 (negℤ (pos 1))
   pub s32-least : becomes 17 2147483648 (negℤ (pos 32768))
+  -- the bytes of a sample; numbers on each side of the formats taken, and one that is a format but for its ninth bit
+  pub bytes-of : (width (codingOf 1) ≡ 1) × (width (codingOf 3) ≡ 1) × (width (codingOf 4) ≡ 1) × (width (codingOf 5) ≡ 2)
+      × (width (codingOf 6) ≡ 2) × (width (codingOf 11) ≡ 3) × (width (codingOf 17) ≡ 4)
+  pub not-taken : (codingOf 0 ≡ other) × (codingOf 2 ≡ other) × (codingOf 7 ≡ other) × (codingOf 10 ≡ other) × (codingOf 12 ≡ other)
+      × (codingOf 16 ≡ other) × (codingOf 18 ≡ other) × (codingOf 261 ≡ other)
+  -- whole calls: two samples of S24_3 with a byte of room to spare; nothing; and each refusal, the earlier one first
+  pub two-done : converted 11 (255 ∷ 255 ∷ 255 ∷ 0 ∷ 1 ∷ 0 ∷ []) (9 ∷ 9 ∷ 9 ∷ 9 ∷ 9 ∷ []) ≡ outcome 0 (255 ∷ 255 ∷ 1 ∷ 0 ∷ 9 ∷ [])
+  pub none-done : converted 17 [] [] ≡ outcome 0 []
+  pub first-30 : converted 2 (1 ∷ 2 ∷ 3 ∷ []) (9 ∷ []) ≡ outcome 30 (9 ∷ [])
+  pub then-31 : converted 5 (1 ∷ 2 ∷ 3 ∷ []) (9 ∷ []) ≡ outcome 31 (9 ∷ [])
+  pub then-32 : converted 5 (1 ∷ 2 ∷ []) (9 ∷ []) ≡ outcome 32 (9 ∷ [])
 
 pub cases : Cases
-unfolding codingOf scaled value signed centred floorDiv muLaw
+unfolding codingOf scaled value signed centred floorDiv muLaw bits convertedBy written le put
 cases = record {
   mu-ff = refl;
   mu-7f = refl;
@@ -65,6 +79,13 @@ cases = record {
   s24-one = refl;
   s32-minus = refl;
   s32-least = refl;
+  bytes-of = (refl, refl, refl, refl, refl, refl, refl);
+  not-taken = (refl, refl, refl, refl, refl, refl, refl, refl);
+  two-done = refl;
+  none-done = refl;
+  first-30 = refl;
+  then-31 = refl;
+  then-32 = refl;
 }
 
 -- ---- z is m times its floor, and a rest from 0 to m − 1
