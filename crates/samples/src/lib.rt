@@ -321,7 +321,7 @@ fn widened(b: u8) -> u16
     b as u16
 }
 
-// The number in two bytes at `at`.
+// The number in two bytes at `at`. It asks that they are there, so that the loops test nothing at a sample.
 fn pair(s: &[u8], at: usize) -> u16
     requires { ⌜ at + 2 ≤ length (now s) ⌝ }
     ensures { λ r. ⌜ r ≡ le 2 (now (s .entry)) at ⌝ }
