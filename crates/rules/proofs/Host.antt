@@ -14,7 +14,20 @@ use Rattle.rules.specs.Device.{Direction, output, input, Virtqueue, queu
 use Rattle.rules.specs.Loop.{loop}
 use Rattle.rules.specs.Transfer.{Ops, Run, begun, isNil, isWell, bytesMoved, takingOf, completed, moved, worked, taking, entered, met, next, transferMore, transferRun}
 
--- what every step of a loop keeps, the loop keeps
+-- a loop ends with work: what every step keeps holds then, and what work makes of it
+pub loop-ends :
+    {S : Type 0} (P Q : S → Type 0) (work : S → S) (more : S → Bool) (next : S → S)
+    → ((s : S) → P s → P (work s))
+    → ((s : S) → P s → more s ≡ true → P (next s))
+    → ((s : S) → P s → Q (work s))
+    → (k : ℕ) (s : S)
+    → P s
+    → Q (loop work more next k s)
+unfolding loop
+loop-ends P Q work more next w n q zero s p = q s p
+loop-ends P Q work more next w n q (suc k) s p =
+    by-cond Q (more (work s)) (λ e. loop-ends P Q work more next w n q k (next (work s)) (n (work s) (w s p) e)) (λ e. q s p)
+
 pub loop-keeps :
     {S : Type 0} (P : S → Type 0) (work : S → S) (more : S → Bool) (next : S → S)
     → ((s : S) → P s → P (work s))
@@ -22,10 +35,7 @@ pub loop-keeps :
     → (k : ℕ) (s : S)
     → P s
     → P (loop work more next k s)
-unfolding loop
-loop-keeps P work more next w n zero s p = w s p
-loop-keeps P work more next w n (suc k) s p =
-    by-cond P (more (work s)) (λ e. loop-keeps P work more next w n k (next (work s)) (n (work s) (w s p) e)) (λ e. w s p)
+loop-keeps P work more next w n k s p = loop-ends P P work more next w n w k s p
 
 -- a byte is moved for each address, as far as the host has bytes
 pub moved-long : (d : Direction) (xs host m : List ℕ) → length xs ≤ length host → length (bytesMoved d xs host m) ≡ length xs

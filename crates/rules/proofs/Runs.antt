@@ -1,16 +1,17 @@
 -- The runs of a play and of a Release over the play queue's history: each step keeps what has been added so far, and that a message in
 -- work is well-formed.
 use mathlib.Core.Path.{_≡_, refl, sym, _∙_}
-use mathlib.Core.Bool.{Bool, true, false, _&&_, not, true≢false}
-use mathlib.Core.List.{List, [], _++_}
-use Prim.Native.Nat.{ℕ, _+_, _-_, _*_, _%_}
+use mathlib.Core.Bool.{Bool, true, false, _&&_, not, true≢false, and-eq-true-iff}
+use mathlib.Core.List.{List, [], _∷_, _++_}
+use Prim.Native.Nat.{ℕ, _+_, _-_, _*_, _%_, _<_}
 use native.Mathlib.Omega.{arith}
-use borrow.Author.Tests.{le-leb, ltb-true}
+use borrow.Author.Tests.{le-leb, ltb-true, ltb-false}
 use lib.Dec.{ltb}
-use lib.ListN.{length, length-append}
+use lib.ListN.{length, drop, length-append, length-drop}
 use lib.Seq.{getD-append-seam}
 use Rattle.counts.specs.declared.PageNumber.{PageNumber}
 use Rattle.memory.specs.Bytes.{le}
+use Rattle.ranges.proofs.Laws.{length-upFrom}
 use Rattle.registers.specs.Map.{sizeOf}
 use Rattle.registers.proofs.Keeps.{by-cond}
 use Rattle.ring.specs.Rules.{baseOf, headAt}
@@ -19,10 +20,10 @@ use Rattle.rules.specs.Account.{InOrder, memoryAfter}
 use Rattle.rules.specs.Claim.{Good, queueOf, card}
 use Rattle.rules.specs.Device.{output, Virtqueue, Form, wellFormed, refused, silent, unwalked, Taking, Ending, finished, released, illFormed}
 use Rattle.rules.specs.Histories as history
-use Rattle.rules.specs.Histories.{History, number, current, waiting, took, noted}
+use Rattle.rules.specs.Histories.{History, number, current, handedNow, waiting, took, noted}
 use Rattle.rules.specs.Transfer.{Ops, Run, begun, isNil, isWell, payloadOf, takingOf, completed, moved, settled, worked, givenUp, taking, entered, met, next, transferMore, releaseMore, transferRun, releaseRun}
 use Rattle.rules.proofs.Histories.{free, alike, nothing-left, took-busy}
-use Rattle.rules.proofs.Host.{loop-keeps}
+use Rattle.rules.proofs.Host.{loop-keeps, loop-ends}
 use Rattle.rules.proofs.Keeps.{same-number, none-left, took-good}
 use Rattle.rules.proofs.Lists.{nil-true}
 use Rattle.rules.proofs.Natural.{Moved, moved-keeps, moved-busy, moved-next, works-busy, worked-keeps, give-keeps, next-keeps, transfer-free, release-free, begun-moved}
@@ -37,6 +38,26 @@ well-of wellFormed e = refl
 well-of refused e = absurd (true≢false (sym e))
 well-of silent e = absurd (true≢false (sym e))
 well-of (unwalked fault) e = absurd (true≢false (sym e))
+
+-- something of the message in work, if any, waits
+abbrev pub Waits : History → Type 0
+Waits q = free q ≡ false → 0 < length (waiting output q)
+
+some-of : (l : List ℕ) → isNil l ≡ false → 0 < length l
+some-of [] e = absurd (true≢false e)
+some-of (x ∷ l) e = omega arith
+
+left-waits : (h : History) → isNil (drop (handedNow h) (payloadOf output (current h))) ≡ false → 0 < length (waiting output h)
+unfolding waiting
+left-waits h e =
+    rw length-upFrom (rw length-drop at (some-of (drop (handedNow h) (payloadOf output (current h))) e))
+
+unless : (x y : Bool) → (x && not y) ≡ false → y ≡ false → x ≡ false
+unless true y e f = absurd (true≢false (rw f at e))
+unless false y e f = refl
+
+no-room : (n : ℕ) → ltb 0 n ≡ false → n ≡ 0
+no-room n e = omega (arith, ltb-false 0 n e)
 
 module _ (page : PageNumber) (negotiated : Bool) (call : Ending) (m : List ℕ) (h : History) where
   pub record Fair (s : Run History) : Type 0 where
@@ -100,6 +121,27 @@ module _ (page : PageNumber) (negotiated : Bool) (call : Ending) (m : List ℕ) 
       (taking-sofar page negotiated call m h w s g idle (takingOf q (s .mem) head) (f .sofar) refl (ltb-true head 256 e)))
       (λ e. record { sofar = record { adds = f .sofar .adds; memory = f .sofar .memory; order = f .sofar .order }; well = f .well })
 
+  -- the host has no part in it
+  record Beside (s u : Run History) : Type 0 where
+    same-room : u .room ≡ s .room
+    same-bytes : u .bytes ≡ s .bytes
+
+  completed-beside : (e : Ending) (s u : Run History) → Beside s u → Beside s (completed hs q e u)
+  unfolding completed
+  completed-beside e s u b = record { same-room = b .same-room; same-bytes = b .same-bytes }
+
+  met-beside : (x : Head) (s : Run History) → Beside s (met hs q x s)
+  unfolding entered
+  met-beside (Head.At n) s =
+      let t : Taking = takingOf q (s .mem) (n .0) in
+      let b : Beside s (taking hs q t s) = record { same-room = refl; same-bytes = refl } in
+      by-cond (Beside s) (isWell (t .form)) (λ e. b) (λ e. completed-beside illFormed s (taking hs q t s) b)
+  met-beside (Head.Broken cause) s = record { same-room = refl; same-bytes = refl }
+
+  next-beside : (s : Run History) → Beside s (next hs q s)
+  unfolding next
+  next-beside s = met-beside (headAt (s .mem) page (sizeOf 2) (hs .place (s .queue))) s
+
   -- ---- at the start of a call
 
   begun-fair : (host : List ℕ) → Well h → InOrder 0 (length (h .takings)) (h .notes) → Fair (begun h m host)
@@ -136,10 +178,11 @@ module _ (page : PageNumber) (negotiated : Bool) (m : List ℕ) (h : History) (w
   abbrev over : Ops History
   over = ops page negotiated
 
-  -- what the simulation keeps, and what was added so far
+  -- what the simulation keeps, and what was added so far; without room, something of the message in work waits
   pub record Playing (s : Run History) : Type 0 where
     pub kept : Moved over (card output) vq queueOf (Good output) (alike output) w host s
     pub fair : Fair page negotiated finished m h s
+    pub waits : s .room ≡ 0 → Waits (s .queue)
 
   module _ (s : Run History) (p : Playing s) (busy : free (s .queue) ≡ false) where
     abbrev on : Run History
@@ -168,6 +211,20 @@ module _ (page : PageNumber) (negotiated : Bool) (m : List ℕ) (h : History) (w
         (on-fair .sofar))
         (λ e. on-fair)
 
+    settled-waits : Waits (settled over vq on .queue)
+    settled-waits =
+        by-cond (λ (u : Run History). Waits (u .queue)) (isNil (over .left (on .queue))) {x = completed over vq finished on} {y = on}
+        (λ e b.
+        absurd (true≢false (sym (completed-free page negotiated finished m h (w ++ on .bytes) on finished (on-kept .kept)) ∙ b)))
+        (λ e b. left-waits (on .queue) e)
+
+  -- after work, something of a message in work waits
+  worked-waits : (s : Run History) → Playing s → Waits (worked over vq s .queue)
+  worked-waits s p =
+      by-cond (λ (u : Run History). Waits (u .queue)) (ltb 0 (s .room) && not (free (s .queue))) {x = settled over vq (moved over vq s)} {y = s}
+      (λ e. settled-waits s p (works-busy over (card output) vq queueOf (Good output) (alike output) w host s e))
+      (λ e b. p .waits (no-room (s .room) (unless (ltb 0 (s .room)) (free (s .queue)) e b)) b)
+
   worked-playing : (s : Run History) → Playing s → Playing (worked over vq s)
   worked-playing s p =
       record {
@@ -175,7 +232,13 @@ module _ (page : PageNumber) (negotiated : Bool) (m : List ℕ) (h : History) (w
         fair =
             by-cond (Fair page negotiated finished m h) (ltb 0 (s .room) && not (free (s .queue)))
             (λ e. settled-fair s p (works-busy over (card output) vq queueOf (Good output) (alike output) w host s e)) (λ e. p .fair);
+        waits = λ z. worked-waits s p;
       }
+
+  some-room : (s : Run History) → transferMore over vq s ≡ true → s .room ≡ 0 → ⊥
+  some-room s e z =
+      let r = and-eq-true-iff (s .sound) (ltb 0 (s .room)) .0 (and-eq-true-iff (s .sound && ltb 0 (s .room)) (free (s .queue)) .0 e .0) .1 in
+      omega (arith, ltb-true 0 (s .room) r)
 
   next-playing : (s : Run History) → Playing s → transferMore over vq s ≡ true → Playing (next over vq s)
   next-playing s p e =
@@ -183,21 +246,28 @@ module _ (page : PageNumber) (negotiated : Bool) (m : List ℕ) (h : History) (w
       record {
         kept = moved-next over (card output) vq queueOf (Good output) (alike output) w host s (p .kept) idle;
         fair = next-fair page negotiated finished m h (w ++ s .bytes) s (p .kept .kept) idle (p .fair);
+        waits = λ z. absurd (some-room s e (sym (next-beside page negotiated finished m h s .same-room) ∙ z));
       }
 
-  pub play-fair :
-      (k : ℕ)
-      → Good output w h
-      → Well h
-      → InOrder 0 (length (h .takings)) (h .notes)
-      → Playing (transferRun over vq k (begun h m host))
-  unfolding transferRun
-  play-fair k g well order =
-      loop-keeps Playing (worked over vq) (transferMore over vq) (next over vq) worked-playing next-playing k (begun h m host)
-      (record {
-        kept = begun-moved over (card output) vq queueOf (Good output) (alike output) w host h m g;
-        fair = begun-fair page negotiated finished m h host well order;
-      })
+  module _ (k : ℕ) (g : Good output w h) (well : Well h) (waits : Waits h) (order : InOrder 0 (length (h .takings)) (h .notes)) where
+    begins : Playing (begun h m host)
+    begins =
+        record {
+          kept = begun-moved over (card output) vq queueOf (Good output) (alike output) w host h m g;
+          fair = begun-fair page negotiated finished m h host well order;
+          waits = λ z. waits;
+        }
+
+    pub play-fair : Fair page negotiated finished m h (transferRun over vq k (begun h m host))
+    unfolding transferRun
+    play-fair =
+        loop-keeps Playing (worked over vq) (transferMore over vq) (next over vq) worked-playing next-playing k (begun h m host) begins .fair
+
+    pub play-waits : Waits (transferRun over vq k (begun h m host) .queue)
+    unfolding transferRun
+    play-waits =
+        loop-ends Playing (λ (u : Run History). Waits (u .queue)) (worked over vq) (transferMore over vq) (next over vq)
+        worked-playing next-playing worked-waits k (begun h m host) begins
 
 -- ---- a Release
 
@@ -217,22 +287,6 @@ module _ (page : PageNumber) (negotiated : Bool) (m : List ℕ) (h : History) (w
     pub fair : Fair page negotiated released m h s
     pub mute : s .bytes ≡ []
 
-  completed-mute : (e : Ending) (s : Run History) → s .bytes ≡ [] → completed by at e s .bytes ≡ []
-  unfolding completed
-  completed-mute e s b = b
-
-  met-mute : (x : Head) (s : Run History) → s .bytes ≡ [] → met by at x s .bytes ≡ []
-  unfolding entered
-  met-mute (Head.At n) s b =
-      let t : Taking = takingOf at (s .mem) (n .0) in
-      by-cond (λ (u : Run History). u .bytes ≡ []) (isWell (t .form)) {x = taking by at t s} {y = completed by at illFormed (taking by at t s)}
-      (λ e. b) (λ e. completed-mute illFormed (taking by at t s) b)
-  met-mute (Head.Broken cause) s b = b
-
-  next-mute : (s : Run History) → s .bytes ≡ [] → next by at s .bytes ≡ []
-  unfolding next
-  next-mute s b = met-mute (headAt (s .mem) page (sizeOf 2) (by .place (s .queue))) s b
-
   give-releasing : (s : Run History) → Releasing s → Releasing (givenUp by at s)
   give-releasing s p =
       record {
@@ -244,7 +298,7 @@ module _ (page : PageNumber) (negotiated : Bool) (m : List ℕ) (h : History) (w
             (λ c. absurd (released-not c)) (p .fair .sofar));
         mute =
             by-cond (λ (u : Run History). u .bytes ≡ []) (free (s .queue)) {x = s} {y = completed by at released s} (λ e. p .mute)
-            (λ e. completed-mute released s (p .mute));
+            (λ e. completed-beside page negotiated released m h released s s (record { same-room = refl; same-bytes = refl }) .same-bytes ∙ p .mute);
       }
 
   next-releasing : (s : Run History) → Releasing s → releaseMore by at s ≡ true → Releasing (next by at s)
@@ -253,16 +307,26 @@ module _ (page : PageNumber) (negotiated : Bool) (m : List ℕ) (h : History) (w
       record {
         kept = next-keeps by (card output) at queueOf (Good output) (alike output) (λ o. w) s (p .kept) idle;
         fair = next-fair page negotiated released m h w s (p .kept) idle (p .fair);
-        mute = next-mute s (p .mute);
+        mute = next-beside page negotiated released m h s .same-bytes ∙ p .mute;
       }
 
-  pub release-fair :
-      (k : ℕ)
-      → Good output w h
-      → Well h
-      → InOrder 0 (length (h .takings)) (h .notes)
-      → Releasing (releaseRun by at k (begun h m []))
-  unfolding releaseRun
-  release-fair k g well order =
-      loop-keeps Releasing (givenUp by at) (releaseMore by at) (next by at) give-releasing next-releasing k (begun h m [])
-      (record { kept = g; fair = begun-fair page negotiated released m h [] well order; mute = refl })
+  -- nothing is in work once a Release has given up
+  give-free : (s : Run History) → Releasing s → free (givenUp by at s .queue) ≡ true
+  give-free s p =
+      by-cond (λ (u : Run History). free (u .queue) ≡ true) (free (s .queue)) {x = s} {y = completed by at released s} (λ e. e)
+      (λ e. completed-free page negotiated released m h w s released (p .kept))
+
+  module _ (k : ℕ) (g : Good output w h) (well : Well h) (order : InOrder 0 (length (h .takings)) (h .notes)) where
+    opens : Releasing (begun h m [])
+    opens = record { kept = g; fair = begun-fair page negotiated released m h [] well order; mute = refl }
+
+    pub release-fair : Releasing (releaseRun by at k (begun h m []))
+    unfolding releaseRun
+    release-fair =
+        loop-keeps Releasing (givenUp by at) (releaseMore by at) (next by at) give-releasing next-releasing k (begun h m []) opens
+
+    pub release-ends : free (releaseRun by at k (begun h m []) .queue) ≡ true
+    unfolding releaseRun
+    release-ends =
+        loop-ends Releasing (λ (u : Run History). free (u .queue) ≡ true) (givenUp by at) (releaseMore by at) (next by at)
+        give-releasing next-releasing give-free k (begun h m []) opens

@@ -24,7 +24,7 @@ use Rattle.rules.specs.Histories.{History, blank, number}
 use Rattle.rules.specs.Numbers.{playQueue}
 use Rattle.rules.specs.Transfer.{Run, found}
 use Rattle.rules.proofs.Anew.{anew-clears}
-use Rattle.rules.proofs.Runs.{Well, Fair, play-fair, release-fair}
+use Rattle.rules.proofs.Runs.{Well, Waits, Fair, play-fair, play-waits, release-fair, release-ends}
 
 -- a call that adds nothing is none that adds, and a play is no Release
 none-some : (e : Ending) → _≡_ {A = Option Ending} none (some e) → ⊥
@@ -47,9 +47,13 @@ module _ (w : List ℕ) (h : History) (g : Good output w h) (b : Book h) where
   well : Well h
   well busy = b .in-work (leb-false (length (h .takings)) (number h) busy)
 
+  waits : Waits h
+  waits busy = b .waits (leb-false (length (h .takings)) (number h) busy)
+
   -- the book after a run: old entries stand, new ones answer as the call's do
   module _ (page : PageNumber) (negotiated : Bool) (call : Ending) (m : List ℕ) (s : Run History)
       (f : Fair page negotiated call m h s)
+      (x : Waits (s .queue))
       (as′ : (k : ℕ) → Answered call (takingAt (s .queue) k) (entryAt (s .queue) k)
       → Answered finished (takingAt (s .queue) k) (entryAt (s .queue) k) ⊎ Answered released (takingAt (s .queue) k) (entryAt (s .queue) k)) where
     old-answer :
@@ -72,6 +76,7 @@ module _ (w : List ℕ) (h : History) (g : Good output w h) (b : Book h) where
         record {
           answers = λ k l. answer-at k l (leb (number h) k) refl;
           in-work = λ l. f .well (lt-leb (length (s .queue .takings)) (number (s .queue)) l);
+          waits = λ l. x (lt-leb (length (s .queue .takings)) (number (s .queue)) l);
           in-order = f .sofar .order;
         }
 
@@ -91,11 +96,12 @@ module _ (w : List ℕ) (h : History) (g : Good output w h) (b : Book h) where
     found-played Check.Idle = unplayed _ _
     found-played (Check.Broken cause) = unplayed _ _
     found-played (Check.New n) =
-        let p = play-fair (pageOf r playQueue) _ m h w host n g well (b .in-order) in
+        let p = play-fair (pageOf r playQueue) (indirect r) m h w host n g well waits (b .in-order) in
+        let x = play-waits (pageOf r playQueue) (indirect r) m h w host n g well waits (b .in-order) in
         record {
           same = λ e. absurd (none-some finished (sym e));
-          adds = λ e. (p .fair .sofar .adds, p .fair .sofar .memory);
-          book = book-after (pageOf r playQueue) _ finished m _ (p .fair) (λ k a. inl a);
+          adds = λ e. (p .sofar .adds, p .sofar .memory);
+          book = book-after (pageOf r playQueue) (indirect r) finished m _ p x (λ k a. inl a);
         }
 
     played : Played (transferred (account output) output r h m host) (addsBy (Play host) r h m)
@@ -127,10 +133,11 @@ module _ (w : List ℕ) (h : History) (g : Good output w h) (b : Book h) where
     found-given (Check.Broken cause) = record { same = λ e. refl; adds = λ e. absurd (none-some released e); book = b }
     found-given (Check.New n) =
         let q = release-fair (pageOf (p .rest) playQueue) (indirect (p .rest)) m h w n g well (b .in-order) in
+        let x = release-ends (pageOf (p .rest) playQueue) (indirect (p .rest)) m h w n g well (b .in-order) in
         record {
           same = λ e. absurd (none-some released (sym e));
           adds = λ e. (rw (q .mute) at (q .fair .sofar .adds), q .fair .sofar .memory);
-          book = book-after (pageOf (p .rest) playQueue) _ released m _ (q .fair) (λ k a. inr a);
+          book = book-after (pageOf (p .rest) playQueue) (indirect (p .rest)) released m _ (q .fair) (λ e. absurd (true≢false (sym x ∙ e))) (λ k a. inr a);
         }
 
     given :
@@ -156,7 +163,8 @@ play-no-release false c e = none-some released e
 
 -- an empty history
 pub blank-book : Book blank
-blank-book = record { answers = λ k l. absurd (omega arith); in-work = λ l. absurd (omega arith); in-order = end }
+blank-book =
+    record { answers = λ k l. absurd (omega arith); in-work = λ l. absurd (omega arith); waits = λ l. absurd (omega arith); in-order = end }
 
 module _ (w : List ℕ) (b : Device History) (g : Good output w (b .play)) (k : Book (b .play)) (m : List ℕ) where
   abbrev h : History

@@ -19,7 +19,7 @@ use Rattle.registers.specs.Rules.{live, hasBit}
 use Rattle.rules.specs.Calls.{Request, ReadRegister, WriteRegister, Control, Play, Capture, Event, Call, Told, Order, Done, ReleaseFirst, Pending, orderOf, isRunning, virtqueueOf}
 use Rattle.rules.specs.Control.{status}
 use Rattle.rules.specs.Device.{output, Virtqueue, Form, wellFormed, refused, silent, unwalked, Taking, nobody, Ending, finished, released, illFormed, Rest, pageOf, bytesOf}
-use Rattle.rules.specs.Histories.{Entry, Note, History, blank, unanswered, number, current, historiesOf}
+use Rattle.rules.specs.Histories.{Entry, Note, History, blank, unanswered, number, current, waiting, historiesOf}
 use Rattle.rules.specs.Numbers.{controlQueue, playQueue, sOk, sIoErr}
 use Rattle.rules.specs.Transfer.{takingOf, found}
 
@@ -196,4 +196,6 @@ pub record Book (h : History) : Type 0 where
   -- every entry answers its taking; only the message in work lacks an entry, and it is well-formed
   pub answers : (k : ℕ) → k < number h → Answered finished (takingAt h k) (entryAt h k) ⊎ Answered released (takingAt h k) (entryAt h k)
   pub in-work : number h < length (h .takings) → current h .form ≡ wellFormed
+  -- "Once none waits, an OK entry, also for an empty payload": between calls something of the message in work waits
+  pub waits : number h < length (h .takings) → 0 < length (waiting output h)
   pub in-order : InOrder 0 (length (h .takings)) (h .notes)
