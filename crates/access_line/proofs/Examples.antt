@@ -4,7 +4,8 @@ use mathlib.Core.List.{List, [], _∷_}
 use Prim.Native.Nat.{ℕ}
 use Prim.Native.Char.{code}
 use Prim.Native.String.{String, [] as none, _∷_ as _then_}
-use Rattle.access_line.specs.Line.{isDigit, digits, field, ended, readForm, writeForm, lineOf}
+use Rattle.decimal.specs.Read.{isDigit, digits}
+use Rattle.access_line.specs.Line.{field, ended, readForm, writeForm, lineOf}
 use Rattle.access_line.specs.declared.Line.{Line}
 use Rattle.access_line.specs.declared.Line.the-variants.{Read, Write, Unreadable}
 

@@ -1,4 +1,3 @@
--- A line of the access program: what it reads as, how the code finds it, and how it is collected byte by byte.
+-- A line of the access program: what it reads as, and how it is collected byte by byte.
 pub mod Line
-pub mod Places
 pub mod Collect

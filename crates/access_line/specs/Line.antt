@@ -1,42 +1,23 @@
 -- 01, The access program: a line, without its line feed, is "r OFF W" or "w OFF W VAL" in decimal, a number having
 -- 1 to 10 digits, with single spaces and nothing before or after; else it can't be read.
--- Bytes: 48 to 57 are the digits, 32 the space, 114 'r', 119 'w'.
-use mathlib.Core.List.{List, [], _∷_, foldl}
-use mathlib.Core.Bool.{Bool, cond, _&&_}
-use Prim.Native.Nat.{ℕ, _+_, _-_, _*_}
-use lib.Dec.{eqb, leb}
+-- Bytes: 32 is the space, 114 'r', 119 'w'.
+use mathlib.Core.List.{List, [], _∷_}
+use mathlib.Core.Bool.{cond, _&&_}
+use Prim.Native.Nat.{ℕ}
+use lib.Dec.{eqb}
 use lib.ListN.{length, drop}
+use Rattle.decimal.specs.Read.{digits, value, isNumber}
 use Rattle.access_line.specs.declared.Line.{Line}
 use Rattle.access_line.specs.declared.Line.the-variants.{Read, Write, Unreadable}
 
-unfoldable pub isDigit : ℕ → Bool
-isDigit b = leb 48 b && leb b 57
-
--- the digits that a text begins with
-unfoldable pub digits : List ℕ → List ℕ
-digits [] = []
-digits (b ∷ t) = cond (isDigit b) (b ∷ digits t) []
-
--- what follows them
+-- what follows the digits that a text begins with
 abbrev pub rest : List ℕ → List ℕ
 rest t = drop (length (digits t)) t
-
--- a number with one more digit written behind it
-abbrev pub oneMore : ℕ → ℕ → ℕ
-oneMore v b = 10 * v + (b - 48)
-
--- the number that digits write in decimal
-abbrev pub value : List ℕ → ℕ
-value ds = foldl oneMore 0 ds
-
--- "1 to 10 digits"
-abbrev pub isNumber : List ℕ → Bool
-isNumber ds = leb 1 (length ds) && leb (length ds) 10
 
 -- a single space and a number: `then` says what the line is by the number and the text behind it
 unfoldable pub field : List ℕ → (ℕ → List ℕ → Line) → Line
 field [] then = Unreadable
-field (b ∷ t) then = cond (eqb b 32 && isNumber (digits t)) (then (value (digits t)) (rest t)) Unreadable
+field (b ∷ t) then = cond (eqb b 32 && isNumber 10 (digits t)) (then (value (digits t)) (rest t)) Unreadable
 
 -- nothing more
 unfoldable pub ended : List ℕ → Line → Line

@@ -2,9 +2,9 @@
 // byte by byte, for a program that reads its input in blocks.
 ghost use mathlib.Core.Path.{_≡_};
 ghost use lib.ListN.{take, drop};
-ghost use Rattle.access_line.specs.Line.{isDigit, lineOf, readForm, writeForm};
-ghost use Rattle.access_line.specs.Places.{numberAt, fieldAt};
+ghost use Rattle.access_line.specs.Line.{lineOf, readForm, writeForm};
 ghost use Rattle.access_line.specs.Collect.{emptyLine, withByte, kept};
+use decimal::Number;
 
 // A read of a register (offset, width), a write (offset, width, value), or neither.
 pub enum Line {
@@ -13,72 +13,19 @@ pub enum Line {
     Unreadable,
 }
 
-// A number, and the place behind its last digit.
-enum Number {
-    Is(u64, usize),
-    None,
-}
+// "1 to 10 digits", and the greatest number that they write.
+const DIGITS: usize = 10;
 
-fn is_digit(b: u8) -> bool
-    ensures { λ r. ⌜ r ≡ isDigit b ⌝ }
-{
-    if b < b'0' {
-        return false;
-    }
-    if b <= b'9' {
-        return true;
-    }
-    false
-}
-
-// The number whose first digit stands at `at`.
-fn number_at(s: &[u8], at: usize) -> Number
-    ensures { λ r. ⌜ r ≡ numberAt (now (s .entry)) at ⌝ }
-{
-    if s.len() <= at {
-        return Number::None;
-    }
-    if !is_digit(s[at]) {
-        return Number::None;
-    }
-    let mut i = at;
-    let mut v: u64 = 0;
-    while i < s.len() {
-        let b = s[i];
-        if !is_digit(b) {
-            return Number::Is(v, i);
-        }
-        // an eleventh digit
-        if 10 <= i - at {
-            return Number::None;
-        }
-        v = 10 * v + (b - b'0') as u64;
-        i += 1;
-    }
-    Number::Is(v, i)
-}
-
-// A space at `at`, and the number behind it.
-fn field_at(s: &[u8], at: usize) -> Number
-    ensures { λ r. ⌜ r ≡ fieldAt (now (s .entry)) at ⌝ }
-{
-    if s.len() <= at {
-        return Number::None;
-    }
-    if s[at] != b' ' {
-        return Number::None;
-    }
-    number_at(s, at + 1)
-}
+const GREATEST: u64 = 9999999999;
 
 // What follows an `r`.
 fn read_form(s: &[u8]) -> Line
     ensures { λ r. ⌜ r ≡ readForm (drop 1 (now (s .entry))) ⌝ }
 {
-    let Number::Is(offset, a) = field_at(s, 1) else {
+    let Number::Is(offset, a) = decimal::field_at(s, 1, DIGITS, GREATEST) else {
         return Line::Unreadable;
     };
-    let Number::Is(width, b) = field_at(s, a) else {
+    let Number::Is(width, b) = decimal::field_at(s, a, DIGITS, GREATEST) else {
         return Line::Unreadable;
     };
     if b < s.len() {
@@ -91,13 +38,13 @@ fn read_form(s: &[u8]) -> Line
 fn write_form(s: &[u8]) -> Line
     ensures { λ r. ⌜ r ≡ writeForm (drop 1 (now (s .entry))) ⌝ }
 {
-    let Number::Is(offset, a) = field_at(s, 1) else {
+    let Number::Is(offset, a) = decimal::field_at(s, 1, DIGITS, GREATEST) else {
         return Line::Unreadable;
     };
-    let Number::Is(width, b) = field_at(s, a) else {
+    let Number::Is(width, b) = decimal::field_at(s, a, DIGITS, GREATEST) else {
         return Line::Unreadable;
     };
-    let Number::Is(value, c) = field_at(s, b) else {
+    let Number::Is(value, c) = decimal::field_at(s, b, DIGITS, GREATEST) else {
         return Line::Unreadable;
     };
     if c < s.len() {

@@ -1,2 +1,3 @@
--- Laws of the access program.
+-- Laws of the access program, and what it prints for the whole input.
 pub mod Laws
+pub mod Whole

@@ -1,3 +1,3 @@
--- The access program: its card, what a line does, and the text of an answer.
+-- The access program: what it prints for its input, and how it gets there block by block.
+pub mod Answers
 pub mod Session
-pub mod Text

@@ -1,68 +1,67 @@
--- 01, The access program: what each line does, on a card with stream 0 only and 65,536 bytes of RAM.
-use mathlib.Core.List.{List, [], _∷_}
-use mathlib.Core.Bool.{Bool, true, cond, _&&_, not}
-use Prim.Native.Nat.{ℕ, _+_, _%_, _^_}
-use lib.Dec.{eqb}
-use lib.ListN.{replicate}
+-- The access program's session: what each byte of the input makes of it, and the text that the byte leaves. `proofs/Whole.antt` says
+-- that the texts, joined, are what `Answers` says of the whole input, however it is cut into blocks.
+use mathlib.Core.Path.{_≡_}
+use mathlib.Core.List.{List, [], _∷_, _++_, foldl}
+use mathlib.Core.Bool.{cond}
+use Prim.Native.Nat.{ℕ}
+use lib.Dec.{eqb, ltb}
+use lib.ListN.{take}
 use Rattle.access_line.specs.Line.{lineOf}
 use Rattle.access_line.specs.Collect.{emptyLine, withByte, kept}
-use Rattle.access_line.specs.declared.Line.{Line}
-use Rattle.access_line.specs.declared.Line.the-variants.{Read, Write, Unreadable}
-use Rattle.card.specs.Card.{cardOf, partsAtPower, noJackInfo, noMapInfo}
-use Rattle.card.specs.Rules.{readCard, writeCard}
-use Rattle.card.specs.declared.Card.{Card}
-use Rattle.card.specs.declared.ReadAnswer.{ReadAnswer}
-use Rattle.card.specs.declared.WriteAnswer.{WriteAnswer}
-use Rattle.description.specs.declared.Description.{Description}
-use Rattle.description.specs.declared.StreamInfo.{StreamInfo}
+use Rattle.card.specs.Fit.{Fit}
+use Rattle.decimal.specs.Write.{Put}
+use Rattle.access_run.specs.Answers.{firstCard, actOf, answerText, next}
 use Rattle.access_run.specs.declared.Acted.{Acted}
 use Rattle.access_run.specs.declared.Session.{Session}
 
--- ---- the card
-
--- format S16 (bit 5), rate 48,000 (bit 7), one or two channels
-abbrev pub output : StreamInfo
-output = record { nid = 0; features = 0; formats = 32; rates = 128; «channels_min» = 1; «channels_max» = 2 }
-
--- the second place is that of an input stream, of which there is none
-abbrev pub panel : Description
-panel =
-    record {
-      «jack_count» = 0;
-      «map_count» = 0;
-      «output_count» = 1;
-      «input_count» = 0;
-      jacks = replicate 4 noJackInfo;
-      maps = replicate 4 noMapInfo;
-      streams = replicate 2 output;
-    }
-
 abbrev pub firstSession : Session
-firstSession = record { card = cardOf (partsAtPower panel) 65536; line = emptyLine; lines = 0 }
+firstSession = record { card = firstCard; line = emptyLine; lines = 0 }
 
--- ---- a line
+-- the line collected is whole: what it does, and its answer
+abbrev pub acted : Session → Acted
+acted s = actOf (s .card) (lineOf (kept (s .line)))
 
--- "answer, value (0 for a write); 99 for a line it can't read"
-abbrev pub actOf : Card → Line → Acted
-actOf c (Read offset width) =
-    let r : ReadAnswer = readCard c offset width in
-    record { card = r .card; answer = r .answer; value = r .value }
-actOf c (Write offset width v) =
-    let w : WriteAnswer = writeCard c offset width v in
-    record { card = w .card; answer = w .answer; value = 0 }
-actOf c Unreadable = record { card = c; answer = 99; value = 0 }
-
--- ---- the input, byte by byte
-
--- the line collected is whole
 unfoldable pub ended : Session → Session
-ended s = record { card = actOf (s .card) (lineOf (kept (s .line))) .card; line = emptyLine; lines = (s .lines + 1) % 2 ^ 64 }
+ended s = record { card = acted s .card; line = emptyLine; lines = next (s .lines) }
+
+unfoldable pub lineText : Session → List ℕ
+lineText s = answerText (next (s .lines)) (acted s .answer) (acted s .value)
 
 -- one byte more: a line feed, 10, ends the line
 unfoldable pub fed : Session → ℕ → Session
 fed s b = cond (eqb b 10) (ended s) (record { card = s .card; line = withByte (s .line) b; lines = s .lines })
 
--- bytes with no line feed among them
-unfoldable pub oneLine : List ℕ → Bool
-oneLine [] = true
-oneLine (b ∷ t) = not (eqb b 10) && oneLine t
+unfoldable pub fedText : Session → ℕ → List ℕ
+fedText s b = cond (eqb b 10) (lineText s) []
+
+-- a block of bytes
+unfoldable pub blockText : Session → List ℕ → List ℕ
+blockText s [] = []
+blockText s (b ∷ t) = fedText s b ++ blockText (fed s b) t
+
+-- the end of the input: what follows the last line feed is a line if it is not empty
+unfoldable pub restText : Session → List ℕ
+restText s = cond (ltb 0 (s .line .count)) (lineText s) []
+
+-- what was read: the first `count` bytes of a block, or the end of the input
+unfoldable pub takenText : Session → ℕ → List ℕ → List ℕ
+takenText s count block = cond (eqb count 0) (restText s) (blockText s (take count block))
+
+-- ---- blocks one after the other
+
+-- the text that they leave, and the end of the input
+unfoldable pub handed : Session → List (List ℕ) → List ℕ
+handed s [] = restText s
+handed s (b ∷ bs) = blockText s b ++ handed (foldl fed s b) bs
+
+unfoldable pub joined : List (List ℕ) → List ℕ
+joined [] = []
+joined (b ∷ bs) = b ++ joined bs
+
+-- ---- what is promised of a part of the input
+
+-- the session and its text are these, the text written into a buffer from a place on; and the card is fit for the next part
+pub record Takes (s : Session) (t before : List ℕ) (at : ℕ) (after : List ℕ) (r : Session) (end : ℕ) : Type 0 where
+  pub session : r ≡ s
+  pub text : Put t before at after end
+  pub fit : Fit (r .card)

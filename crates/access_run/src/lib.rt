@@ -1,11 +1,14 @@
 // The access program of 01: the lines of standard input are register reads and writes on one card;
-// each is answered by a line of standard output.
+// each is answered by a line of standard output. The input is taken in blocks; what a block says is done
+// on the card, and its answers are left in a buffer, which `run` writes out.
 ghost use mathlib.Core.Path.{_≡_};
 ghost use mathlib.Core.List.{foldl};
-ghost use Rattle.access_line.specs.Collect.{withByte, collected};
+ghost use Prim.Native.Nat.{_+_, _*_, _≤_};
+ghost use lib.ListN.{length, take};
 ghost use Rattle.card.specs.Fit.{Fit};
-ghost use Rattle.access_run.specs.Session.{panel, firstSession, actOf, ended, fed};
-ghost use Rattle.access_run.specs.Text.{field, answerText};
+ghost use Rattle.decimal.specs.Write.{Put};
+ghost use Rattle.access_run.specs.Answers.{panel, actOf, answerText};
+ghost use Rattle.access_run.specs.Session.{firstSession, ended, lineText, fed, fedText, blockText, restText, takenText, Takes};
 use access_line::Collected;
 use access_line::Line;
 use card::Card;
@@ -40,10 +43,24 @@ struct Session {
     lines: u64,
 }
 
-// The session after a block of input, and whether there was one.
+// The session after a part of the input, and the place behind the text that it left.
 struct Turn {
     session: Session,
-    more: bool,
+    end: usize,
+}
+
+// The same after a block of `count` bytes; none is the input's end.
+struct Taken {
+    session: Session,
+    count: usize,
+    end: usize,
+}
+
+// Room for the answers to a block of 4,096 bytes.
+fn text_buffer() -> [u8; 262144]
+    ensures { λ r. ⌜ 262144 ≡ length r ⌝ }
+{
+    [0; 262144]
 }
 
 // Stream 0 only: an output of 16-bit samples at 48,000 a second, mono or stereo.
@@ -127,128 +144,131 @@ fn act(card: Card, line: Line) -> Acted
     }
 }
 
-// A text with these bytes behind it.
-fn with_bytes(text: Collected, bytes: &[u8]) -> Collected
-    ensures { λ r. ⌜ r ≡ foldl withByte text (now (bytes .entry)) ⌝ }
+// The line that is printed, "line number, answer, value", written to `out` from `at` on. The place
+// behind it.
+fn put_answer(out: &mut [u8], at: usize, number: u64, answer: u8, value: u32) -> usize
+    requires { ⌜ at + 63 ≤ length (now out) ⌝ }
+    ensures { λ r. ⌜ Put (answerText number answer value) (now (out .entry)) at (now (out .exit)) r × (r ≤ at + 63) ⌝ }
 {
-    let mut longer = text;
-    let mut i = 0;
-    while i < bytes.len() {
-        longer = longer.with(bytes[i]);
-        i += 1;
-    }
-    longer
-}
-
-// A text with a number in decimal and the byte `end` behind it.
-fn with_field(text: Collected, n: u64, end: u8) -> Collected
-    ensures { λ r. ⌜ r ≡ foldl withByte text (field n end) ⌝ }
-{
-    let mut digits = [0u8; 20];
-    let count = io::decimal(n, &mut digits);
-    let longer = with_bytes(text, &digits[..count]);
-    longer.with(end)
-}
-
-// The line that is printed: a line's number, its answer and its value.
-fn answer_text(number: u64, answer: u8, value: u32) -> Collected
-    ensures { λ r. ⌜ r ≡ collected (answerText number answer value) ⌝ }
-{
-    let numbered = with_field(Collected::empty(), number, b' ');
-    let answered = with_field(numbered, answer as u64, b' ');
-    with_field(answered, value as u64, b'\n')
-}
-
-// The first `count` bytes of `s`, or all of `s` where it has no more, written out.
-fn print(s: &[u8], count: usize) {
-    if s.len() <= count {
-        io::write_all(STDOUT_FILENO, s);
-        return;
-    }
-    io::write_all(STDOUT_FILENO, &s[..count]);
+    let numbered = decimal::put(out, at, number, b' ');
+    let answered = decimal::put(out, numbered, answer as u64, b' ');
+    decimal::put(out, answered, value as u64, b'\n')
 }
 
 // The line collected is whole: it is done and answered.
-fn end_line(session: Session) -> Session
-    requires { ⌜ Fit (session .card) ⌝ }
-    ensures { λ r. ⌜ (r ≡ ended session) × Fit (r .card) ⌝ }
+fn end_line(session: Session, out: &mut [u8], at: usize) -> Turn
+    requires { ⌜ Fit (session .card) × (at + 63 ≤ length (now out)) ⌝ }
+    ensures { λ r. ⌜ Takes (ended session) (lineText session) (now (out .entry)) at (now (out .exit)) (r .session) (r .end)
+        × (r .end ≤ at + 63) ⌝ }
 {
     let card = session.card;
     let line = session.line;
     let number = std::num::wrapping_add_u64(session.lines, 1);
     let acted = act(card, line.line());
-    let text = answer_text(number, acted.answer, acted.value);
-    let bytes = text.bytes;
-    print(&bytes, text.count);
+    let end = put_answer(out, at, number, acted.answer, acted.value);
     let after = acted.card;
-    Session {
+    let next = Session {
         card: after,
         line: Collected::empty(),
         lines: number,
+    };
+    Turn {
+        session: next,
+        end: end,
     }
 }
 
-// A block of input: a line feed ends a line.
-fn with_block(session: Session, bytes: &[u8]) -> Session
-    requires { ⌜ Fit (session .card) ⌝ }
-    ensures { λ r. ⌜ (r ≡ foldl fed session (now (bytes .entry))) × Fit (r .card) ⌝ }
+// One byte of the input: a line feed ends a line.
+fn feed(session: Session, b: u8, out: &mut [u8], at: usize) -> Turn
+    requires { ⌜ Fit (session .card) × (at + 63 ≤ length (now out)) ⌝ }
+    ensures { λ r. ⌜ Takes (fed session b) (fedText session b) (now (out .entry)) at (now (out .exit)) (r .session) (r .end)
+        × (r .end ≤ at + 63) ⌝ }
 {
+    if b == b'\n' {
+        return end_line(session, out, at);
+    }
+    let line = session.line;
     let mut next = session;
+    next.line = line.with(b);
+    Turn {
+        session: next,
+        end: at,
+    }
+}
+
+// A block of input, whose answers go to the start of `out`.
+fn with_block(session: Session, bytes: &[u8], out: &mut [u8]) -> Turn
+    requires { ⌜ Fit (session .card) × (63 * length (now bytes) ≤ length (now out)) ⌝ }
+    ensures { λ r. ⌜ Takes (foldl fed session (now (bytes .entry))) (blockText session (now (bytes .entry)))
+        (now (out .entry)) 0 (now (out .exit)) (r .session) (r .end)
+        × (r .end ≤ length (now (out .exit))) ⌝ }
+{
+    let mut turn = Turn {
+        session: session,
+        end: 0,
+    };
     let mut i = 0;
     while i < bytes.len() {
-        let b = bytes[i];
-        if b == b'\n' {
-            next = end_line(next);
-        } else {
-            let line = next.line;
-            next.line = line.with(b);
-        }
+        let next = turn.session;
+        turn = feed(next, bytes[i], out, turn.end);
         i += 1;
     }
-    next
-}
-
-// One read of the input; nothing read is its end.
-fn take_block(session: Session) -> Turn
-    requires { ⌜ Fit (session .card) ⌝ }
-    ensures { λ r. ⌜ Fit (r .session .card) ⌝ }
-{
-    let mut buffer = io::large_buffer();
-    let got = libc::read(STDIN_FILENO, &mut buffer);
-    let count = io::count(got, &buffer);
-    if count == 0 {
-        return Turn {
-            session: session,
-            more: false,
-        };
-    }
-    Turn {
-        session: with_block(session, &buffer[..count]),
-        more: true,
-    }
+    turn
 }
 
 // The input has ended: what follows the last line feed is a line if it is not empty.
-fn finish(session: Session)
-    requires { ⌜ Fit (session .card) ⌝ }
+fn finish(session: Session, out: &mut [u8]) -> usize
+    requires { ⌜ Fit (session .card) × (63 ≤ length (now out)) ⌝ }
+    ensures { λ r. ⌜ Put (restText session) (now (out .entry)) 0 (now (out .exit)) r × (r ≤ 63) ⌝ }
 {
     let line = session.line;
     if 0 < line.count {
-        end_line(session);
+        let turn = end_line(session, out, 0);
+        return turn.end;
+    }
+    0
+}
+
+// One read of the input into `block`, done and answered; nothing read is its end.
+fn take_block(session: Session, block: &mut [u8], out: &mut [u8]) -> Taken
+    requires { ⌜ Fit (session .card) × (63 + 63 * length (now block) ≤ length (now out)) ⌝ }
+    ensures { λ r. ⌜ Takes (foldl fed session (take (r .count) (now (block .exit)))) (takenText session (r .count) (now (block .exit)))
+        (now (out .entry)) 0 (now (out .exit)) (r .session) (r .end)
+        × (r .end ≤ length (now (out .exit))) ⌝ }
+{
+    let got = libc::read(STDIN_FILENO, block);
+    let count = io::count(got, block);
+    if count == 0 {
+        let end = finish(session, out);
+        return Taken {
+            session: session,
+            count: 0,
+            end: end,
+        };
+    }
+    let turn = with_block(session, &block[..count], out);
+    let next = turn.session;
+    Taken {
+        session: next,
+        count: count,
+        end: turn.end,
     }
 }
 
-// The whole program.
+// The whole program: each block is taken, and what it left in `out` is written out.
 pub fn run() {
     let mut session = first_session();
+    let mut block = io::buffer();
+    let mut out = text_buffer();
     let mut left = BLOCKS;
     while 0 < left {
-        let turn = take_block(session);
-        session = turn.session;
-        if !turn.more {
-            finish(session);
+        let taken = take_block(session, &mut block, &mut out);
+        let end = taken.end;
+        io::write_all(STDOUT_FILENO, &out[..end]);
+        if taken.count == 0 {
             return;
         }
+        session = taken.session;
         left -= 1;
     }
 }

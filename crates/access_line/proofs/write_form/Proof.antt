@@ -1,23 +1,39 @@
 -- The fields are read one after the other, each where the one before it ended.
 use mathlib.Core.Path.{_≡_, _∙_, sym}
+use mathlib.Core.List.{List}
+use Prim.Native.Nat.{ℕ}
 use borrow.Author.Needs.{needs}
+use Rattle.decimal.specs.Read.{fieldAt}
+use Rattle.decimal.specs.declared.Number.{Number}
+use Rattle.decimal.specs.declared.Number.the-variants.{Is}
 use Rattle.access_line.specs.Line.{writeForm}
-use Rattle.access_line.specs.Places.{fieldAt}
-use Rattle.access_line.specs.declared.Number.the-variants.{Is}
 use Rattle.access_line.proofs.Laws.{field-is, field-none, ended-at, not-ended-at}
 use Rattle.access_line.proofs.write_form.Statement.{statement}
 use Rattle.access_line.proofs.write_form.Tie as tie
 
+-- the line, from behind its first field; and each field's place from behind the next
+abbrev text : tie.After-known-told → List ℕ
+text c = c .before .before .before .before .before .args .s .now
+
+abbrev first : tie.After-known-told2 → tie.After-known-told
+first c = c .before .before .before .before
+
+abbrev second : tie.After-known-told3 → tie.After-known-told2
+second c = c .before .before .before .before
+
+abbrev field : List ℕ → ℕ → Number
+field s at = fieldAt s at 10 9999999999
+
 -- what was found at each place
-offset : (c : tie.After-known-told) → let n = c .before .offset .given .0 in fieldAt (c .before .before .before .before .before .args .s .now) 1 ≡ Is (n .0) (n .1 .0)
+offset : (c : tie.After-known-told) → let n = c .before .offset .given .0 in field (text c) 1 ≡ Is (n .0) (n .1 .0)
 offset c = sym (c .before .before .before .field-at .ensures) ∙ c .before .offset .given .1
 
-width : (c : tie.After-known-told2)
-    → let n = c .before .width .given .0 in fieldAt (c .before .before .before .before .before .before .before .before .before .args .s .now) (c .before .before .before .before .before .offset .given .0 .1 .0) ≡ Is (n .0) (n .1 .0)
+width : (c : tie.After-known-told2) → let n = c .before .width .given .0 in
+    field (text (first c)) (first c .before .offset .given .0 .1 .0) ≡ Is (n .0) (n .1 .0)
 width c = sym (c .before .before .before .field-at2 .ensures) ∙ c .before .width .given .1
 
-value : (c : tie.After-known-told3)
-    → let n = c .before .value .given .0 in fieldAt (c .before .before .before .before .before .before .before .before .before .before .before .before .before .args .s .now) (c .before .before .before .before .before .width .given .0 .1 .0) ≡ Is (n .0) (n .1 .0)
+value : (c : tie.After-known-told3) → let n = c .before .value .given .0 in
+    field (text (first (second c))) (second c .before .width .given .0 .1 .0) ≡ Is (n .0) (n .1 .0)
 value c = sym (c .before .before .before .field-at3 .ensures) ∙ c .before .value .given .1
 
 field-at-requires : tie.Need-field-at-requires
@@ -44,7 +60,11 @@ enum-told-2 c = search needs
 
 returns-2 : tie.Need-returns-2
 unfolding writeForm
-returns-2 c = rw (field-is _ 1 _ _ _ (offset (c .before .before .before)), field-none _ _ _ (sym (c .before .before .field-at2 .ensures) ∙ c .enum-told2 .given .1))
+returns-2 c =
+    rw (
+      field-is _ 1 _ _ _ (offset (c .before .before .before)),
+      field-none _ _ _ (sym (c .before .before .field-at2 .ensures) ∙ c .enum-told2 .given .1),
+    )
 
 field-at-requires-3 : tie.Need-field-at-requires-3
 field-at-requires-3 c κs = search needs
@@ -58,18 +78,20 @@ enum-told-3 c = search needs
 returns-3 : tie.Need-returns-3
 unfolding writeForm
 returns-3 c =
+    let w = c .before .before .before in
     rw (
-      field-is _ 1 _ _ _ (offset (c .before .before .before .before .before .before .before)),
-      field-is _ _ _ _ _ (width (c .before .before .before)),
+      field-is _ 1 _ _ _ (offset (first w)),
+      field-is _ _ _ _ _ (width w),
       field-none _ _ _ (sym (c .before .before .field-at3 .ensures) ∙ c .enum-told3 .given .1),
     )
 
 returns-4 : tie.Need-returns-4
 unfolding writeForm
 returns-4 c =
+    let w = second (c .before) in
     rw (
-      field-is _ 1 _ _ _ (offset (c .before .before .before .before .before .before .before .before .before)),
-      field-is _ _ _ _ _ (width (c .before .before .before .before .before)),
+      field-is _ 1 _ _ _ (offset (first w)),
+      field-is _ _ _ _ _ (width w),
       field-is _ _ _ _ _ (value (c .before)),
       not-ended-at _ _ _ (c .if1 .taken),
     )
@@ -77,9 +99,10 @@ returns-4 c =
 returns-5 : tie.Need-returns-5
 unfolding writeForm
 returns-5 c =
+    let w = second (c .before) in
     rw (
-      field-is _ 1 _ _ _ (offset (c .before .before .before .before .before .before .before .before .before)),
-      field-is _ _ _ _ _ (width (c .before .before .before .before .before)),
+      field-is _ 1 _ _ _ (offset (first w)),
+      field-is _ _ _ _ _ (width w),
       field-is _ _ _ _ _ (value (c .before)),
       ended-at _ _ _ (c .if1 .left),
     )

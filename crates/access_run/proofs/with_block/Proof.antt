@@ -1,36 +1,54 @@
--- The invariant: what the rest of the bytes makes of the session so far is what all of them make of the first, and its
--- card is fit.
+-- The invariant: what the rest of the bytes makes of the session so far is what all of them make of the first, and with its text
+-- written the whole block's is. A byte leaves at most 63 bytes of text, so that there is room for the next.
 use mathlib.Core.Path.{_≡_, _∙_, sym, refl}
-use Prim.Native.Nat.{_-_, _≤_}
-use mathlib.Core.Logic.{⊎-elim}
+use mathlib.Core.List.{List, foldl}
+use Prim.Native.Nat.{ℕ, _+_, _-_, _*_, _≤_, _<_}
 use native.Mathlib.Omega.{arith}
-use borrow.Author.Needs.{needs}
-use borrow.Author.Tests.{eq-eqb, ne-eqb}
 use lib.ListN.{length, getD, drop}
-use mathlib.Core.List.{foldl}
 use Rattle.card.specs.Fit.{Fit}
-use Rattle.access_run.specs.Session.{fed}
-use Rattle.access_run.proofs.Laws.{fold-more, fold-end}
+use Rattle.decimal.proofs.Writing.{Rest, rest-first, rest-more, rest-none}
+use Rattle.access_run.specs.Session.{fed, blockText}
+use Rattle.access_run.specs.declared.Session.{Session}
+use Rattle.access_run.proofs.Laws.{fold-more, fold-end, text-more, text-end}
 use Rattle.access_run.proofs.with_block.Statement.{statement}
 use Rattle.access_run.proofs.with_block.Tie as tie
 
+record Going (bytes out₀ : List ℕ) (first : Session) (out : List ℕ) (now : Session) (end i : ℕ) : Type 0 where
+  inside : i ≤ length bytes
+  long : length out ≡ length out₀
+  room : end ≤ 63 * i
+  fit : Fit (now .card)
+  session : foldl fed now (drop i bytes) ≡ foldl fed first bytes
+  text : Rest (blockText first bytes) out₀ 0 out end (blockText now (drop i bytes))
+
 abbrev Inv-loop : tie.InvT-loop
-Inv-loop bytes next₀ i₀ next i = (i ≤ length bytes) × (foldl fed next (drop i bytes) ≡ foldl fed next₀ bytes) × Fit (next .card)
+Inv-loop bytes out₀ turn₀ i₀ out turn i = Going bytes out₀ (turn₀ .session) out (turn .session) (turn .end) i
 
 abbrev μ-loop : tie.MeasureT-loop
-μ-loop bytes next₀ i₀ next i = length bytes - i
+μ-loop bytes out₀ turn₀ i₀ out turn i = length bytes - i
+
+-- the turn, from behind the call
+abbrev turn : tie.After-feed Inv-loop μ-loop → tie.In-loop Inv-loop μ-loop
+turn c = c .before .before .before .before
 
 loop-holds : tie.Need-loop-holds Inv-loop μ-loop
-loop-holds c = (omega arith, refl, c .before .pre)
+loop-holds c =
+    record {
+      inside = omega arith;
+      long = refl;
+      room = omega arith;
+      fit = c .before .before .pre .0;
+      session = refl;
+      text = rest-first _ _ 0;
+    }
 
-shared-slice-read-b : tie.Need-shared-slice-read-b Inv-loop μ-loop
-shared-slice-read-b c = omega arith
+shared-slice-read-feed : tie.Need-shared-slice-read-feed Inv-loop μ-loop
+shared-slice-read-feed c = omega arith
 
-end-line-requires : tie.Need-end-line-requires Inv-loop μ-loop
-end-line-requires c κs = c .before .before .before .loop .inv .2
-
-with-requires : tie.Need-with-requires Inv-loop μ-loop
-with-requires c κs = search needs
+feed-requires : tie.Need-feed-requires Inv-loop μ-loop
+feed-requires c κs =
+    let l = c .before .before .before .before .loop .inv in
+    (l .fit, omega (arith, l .room, l .long, c .before .before .before .before .before .before .before .pre .1))
 
 add-i : tie.Need-add-i Inv-loop μ-loop
 add-i c = omega arith
@@ -39,21 +57,37 @@ loop-less : tie.Need-loop-less Inv-loop μ-loop
 loop-less c = omega arith
 
 loop-again : tie.Need-loop-again Inv-loop μ-loop
-unfolding fed
 loop-again c =
-    let l = c .before .before .before .loop in
-    let s = c .before .before .before .before .before .args .bytes .now in
-    let step : (c .if1 .next ≡ fed (l .next) (getD s (l .i) 0)) × Fit (c .if1 .next .card) =
-    ⊎-elim
-    (λ w. rw (w .2, eq-eqb _ _ (w .0 .taken)) (w .1 .ensures))
-    (λ w. rw (w .3, ne-eqb _ _ (w .0 .left), w .2 .ensures) (refl, l .inv .2))
-    (c .if1 .came) in
-    (omega arith, rw (step .0, ← (fold-more fed (l .next) s (l .i) (omega arith))) (l .inv .1), step .1)
+    let f = c .before .before .feed in
+    let t = turn (c .before .before) in
+    let l = t .before .loop in
+    let bytes = t .before .before .before .before .args .bytes .now in
+    let more : l .i < length bytes = t .loop-test .taken in
+    record {
+      inside = omega (arith, more);
+      long = f .kept .1 .1 .0 ∙ l .inv .long;
+      room = omega (arith, f .ensures .1, l .inv .room);
+      fit = f .ensures .0 .fit;
+      session = rw (f .ensures .0 .session, ← (fold-more (l .turn .session) bytes (l .i) more)) (l .inv .session);
+      text =
+          rw (f .ensures .0 .session)
+          (rest-more _ (f .ensures .0 .text) (rw (text-more (l .turn .session) bytes (l .i) more) at (l .inv .text)));
+    }
+
+same-length : tie.Need-same-length Inv-loop μ-loop
+same-length c = c .before .loop .inv .long
 
 returns : tie.Need-returns Inv-loop μ-loop
 returns c =
     let l = c .before .loop in
-    (sym (fold-end fed (l .next) (c .before .before .before .args .bytes .now) (l .i) (omega arith)) ∙ l .inv .1, l .inv .2)
+    let bytes = c .before .before .before .before .args .bytes .now in (
+      record {
+        session = sym (fold-end (l .turn .session) bytes (l .i) (omega arith)) ∙ l .inv .session;
+        text = rest-none (rw (text-end (l .turn .session) bytes (l .i) (omega arith)) at (l .inv .text));
+        fit = l .inv .fit;
+      },
+      omega (arith, l .inv .room, l .inv .long, c .before .before .before .before .pre .1),
+    )
 
 pub with-block-spec : {M : Type 1} → statement M
 with-block-spec =
@@ -62,10 +96,10 @@ with-block-spec =
     Inv-loop
     μ-loop
     loop-holds
-    shared-slice-read-b
-    end-line-requires
-    with-requires
+    shared-slice-read-feed
+    feed-requires
     add-i
     loop-less
     loop-again
+    same-length
     returns)

@@ -1,0 +1,72 @@
+-- 01, The access program: what is printed for an input, on a card with stream 0 only and 65,536 bytes of RAM.
+use mathlib.Core.List.{List, [], _∷_, _++_}
+use Prim.Native.Nat.{ℕ, _+_, _%_, _^_}
+use lib.ListN.{replicate}
+use Rattle.access_line.specs.Line.{lineOf}
+use Rattle.access_line.specs.declared.Line.{Line}
+use Rattle.access_line.specs.declared.Line.the-variants.{Read, Write, Unreadable}
+use Rattle.card.specs.Card.{cardOf, partsAtPower, noJackInfo, noMapInfo}
+use Rattle.card.specs.Rules.{readCard, writeCard}
+use Rattle.card.specs.declared.Card.{Card}
+use Rattle.card.specs.declared.ReadAnswer.{ReadAnswer}
+use Rattle.card.specs.declared.WriteAnswer.{WriteAnswer}
+use Rattle.decimal.specs.Write.{fieldOf}
+use Rattle.description.specs.declared.Description.{Description}
+use Rattle.description.specs.declared.StreamInfo.{StreamInfo}
+use Rattle.lines.specs.Lines.{linesOf}
+use Rattle.access_run.specs.declared.Acted.{Acted}
+
+-- ---- the card
+
+-- format S16 (bit 5), rate 48,000 (bit 7), one or two channels
+abbrev pub output : StreamInfo
+output = record { nid = 0; features = 0; formats = 32; rates = 128; «channels_min» = 1; «channels_max» = 2 }
+
+-- the second place is that of an input stream, of which there is none
+abbrev pub panel : Description
+panel =
+    record {
+      «jack_count» = 0;
+      «map_count» = 0;
+      «output_count» = 1;
+      «input_count» = 0;
+      jacks = replicate 4 noJackInfo;
+      maps = replicate 4 noMapInfo;
+      streams = replicate 2 output;
+    }
+
+abbrev pub firstCard : Card
+firstCard = cardOf (partsAtPower panel) 65536
+
+-- ---- a line
+
+-- "answer, value (0 for a write); 99 for a line it can't read"
+abbrev pub actOf : Card → Line → Acted
+actOf c (Read offset width) =
+    let r : ReadAnswer = readCard c offset width in
+    record { card = r .card; answer = r .answer; value = r .value }
+actOf c (Write offset width v) =
+    let w : WriteAnswer = writeCard c offset width v in
+    record { card = w .card; answer = w .answer; value = 0 }
+actOf c Unreadable = record { card = c; answer = 99; value = 0 }
+
+-- "Prints line number, answer, value": single spaces, 32, between the three, and a line feed, 10
+unfoldable pub answerText : ℕ → ℕ → ℕ → List ℕ
+answerText number answer value = fieldOf number 32 ++ fieldOf answer 32 ++ fieldOf value 10
+
+-- ---- the input
+
+-- lines are counted from 1, as far as 64 bits count
+abbrev pub next : ℕ → ℕ
+next n = (n + 1) % 2 ^ 64
+
+-- the answers to lines on a card, after n lines before them: each line on the card that the one before it left
+unfoldable pub answers : Card → ℕ → List (List ℕ) → List ℕ
+answers c n [] = []
+answers c n (l ∷ ls) =
+    let a : Acted = actOf c (lineOf l) in
+    answerText (next n) (a .answer) (a .value) ++ answers (a .card) (next n) ls
+
+-- all that is printed
+abbrev pub printed : List ℕ → List ℕ
+printed input = answers firstCard 0 (linesOf input)

@@ -1,0 +1,3 @@
+-- Laws of numbers in decimal: read, written, and read back.
+pub mod Reading
+pub mod Writing

@@ -1,0 +1,3 @@
+-- Numbers in decimal, read and written.
+pub mod Read
+pub mod Write

@@ -1,0 +1,2 @@
+-- Laws of lines: by places, and cut further on.
+pub mod Laws
