@@ -54,7 +54,8 @@ field-at : (s : List ℕ) (at : ℕ) (then : ℕ → List ℕ → Line)
     → field (drop at s) then ≡ byNumber (fieldAt s at 10 9999999999) (λ v next. then v (drop next s)) Unreadable
 unfolding field fieldAt
 field-at s at then = by (ltb at (length s)) refl where
-  by : (b : Bool) → ltb at (length s) ≡ b → field (drop at s) then ≡ byNumber (fieldAt s at 10 9999999999) (λ v next. then v (drop next s)) Unreadable
+  by : (b : Bool) → ltb at (length s) ≡ b
+      → field (drop at s) then ≡ byNumber (fieldAt s at 10 9999999999) (λ v next. then v (drop next s)) Unreadable
   by true h = rw (h, drop-cons s at 0 (ltb-true at (length s) h), ← (add-one at)) (number-then s (at + 1) then (eqb (getD s at 0) 32))
   by false h = rw (drop-of-length-le s (ltb-false at (length s) h), h)
 

@@ -11,10 +11,10 @@ use Rattle.access_line.specs.Line.{lineOf}
 use Rattle.access_line.specs.Collect.{emptyLine, withByte, collected}
 use Rattle.access_line.proofs.Laws.{collected-reads, collected-more, collected-some}
 use Rattle.card.specs.declared.Card.{Card}
-use Rattle.lines.specs.Lines.{linesOf}
+use Rattle.lines.specs.Lines.{linesOf, joined}
 use Rattle.lines.proofs.Laws.{behindPart, part-none, part-ended, part-more}
 use Rattle.access_run.specs.Answers.{answers, answerText, actOf, next, firstCard, printed}
-use Rattle.access_run.specs.Session.{firstSession, ended, lineText, fed, fedText, blockText, restText, handed, joined}
+use Rattle.access_run.specs.Session.{firstSession, ended, lineText, fed, fedText, blockText, restText, handed}
 use Rattle.access_run.specs.declared.Session.{Session}
 
 -- ---- a session within a line
@@ -88,4 +88,5 @@ handed-told (b ∷ bs) s = rw (handed-told bs (foldl fed s b), block-append b (j
 
 -- what is left in the buffer block by block is what is printed for the whole input
 pub session-text : (blocks : List (List ℕ)) → handed firstSession blocks ≡ printed (joined blocks)
-session-text bs = handed-told bs firstSession ∙ told-lines (joined bs) [] firstCard 0 ∙ ap (answers firstCard 0) (part-none (linesOf (joined bs)))
+session-text bs =
+    handed-told bs firstSession ∙ told-lines (joined bs) [] firstCard 0 ∙ ap (answers firstCard 0) (part-none (linesOf (joined bs)))

@@ -54,10 +54,6 @@ unfoldable pub handed : Session → List (List ℕ) → List ℕ
 handed s [] = restText s
 handed s (b ∷ bs) = blockText s b ++ handed (foldl fed s b) bs
 
-unfoldable pub joined : List (List ℕ) → List ℕ
-joined [] = []
-joined (b ∷ bs) = b ++ joined bs
-
 -- ---- what is promised of a part of the input
 
 -- the session and its text are these, the text written into a buffer from a place on; and the card is fit for the next part

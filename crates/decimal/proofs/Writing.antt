@@ -129,7 +129,8 @@ put-back {t} {a} {b} {end} f h =
     rw (f .stored, e) (taken-back t a h)
 
 -- a number's digits, and the byte behind them
-pub put-field : (n end : ℕ) {ds a b : List ℕ} {at p : ℕ} → ds ≡ decimalOf n → Put ds a at b p → Put (fieldOf n end) a at (set b p end) (p + 1)
+pub put-field : (n end : ℕ) {ds a b : List ℕ} {at p : ℕ} → ds ≡ decimalOf n → Put ds a at b p
+    → Put (fieldOf n end) a at (set b p end) (p + 1)
 unfolding fieldOf
 put-field n end {ds} {a} {b} {at} {p} d f = rw (← d) (put-then f (put-byte b p end))
 

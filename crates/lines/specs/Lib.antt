@@ -1,2 +1,2 @@
--- The lines of a text.
+-- The lines of a text, and texts joined.
 pub mod Lines

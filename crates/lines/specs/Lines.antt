@@ -1,6 +1,6 @@
 -- A text is cut into lines at its line feeds, 10, which are no part of them: "line feed after all but perhaps the last". The empty
 -- rest after the last line feed is no line.
-use mathlib.Core.List.{List, [], _∷_}
+use mathlib.Core.List.{List, [], _∷_, _++_}
 use mathlib.Core.Bool.{cond}
 use Prim.Native.Nat.{ℕ, suc, _+_}
 use lib.Dec.{eqb, ltb}
@@ -13,6 +13,12 @@ headed b (l ∷ ls) = (b ∷ l) ∷ ls
 unfoldable pub linesOf : List ℕ → List (List ℕ)
 linesOf [] = []
 linesOf (b ∷ t) = cond (eqb b 10) ([] ∷ linesOf t) (headed b (linesOf t))
+
+-- ---- texts one behind the other
+
+unfoldable pub joined : List (List ℕ) → List ℕ
+joined [] = []
+joined (t ∷ ts) = t ++ joined ts
 
 -- ---- by places
 

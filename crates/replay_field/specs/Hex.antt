@@ -5,7 +5,7 @@ use mathlib.Core.Bool.{Bool, true, false, cond, _&&_}
 use Prim.Native.Nat.{ℕ, _+_, _-_, _*_, _/_, _%_}
 use lib.Dec.{eqb, leb, ltb}
 use lib.ListN.{length, getD, set, drop}
-use Rattle.replay_field.specs.Number.{isDigit}
+use Rattle.decimal.specs.Read.{isDigit}
 use Rattle.replay_field.specs.declared.Hex.{Hex}
 use Rattle.replay_field.specs.declared.Hex.the-variants.{At, None}
 

@@ -1,18 +1,15 @@
 // The words of a script line: numbers and HEX, found by their place in the line. A word of HEX stays in
 // the line, and `pour_hex` writes its bytes.
 ghost use mathlib.Core.Path.{_≡_};
-ghost use Prim.Native.Nat.{_*_, _+_, _<_};
-ghost use lib.Dec.{leb};
+ghost use Prim.Native.Nat.{_<_};
 ghost use lib.ListN.{drop};
-ghost use Rattle.replay_field.specs.Number.{isDigit, numberAt, fieldAt, pairAt, sizeAt};
+ghost use Rattle.replay_field.specs.Number.{fieldAt, pairAt, sizeAt};
 ghost use Rattle.replay_field.specs.Hex.{isHexDigit, everyHexDigit, isHex, hexAt, nibble, bytesOfHex, poured};
 ghost use Rattle.replay_field.specs.Word.{begins};
+use decimal::Number;
 
-// A number, and the place behind its last digit.
-pub enum Number {
-    Is(u64, usize),
-    None,
-}
+// "1 to 20 decimal digits"
+const DIGITS: usize = 20;
 
 // Two numbers, and the place behind them.
 pub enum Pair {
@@ -32,79 +29,11 @@ pub enum Hex {
     None,
 }
 
-fn is_digit(b: u8) -> bool
-    ensures { λ r. ⌜ r ≡ isDigit b ⌝ }
-{
-    if b < b'0' {
-        return false;
-    }
-    if b <= b'9' {
-        return true;
-    }
-    false
-}
-
-// Whether a number has room for one more digit.
-fn has_room(v: u64, digit: u64, max: u64) -> bool
-    ensures { λ r. ⌜ r ≡ leb (10 * v + digit) max ⌝ }
-{
-    if max / 10 < v {
-        return false;
-    }
-    if max - 10 * v < digit {
-        return false;
-    }
-    true
-}
-
-fn wide(x: u8) -> u64
-    ensures { λ r. ⌜ (r ≡ x) × (r < 256) ⌝ }
-{
-    x as u64
-}
-
-// The number of at most `max` whose first digit stands at `at`.
-fn number_at(s: &[u8], at: usize, max: u64) -> Number
-    ensures { λ r. ⌜ r ≡ numberAt (now (s .entry)) at max ⌝ }
-{
-    if s.len() <= at {
-        return Number::None;
-    }
-    if !is_digit(s[at]) {
-        return Number::None;
-    }
-    let mut i = at;
-    let mut v: u64 = 0;
-    while i < s.len() {
-        let b = s[i];
-        if !is_digit(b) {
-            return Number::Is(v, i);
-        }
-        // a digit too many
-        if 20 <= i - at {
-            return Number::None;
-        }
-        let digit = wide(b - b'0');
-        if !has_room(v, digit, max) {
-            return Number::None;
-        }
-        v = 10 * v + digit;
-        i += 1;
-    }
-    Number::Is(v, i)
-}
-
 // A space at `at`, and the number behind it.
 pub fn field_at(s: &[u8], at: usize, max: u64) -> Number
     ensures { λ r. ⌜ r ≡ fieldAt (now (s .entry)) at max ⌝ }
 {
-    if s.len() <= at {
-        return Number::None;
-    }
-    if s[at] != b' ' {
-        return Number::None;
-    }
-    number_at(s, at + 1, max)
+    decimal::field_at(s, at, DIGITS, max)
 }
 
 // Two fields, one behind the other.
@@ -136,7 +65,7 @@ pub fn size_at(s: &[u8], at: usize, max: u64) -> Size
 fn is_hex_digit(b: u8) -> bool
     ensures { λ r. ⌜ r ≡ isHexDigit b ⌝ }
 {
-    if is_digit(b) {
+    if decimal::is_digit(b) {
         return true;
     }
     if b < b'a' {

@@ -2,7 +2,8 @@
 use mathlib.Core.Path.{_≡_, refl}
 use mathlib.Core.List.{[], _∷_}
 use Prim.Native.String.{String}
-use Rattle.replay_field.specs.Number.{isDigit, digits, numberAt, fieldAt, pairAt, sizeAt}
+use Rattle.decimal.specs.Read.{isDigit, digits, numberAt, fieldAt}
+use Rattle.replay_field.specs.Number.{pairAt, sizeAt}
 use Rattle.replay_field.specs.Hex.{isHexDigit, everyHexDigit, isHex, hexAt, nibble, bytesOfHex}
 use Rattle.replay_field.specs.Word.{bytes, begins}
 use Rattle.replay_line.specs.Line.{jackForm, mapForm, streamForm, powerForm, readForm, writeForm, controlForm, playForm, captureForm, eventForm, storeForm, fillForm, ramForm, dumpForm, guestLine, callLine, partLine, lineOf}
@@ -21,8 +22,10 @@ pub forms :
     × (reads "# power 0" ≡ Skipped)
     × (reads "jack 1 2 3 4 5" ≡ Described (Jack (record { nid = 1; features = 2; defconf = 3; caps = 4; connected = 5 })))
     × (reads "map 1 2 3 000102030405060708090a0b0c0d0e0f1011" ≡ Described (Map 1 2 3 10))
-    × (reads "out 1 2 3 4 5 6" ≡ Described (Output (record { nid = 1; features = 2; formats = 3; rates = 4; «channels_min» = 5; «channels_max» = 6 })))
-    × (reads "in 1 2 3 4 5 6" ≡ Described (Input (record { nid = 1; features = 2; formats = 3; rates = 4; «channels_min» = 5; «channels_max» = 6 })))
+    × (reads "out 1 2 3 4 5 6"
+    ≡ Described (Output (record { nid = 1; features = 2; formats = 3; rates = 4; «channels_min» = 5; «channels_max» = 6 })))
+    × (reads "in 1 2 3 4 5 6"
+    ≡ Described (Input (record { nid = 1; features = 2; formats = 3; rates = 4; «channels_min» = 5; «channels_max» = 6 })))
     × (reads "power 1048576" ≡ Power 1048576)
     × (reads "r 18 1" ≡ Called (Read 18 1))
     × (reads "w 18 1 11" ≡ Called (Write 18 1 11))
@@ -35,7 +38,9 @@ pub forms :
     × (reads "f 18446744073709551615 18446744073709551615 255" ≡ Lent (Fill 18446744073709551615 18446744073709551615 255))
     × (reads "ram 0" ≡ Lent (Ram 0))
     × (reads "d 0 65536" ≡ Lent (Dump 0 65536))
-unfolding isDigit digits numberAt fieldAt pairAt isHexDigit everyHexDigit isHex hexAt begins sizeAt jackForm mapForm streamForm powerForm readForm writeForm controlForm playForm captureForm eventForm storeForm fillForm ramForm dumpForm guestLine callLine partLine lineOf
+unfolding isDigit digits numberAt fieldAt pairAt isHexDigit everyHexDigit isHex hexAt begins sizeAt
+    jackForm mapForm streamForm powerForm readForm writeForm controlForm playForm captureForm eventForm
+    storeForm fillForm ramForm dumpForm guestLine callLine partLine lineOf
 forms = (refl, refl, refl, refl, refl, refl, refl, refl, refl, refl, refl, refl, refl, refl, refl, refl, refl, refl)
 
 -- a word too many or too few, spaces, numbers too long or too great, HEX that is none
@@ -59,7 +64,9 @@ pub refused :
     × (reads "capture 0A" ≡ Unreadable)
     × (reads "m 0 00 " ≡ Unreadable)
     × (reads "map 1 2 3 -" ≡ Unreadable)
-unfolding isDigit digits numberAt fieldAt pairAt isHexDigit everyHexDigit isHex hexAt begins sizeAt jackForm mapForm streamForm powerForm readForm writeForm controlForm playForm captureForm eventForm storeForm fillForm ramForm dumpForm guestLine callLine partLine lineOf
+unfolding isDigit digits numberAt fieldAt pairAt isHexDigit everyHexDigit isHex hexAt begins sizeAt
+    jackForm mapForm streamForm powerForm readForm writeForm controlForm playForm captureForm eventForm
+    storeForm fillForm ramForm dumpForm guestLine callLine partLine lineOf
 refused = (refl, refl, refl, refl, refl, refl, refl, refl, refl, refl, refl, refl, refl, refl, refl, refl, refl, refl, refl)
 
 pub bytes-of-hex : (bytesOfHex (bytes "00ff1a") ≡ 0 ∷ 255 ∷ 26 ∷ []) × (bytesOfHex (bytes "-") ≡ [])

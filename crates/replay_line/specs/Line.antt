@@ -6,7 +6,8 @@ use Prim.Native.Nat.{ℕ}
 use lib.Dec.{eqb, ltb}
 use lib.ListN.{length, getD}
 use Rattle.description.specs.declared.StreamInfo.{StreamInfo}
-use Rattle.replay_field.specs.Number.{fieldAt, byNumber, pairAt, byPair, sizeAt}
+use Rattle.decimal.specs.Read.{byNumber}
+use Rattle.replay_field.specs.Number.{fieldAt, pairAt, byPair, sizeAt}
 use Rattle.replay_field.specs.Hex.{hexAt, byHex}
 use Rattle.replay_field.specs.Word.{bytes, begins}
 use Rattle.replay_field.specs.declared.Size.{Size}
@@ -69,7 +70,8 @@ streamForm s at input =
     pair s at max32 (λ nid features a.
     pair s a max64 (λ formats rates b.
     pair s b max8 (λ min max end.
-    let info : StreamInfo = record { nid = nid; features = features; formats = formats; rates = rates; «channels_min» = min; «channels_max» = max } in
+    let info : StreamInfo =
+    record { nid = nid; features = features; formats = formats; rates = rates; «channels_min» = min; «channels_max» = max } in
     ended s end (Described (cond input (Input info) (Output info))))))
 
 -- power LEN: "at most 1,048,576"

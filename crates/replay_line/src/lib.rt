@@ -2,10 +2,10 @@
 // stays in the line: the line read says where it starts.
 ghost use mathlib.Core.Path.{_≡_};
 ghost use Rattle.replay_line.specs.Line.{jackForm, mapForm, streamForm, powerForm, readForm, writeForm, controlForm, playForm, captureForm, eventForm, storeForm, fillForm, ramForm, dumpForm, partLine, callLine, guestLine, lineOf};
+use decimal::Number;
 use description::JackInfo;
 use description::StreamInfo;
 use replay_field::Hex;
-use replay_field::Number;
 use replay_field::Pair;
 use replay_field::Size;
 

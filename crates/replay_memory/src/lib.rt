@@ -4,19 +4,20 @@ ghost use mathlib.Core.Path.{_≡_};
 ghost use Prim.Native.Nat.{_≤_, min};
 ghost use lib.ListN.{length};
 ghost use Rattle.io.specs.Counts.{Counts};
-ghost use Rattle.replay_memory.specs.Lent.{filled, touchedRam, touchedLength};
-use libc::STDOUT_FILENO;
+ghost use Rattle.decimal.specs.Write.{Put};
+ghost use Rattle.replay_memory.specs.Lent.{filled, dumpBytes, Touches};
 use replay_line::Guest;
-use replay_text::Text;
 
 // The greatest length.
 const MAX_RAM: usize = 1048576;
 
-// Room for 65,536 bytes, two digits for each.
-fn hex_buffer() -> [u8; 131072]
-    ensures { λ r. ⌜ 131072 ≡ length r ⌝ }
-{
-    [0; 131072]
+// The most bytes that one line prints.
+const MAX_DUMP: usize = 65536;
+
+// The length lent after a line of the guest, and the place behind the text that the line left.
+pub struct Touched {
+    pub len: usize,
+    pub end: usize,
 }
 
 // `n`, or all of `buf` where it has no more.
@@ -47,7 +48,7 @@ pub fn fill(m: &mut [u8], at: usize, n: usize, b: u8)
 }
 
 fn at_most(n: usize, max: usize) -> usize
-    ensures { λ r. ⌜ r ≤ max ⌝ }
+    ensures { λ r. ⌜ r ≡ min n max ⌝ }
 {
     if max < n {
         return max;
@@ -55,42 +56,51 @@ fn at_most(n: usize, max: usize) -> usize
     n
 }
 
-// `LINE HEX`
-fn dump(line: u64, m: &[u8], at: usize, n: usize) {
-    let mut text = hex_buffer();
-    let count = at_most(n, 65536);
-    replay_text::put_hex(m, at, count, &mut text);
-    replay_text::print(replay_text::with_number(Text::empty(), line, b' '));
-    if count == 0 {
-        io::write_all(STDOUT_FILENO, b"-\n");
-        return;
-    }
-    replay_text::write_first(&text, 2 * count);
-    io::write_all(STDOUT_FILENO, b"\n");
+// `LINE HEX`, written to the start of `out`. The place behind it.
+fn dump(line: u64, m: &[u8], at: usize, n: usize, out: &mut [u8]) -> usize
+    requires { ⌜ 131096 ≤ length (now out) ⌝ }
+    ensures { λ r. ⌜ Put (dumpBytes line (now (m .entry)) at n) (now (out .entry)) 0 (now (out .exit)) r × (r ≤ 131096) ⌝ }
+{
+    let count = at_most(n, MAX_DUMP);
+    let to = decimal::put(out, 0, line, b' ');
+    let end = replay_text::put_word(m, at, count, out, to);
+    out[end] = b'\n';
+    end + 1
 }
 
-// A line `s` on the memory lent, the first `len` bytes of `ram`. The length lent after it.
-pub fn touch(guest: Guest, line: u64, s: &[u8], ram: &mut [u8], len: usize) -> usize
-    ensures { λ r. ⌜ (now (ram .exit) ≡ touchedRam guest (now (s .entry)) (now (ram .entry)) (min len (length (now (ram .entry)))))
-        × (r ≡ touchedLength guest (min len (length (now (ram .entry))))) ⌝ }
+// A line `s` on the memory lent, the first `len` bytes of `ram`. Its text goes to the start of `out`.
+pub fn touch(
+    guest: Guest,
+    line: u64,
+    s: &[u8],
+    ram: &mut [u8],
+    len: usize,
+    out: &mut [u8],
+) -> Touched
+    requires { ⌜ 131096 ≤ length (now out) ⌝ }
+    ensures { λ r. ⌜ Touches guest line (now (s .entry)) (now (ram .entry)) (min len (length (now (ram .entry)))) (now (out .entry))
+        (now (ram .exit)) (now (out .exit)) r ⌝ }
 {
     let lent = within(len, ram);
     match guest {
         Guest::Store(address, at) => {
             replay_field::pour_hex(s, at, &mut ram[..lent], address as usize);
-            lent
+            Touched { len: lent, end: 0 }
         }
         Guest::Fill(address, n, b) => {
             fill(&mut ram[..lent], address as usize, n as usize, b);
-            lent
+            Touched { len: lent, end: 0 }
         }
         Guest::Ram(n) => {
             fill(ram, n, MAX_RAM, 0);
-            n
+            Touched { len: n, end: 0 }
         }
         Guest::Dump(address, n) => {
-            dump(line, &ram[..lent], address as usize, n);
-            lent
+            let end = dump(line, &ram[..lent], address as usize, n, out);
+            Touched {
+                len: lent,
+                end: end,
+            }
         }
     }
 }

@@ -1,2 +1,3 @@
--- The replay program: what its lines do to the memory lent.
+-- The replay program: its calls by the rules' step, what each line does and prints, and the session over all lines.
+pub mod Calls
 pub mod Session

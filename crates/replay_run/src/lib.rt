@@ -1,17 +1,19 @@
 // The replay program: the lines of a script are described parts, calls on one card and the guest's
-// writes to the memory lent; each call is answered by a line of standard output.
+// writes to the memory lent; each call is answered by a line of standard output. A line leaves its text
+// in a buffer, which `session` writes out.
 ghost use mathlib.Core.Path.{_≡_};
-ghost use Prim.Native.Nat.{_+_, _<_, _≤_, min};
+ghost use Prim.Native.Nat.{_≤_, min};
 ghost use lib.ListN.{length};
 ghost use Rattle.card.specs.Fit.{Fit};
 ghost use Rattle.card.specs.Rules.{poweredOf};
-ghost use Rattle.replay_call.specs.Shown.{left};
-ghost use Rattle.replay_line.specs.Line.{lineOf};
-ghost use Rattle.replay_memory.specs.Lent.{filled};
-ghost use Rattle.replay_run.specs.Session.{deskOf, firstDesk, numbered, poweredDesk, deskAfter, calledLeft, leftAfter};
+ghost use Rattle.decimal.specs.Write.{Put};
+ghost use Rattle.lines.specs.Lines.{linesOf};
+ghost use Rattle.replay_text.specs.Text.{answerBytes};
+ghost use Rattle.replay_run.specs.Session.{worldOf, firstWorld, poweredWorld, calledWorld, calledText, stepWorld, stepText, sessionWorld, Steps};
 use card::Card;
 use description::Description;
 use libc::STDIN_FILENO;
+use libc::STDOUT_FILENO;
 use replay_line::Call;
 use replay_line::Line;
 
@@ -31,6 +33,12 @@ struct State {
     card: Card,
 }
 
+// The state after a line, and the place behind the text that the line left.
+struct Turn {
+    state: State,
+    end: usize,
+}
+
 fn script_buffer() -> [u8; 1048577] {
     [0; 1048577]
 }
@@ -39,88 +47,121 @@ fn ram_buffer() -> [u8; 1048576] {
     [0; 1048576]
 }
 
-// `LINE 99`
-fn refuse(line: u64) {
-    replay_text::print(replay_text::answer_text(line, UNREADABLE));
+// Room for the longest text of a line: a number, 65,536 bytes in HEX, a line feed.
+fn text_buffer() -> [u8; 131096]
+    ensures { λ r. ⌜ 131096 ≡ length r ⌝ }
+{
+    [0; 131096]
+}
+
+// `LINE ANSWER`, written to the start of `out`. The place behind it.
+fn answer(line: u64, answer: u8, out: &mut [u8]) -> usize
+    requires { ⌜ 131096 ≤ length (now out) ⌝ }
+    ensures { λ r. ⌜ Put (answerBytes line answer) (now (out .entry)) 0 (now (out .exit)) r × (r ≤ 128) ⌝ }
+{
+    replay_text::lay(replay_text::answer_text(line, answer), out)
 }
 
 // Power-up with the description so far and `n` bytes of RAM, all zero.
-fn power(state: State, n: usize, ram: &mut [u8]) -> State
-    ensures { λ r. ⌜ (deskOf r ≡ poweredDesk (min n (length (now (ram .entry)))) (deskOf state))
-        × (r .card ≡ poweredOf (state .described) (min n (length (now (ram .entry)))) .card)
-        × (now (ram .exit) ≡ filled 1048576 (now (ram .entry)) 0 0)
-        × Fit (r .card) ⌝ }
+fn power(state: State, n: usize, ram: &mut [u8], out: &mut [u8]) -> Turn
+    requires { ⌜ 131096 ≤ length (now out) ⌝ }
+    ensures { λ r. ⌜ Steps (poweredWorld (min n (length (now (ram .entry)))) (worldOf state (now (ram .entry))))
+        (answerBytes (state .line) (poweredOf (state .described) (min n (length (now (ram .entry)))) .answer))
+        (now (out .entry)) (now (ram .exit)) (now (out .exit)) r ⌝ }
 {
     let len = replay_memory::within(n, ram);
     replay_memory::fill(ram, 0, MAX_SCRIPT, 0);
     let d = state.described;
     let powered = card::power_up(d, len);
-    replay_text::print(replay_text::answer_text(state.line, powered.answer));
+    let end = answer(state.line, powered.answer, out);
     let card = powered.card;
-    State {
+    let next = State {
         line: state.line,
         len: len,
         powered: powered.answer == 0,
         described: replay_description::no_description(),
         card: card,
+    };
+    Turn {
+        state: next,
+        end: end,
     }
 }
 
 // A call with no card can't be made.
-fn call_line(state: State, call: Call, s: &[u8], ram: &mut [u8]) -> State
-    requires { ⌜ Fit (state .card) ⌝ }
-    ensures { λ r. ⌜ (deskOf r ≡ deskOf state)
-        × (calledLeft state call (now (s .entry)) (now (ram .entry)) ≡ left (r .card) (now (ram .exit)))
-        × Fit (r .card) ⌝ }
+fn call_line(state: State, call: Call, s: &[u8], ram: &mut [u8], out: &mut [u8]) -> Turn
+    requires { ⌜ Fit (state .card) × (131096 ≤ length (now out)) ⌝ }
+    ensures { λ r. ⌜ Steps (calledWorld call (now (s .entry)) (worldOf state (now (ram .entry))))
+        (calledText call (now (s .entry)) (worldOf state (now (ram .entry))))
+        (now (out .entry)) (now (ram .exit)) (now (out .exit)) r ⌝ }
 {
     if !state.powered {
-        refuse(state.line);
-        return state;
+        let refused = answer(state.line, UNREADABLE, out);
+        return Turn {
+            state: state,
+            end: refused,
+        };
     }
     let lent = replay_memory::within(state.len, ram);
     let card = state.card;
     let shown = replay_host::call(card, state.line, call, s, &mut ram[..lent]);
     let text = shown.text;
-    replay_text::print(text);
+    let end = replay_text::lay(text, out);
     let after = shown.card;
     let mut next = state;
     next.card = after;
-    next
+    Turn {
+        state: next,
+        end: end,
+    }
 }
 
-// One line of the script.
-fn step(state: State, s: &[u8], ram: &mut [u8]) -> State
-    requires { ⌜ Fit (state .card) ⌝ }
-    ensures { λ r. ⌜ (deskOf r ≡ deskAfter (lineOf (now (s .entry))) (now (s .entry)) (length (now (ram .entry))) (numbered (deskOf state)))
-        × (leftAfter (lineOf (now (s .entry))) state (now (s .entry)) (now (ram .entry)) ≡ left (r .card) (now (ram .exit)))
-        × Fit (r .card) ⌝ }
+// One line of the script, whose text goes to the start of `out`.
+fn step(state: State, s: &[u8], ram: &mut [u8], out: &mut [u8]) -> Turn
+    requires { ⌜ Fit (state .card) × (131096 ≤ length (now out)) ⌝ }
+    ensures { λ r. ⌜ Steps (stepWorld (worldOf state (now (ram .entry))) (now (s .entry)))
+        (stepText (worldOf state (now (ram .entry))) (now (s .entry)))
+        (now (out .entry)) (now (ram .exit)) (now (out .exit)) r ⌝ }
 {
     let mut next = state;
     next.line = std::num::wrapping_add_u64(state.line, 1);
     let line = replay_line::read_line(s);
     match line {
-        Line::Skipped => next,
+        Line::Skipped => Turn {
+            state: next,
+            end: 0,
+        },
         Line::Unreadable => {
-            refuse(next.line);
-            next
+            let end = answer(next.line, UNREADABLE, out);
+            Turn {
+                state: next,
+                end: end,
+            }
         }
         Line::Described(part) => {
             let d = next.described;
             next.described = replay_description::with_part(d, part, s);
-            next
+            Turn {
+                state: next,
+                end: 0,
+            }
         }
-        Line::Power(n) => power(next, n, ram),
-        Line::Called(call) => call_line(next, call, s, ram),
+        Line::Power(n) => power(next, n, ram, out),
+        Line::Called(call) => call_line(next, call, s, ram, out),
         Line::Lent(guest) => {
-            next.len = replay_memory::touch(guest, next.line, s, ram, next.len);
-            next
+            let touched = replay_memory::touch(guest, next.line, s, ram, next.len, out);
+            next.len = touched.len;
+            Turn {
+                state: next,
+                end: touched.end,
+            }
         }
     }
 }
 
 // Before the first line: no card, and no memory lent.
-fn first_state() -> State
-    ensures { λ r. ⌜ (deskOf r ≡ firstDesk) × Fit (r .card) ⌝ }
+fn first_state(ram: &[u8]) -> State
+    ensures { λ r. ⌜ (worldOf r (now (ram .entry)) ≡ firstWorld (now (ram .entry))) × Fit (r .card) ⌝ }
 {
     let powered = card::power_up(replay_description::no_description(), 0);
     let card = powered.card;
@@ -133,51 +174,36 @@ fn first_state() -> State
     }
 }
 
-// The place of the next line feed, or the end.
-fn line_end(s: &[u8], at: usize) -> usize
-    requires { ⌜ at ≤ length (now s) ⌝ }
-    ensures { λ r. ⌜ (at ≤ r) × (r ≤ length (now (s .entry))) ⌝ }
+// The lines of a script, one after the other, on the memory that is lent: each is done, and what it
+// left in `out` is written out. The last state.
+fn session(s: &[u8], ram: &mut [u8], out: &mut [u8]) -> State
+    requires { ⌜ 131096 ≤ length (now out) ⌝ }
+    ensures { λ r. ⌜ (worldOf r (now (ram .exit)) ≡ sessionWorld (firstWorld (now (ram .entry))) (linesOf (now (s .entry))))
+        × Fit (r .card) ⌝ }
 {
-    let mut i = at;
-    while i < s.len() {
-        if s[i] == b'\n' {
-            return i;
-        }
-        i += 1;
-    }
-    i
-}
-
-// The place behind `at`, inside `len` bytes.
-fn behind(at: usize, len: usize) -> usize
-    requires { ⌜ at < len ⌝ }
-    ensures { λ r. ⌜ r ≡ at + 1 ⌝ }
-{
-    at + 1
-}
-
-// The lines of a script, one after the other, on the memory that is lent.
-fn session(s: &[u8], ram: &mut [u8]) {
-    let mut state = first_state();
+    let mut state = first_state(ram);
     let mut at = 0;
     while at < s.len() {
-        let end = line_end(s, at);
-        state = step(state, &s[at..end], ram);
-        if s.len() <= end {
-            return;
-        }
-        at = behind(end, s.len());
+        let line_end = lines::line_end(s, at);
+        let turn = step(state, &s[at..line_end], ram, out);
+        let end = turn.end;
+        io::write_all(STDOUT_FILENO, &out[..end]);
+        state = turn.state;
+        at = lines::behind(s, line_end);
     }
+    state
 }
 
-// The whole program.
+// The whole program: a script longer than the limit prints one line and nothing else.
 pub fn run() {
     let mut script = script_buffer();
+    let mut ram = ram_buffer();
+    let mut out = text_buffer();
     let count = io::read_full(STDIN_FILENO, &mut script);
     if MAX_SCRIPT < count {
-        replay_text::print(replay_text::answer_text(0, UNREADABLE));
+        let end = answer(0, UNREADABLE, &mut out);
+        io::write_all(STDOUT_FILENO, &out[..end]);
         return;
     }
-    let mut ram = ram_buffer();
-    session(&script[..count], &mut ram);
+    session(&script[..count], &mut ram, &mut out);
 }

@@ -1,18 +1,78 @@
--- Laws of printed text: a fold byte by byte, a number's digits, HEX.
-use mathlib.Core.Path.{_≡_, refl}
-use mathlib.Core.List.{List, foldl}
+-- Laws of printed text: bytes one behind the other, that a text keeps them all, a fold byte by byte, HEX.
+use mathlib.Core.Path.{_≡_, refl, sym, _∙_}
+use mathlib.Core.List.{List, [], _∷_, _++_, foldl}
 use mathlib.Core.Bool.{Bool, true, false, cond}
-use Prim.Native.Nat.{ℕ, zero, suc, _+_, _-_, _/_, _%_, _^_, _≤_, _<_}
-use native.Mathlib.Nat.{pow-le-pow-right}
+use Prim.Native.Nat.{ℕ, zero, suc, _+_, _-_, _*_, _/_, _%_, _≤_, _<_}
 use native.Mathlib.Numerals.{add-one}
 use native.Mathlib.Omega.{arith}
-use borrow.Author.Tests.{leb-true, leb-false, ltb-true, ltb-false}
-use lib.Dec.{leb, ltb}
-use lib.ListN.{length, getD, set, drop, drop-of-length-le, List·getD-eq-default}
+use borrow.Author.Tests.{leb-true}
+use lib.Dec.{eqb, leb}
+use lib.ListN.{length, getD, set, take, drop, drop-of-length-le, length-append, length-replicate, List·getD-eq-default}
 use lib.Seq.{drop-cons}
-use Rattle.io.specs.Digits.{Fewest}
-use Rattle.replay_text.specs.Text.{places}
-use Rattle.replay_text.specs.Hex.{glyphOf, behindOf, hexed}
+use Rattle.decimal.specs.Write.{fieldOf, Put}
+use Rattle.decimal.proofs.Writing.{Rest, put-then, put-byte, put-back, rest-more, field-short}
+use Rattle.replay_text.specs.Text.{answerBytes, startBytes, callBytes, playBytes, rungBytes, registerBytes, noText, withBytes, textOf, kept}
+use Rattle.replay_text.specs.Hex.{glyphOf, behindOf, hexBytes}
+use Rattle.replay_text.specs.declared.Text.{Text}
+
+-- ---- bytes one behind the other
+
+-- a text with bytes behind it, as a store into its array
+pub with-put : (t : Text) (u b : List ℕ) (p : ℕ) → Put u (t .bytes) (t .count) b p → record { bytes = b; count = p } ≡ withBytes t u
+unfolding withBytes
+with-put t u b p f = rw (f .stored, f .behind)
+
+pub with-then : (t : Text) (u v : List ℕ) → withBytes (withBytes t u) v ≡ withBytes t (u ++ v)
+unfolding withBytes
+with-then t u v =
+    let f : Put u (t .bytes) (t .count) (withBytes t u .bytes) (withBytes t u .count) = record { stored = refl; behind = refl } in
+    let g : Put v (withBytes t u .bytes) (withBytes t u .count) (withBytes (withBytes t u) v .bytes) (withBytes (withBytes t u) v .count) =
+    record { stored = refl; behind = refl } in
+    with-put t (u ++ v) _ _ (put-then f g)
+
+-- ---- a text keeps all its bytes
+
+pub kept-text : (t : List ℕ) → length t ≤ 128 → kept (textOf t) ≡ t
+unfolding withBytes
+kept-text t h =
+    let f : Put t (noText .bytes) 0 (textOf t .bytes) (textOf t .count) = record { stored = refl; behind = refl } in
+    put-back f (rw length-replicate h)
+
+rung-short : (rung : ℕ) → length (rungBytes rung) ≤ 21
+unfolding rungBytes
+rung-short rung = by (eqb rung 255) where
+  by : (x : Bool) → length (cond x (45 ∷ 32 ∷ []) (fieldOf rung 32)) ≤ 21
+  by true = omega arith
+  by false = field-short rung 32
+
+module _ (line answer : ℕ) where
+  pub kept-answer : kept (textOf (answerBytes line answer)) ≡ answerBytes line answer
+  kept-answer = kept-text _ (simp length-append (omega (arith, field-short line 32, field-short answer 10)))
+
+  start-short : (count irq : ℕ) → length (startBytes line answer count irq) ≤ 84
+  start-short count irq =
+      simp length-append (omega (arith, field-short line 32, field-short answer 32, field-short count 32, field-short irq 32))
+
+  pub kept-call : (count irq sum : ℕ) → kept (textOf (callBytes line answer count irq sum)) ≡ callBytes line answer count irq sum
+  kept-call count irq sum =
+      kept-text _ (rw length-append (omega (arith, start-short count irq, field-short sum 10)))
+
+  pub kept-play : (count irq sum host : ℕ)
+      → kept (textOf (playBytes line answer count irq sum host)) ≡ playBytes line answer count irq sum host
+  kept-play count irq sum host =
+      kept-text _
+      (rw (
+        length-append (startBytes line answer count irq ++ fieldOf sum 32) (fieldOf host 10),
+        length-append (startBytes line answer count irq) (fieldOf sum 32),
+      )
+      (omega (arith, start-short count irq, field-short sum 32, field-short host 10)))
+
+  pub kept-register : (value rung irq : ℕ)
+      → kept (textOf (registerBytes line answer value rung irq)) ≡ registerBytes line answer value rung irq
+  kept-register value rung irq =
+      kept-text _
+      (simp length-append
+      (omega (arith, field-short line 32, field-short answer 32, field-short value 32, rung-short rung, field-short irq 10)))
 
 -- ---- a fold over the bytes from a place on
 
@@ -23,51 +83,37 @@ module _ {A : Type 0} (f : A → ℕ → A) (a : A) (s : List ℕ) (i : ℕ) whe
   pub fold-end : length s ≤ i → foldl f a (drop i s) ≡ a
   fold-end h = rw (drop-of-length-le s h)
 
--- ---- numbers in decimal
-
--- a power of ten in a number that is below another
-power-below : (a b n : ℕ) → 10 ^ a ≤ n → n < 10 ^ b → a < b
-power-below a b n h k = by (leb b a) refl where
-  by : (t : Bool) → leb b a ≡ t → a < b
-  by true e = absurd (omega (arith, pow-le-pow-right {n = 10} (omega arith) (leb-true b a e)))
-  by false e = leb-false b a e
-
-fewest-below : (k n r : ℕ) → Fewest 10 1 n r → n < 10 ^ k → 1 ≤ k → r ≤ k
-fewest-below k n r w h l = by (ltb 1 r) refl where
-  by : (t : Bool) → ltb 1 r ≡ t → r ≤ k
-  by true e = omega (arith, power-below (r - 1) k n (w .2 (ltb-true 1 r e)) h)
-  by false e = omega (arith, ltb-false 1 r e)
-
--- the fewest digits that hold a number are as many as it has
-pub places-of-fewest : (k n r : ℕ) → n < 10 ^ suc k → Fewest 10 1 n r → places k n ≡ r
-unfolding places
-places-of-fewest zero n r h w = omega (arith, fewest-below 1 n r w h (omega arith), w .0)
-places-of-fewest (suc k) n r h w = by (ltb n (10 ^ suc k)) refl (λ l. places-of-fewest k n r l w) where
-  by : (t : Bool) → ltb n (10 ^ suc k) ≡ t → (n < 10 ^ suc k → places k n ≡ r) → cond t (places k n) (suc (suc k)) ≡ r
-  by true e fewer = fewer (ltb-true n (10 ^ suc k) e)
-  by false e fewer =
-      omega (arith, power-below (suc k) r n (ltb-false n (10 ^ suc k) e) (w .1), fewest-below (suc (suc k)) n r w h (omega arith))
-
 -- ---- HEX
 
 -- past the end every place is the same
-hexed-past : (k : ℕ) (m : List ℕ) (a b : ℕ) (out : List ℕ) (to : ℕ) → length m ≤ a → length m ≤ b → hexed k m a out to ≡ hexed k m b out to
-unfolding hexed
-hexed-past zero m a b out to h g = refl
-hexed-past (suc k) m a b out to h g =
-    rw (List·getD-eq-default m 0 h, List·getD-eq-default m 0 g) (hexed-past k m (a + 1) (b + 1) _ (to + 2) (omega arith) (omega arith))
+hex-past : (k : ℕ) (m : List ℕ) (a b : ℕ) → length m ≤ a → length m ≤ b → hexBytes k m a ≡ hexBytes k m b
+unfolding hexBytes
+hex-past zero m a b h g = refl
+hex-past (suc k) m a b h g =
+    rw (List·getD-eq-default m 0 h, List·getD-eq-default m 0 g, hex-past k m (a + 1) (b + 1) (omega arith) (omega arith))
 
-pub hexed-behind : (k : ℕ) (m : List ℕ) (at : ℕ) (out : List ℕ) (to : ℕ) → hexed k m (behindOf (length m) at) out to ≡ hexed k m (at + 1) out to
-hexed-behind k m at out to = by (leb (length m) at) refl where
-  by : (t : Bool) → leb (length m) at ≡ t → hexed k m (cond t (length m) (at + 1)) out to ≡ hexed k m (at + 1) out to
-  by true e = hexed-past k m (length m) (at + 1) out to (omega arith) (omega (arith, leb-true (length m) at e))
+pub hex-behind : (k : ℕ) (m : List ℕ) (at : ℕ) → hexBytes k m (behindOf (length m) at) ≡ hexBytes k m (at + 1)
+hex-behind k m at = by (leb (length m) at) refl where
+  by : (t : Bool) → leb (length m) at ≡ t → hexBytes k m (cond t (length m) (at + 1)) ≡ hexBytes k m (at + 1)
+  by true e = hex-past k m (length m) (at + 1) (omega arith) (omega (arith, leb-true (length m) at e))
   by false e = refl
 
-pub hexed-none : (n : ℕ) (m : List ℕ) (at : ℕ) (out : List ℕ) (to : ℕ) → n ≡ 0 → hexed n m at out to ≡ out
-unfolding hexed
-hexed-none n m at out to h = rw h
+pub hex-none : (n : ℕ) (m : List ℕ) (at : ℕ) → n ≡ 0 → hexBytes n m at ≡ []
+unfolding hexBytes
+hex-none n m at h = rw h
 
-pub hexed-more : (n k : ℕ) (m : List ℕ) (at : ℕ) (out : List ℕ) (to : ℕ) → n ≡ k + 1
-    → hexed n m at out to ≡ hexed k m (at + 1) (set (set out to (glyphOf (getD m at 0 / 16))) (to + 1) (glyphOf (getD m at 0 % 16))) (to + 2)
-unfolding hexed
-hexed-more n k m at out to h = rw (h, add-one k)
+hex-more : (n k : ℕ) (m : List ℕ) (at : ℕ) → n ≡ k + 1
+    → hexBytes n m at ≡ (glyphOf (getD m at 0 / 16) ∷ glyphOf (getD m at 0 % 16) ∷ []) ++ hexBytes k m (at + 1)
+unfolding hexBytes
+hex-more n k m at h = rw (h, add-one k)
+
+-- the two digits of a byte written, of a text that is written part by part
+pub hex-two : {w l : List ℕ} {q hi lo b : ℕ} (out m : List ℕ) (d n k from : ℕ) → n ≡ k + 1
+    → b ≡ getD m from 0 → hi ≡ glyphOf (b / 16) → lo ≡ glyphOf (b % 16)
+    → Rest w l q out d (hexBytes n m from) → Rest w l q (set (set out d hi) (d + 1) lo) (d + 1 + 1) (hexBytes k m (from + 1))
+hex-two {w} {l} {q} {hi} {lo} {b} out m d n k from e f g h r =
+    let hi′ = glyphOf (getD m from 0 / 16) in
+    let lo′ = glyphOf (getD m from 0 % 16) in
+    rw (h, g, f)
+    (rest-more (hexBytes k m (from + 1)) (put-then (put-byte out d hi′) (put-byte (set out d hi′) (d + 1) lo′))
+    (rw (hex-more n k m from e) at r))

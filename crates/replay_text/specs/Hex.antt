@@ -1,9 +1,9 @@
 -- Bytes as HEX, two digits for each, 0-9 a-f.
-use mathlib.Core.List.{List}
+use mathlib.Core.List.{List, [], _∷_}
 use mathlib.Core.Bool.{cond}
 use Prim.Native.Nat.{ℕ, zero, suc, _+_, _/_, _%_}
-use lib.Dec.{leb, ltb}
-use lib.ListN.{getD, set}
+use lib.Dec.{eqb, leb, ltb}
+use lib.ListN.{getD}
 
 -- 48 is `0`, 97 `a`
 unfoldable pub glyphOf : ℕ → ℕ
@@ -13,7 +13,11 @@ glyphOf d = cond (ltb d 10) (48 + d) (87 + d)
 abbrev pub behindOf : ℕ → ℕ → ℕ
 behindOf len at = cond (leb len at) len (at + 1)
 
--- a text with n bytes of m at `at` as HEX from its place `to` on; past its end m has 0
-unfoldable pub hexed : ℕ → List ℕ → ℕ → List ℕ → ℕ → List ℕ
-hexed zero m at out to = out
-hexed (suc k) m at out to = hexed k m (at + 1) (set (set out to (glyphOf (getD m at 0 / 16))) (to + 1) (glyphOf (getD m at 0 % 16))) (to + 2)
+-- n bytes of m at `at`; past its end m has 0
+unfoldable pub hexBytes : ℕ → List ℕ → ℕ → List ℕ
+hexBytes zero m at = []
+hexBytes (suc k) m at = glyphOf (getD m at 0 / 16) ∷ glyphOf (getD m at 0 % 16) ∷ hexBytes k m (at + 1)
+
+-- "`-` for no bytes"
+unfoldable pub hexWord : ℕ → List ℕ → ℕ → List ℕ
+hexWord n m at = cond (eqb n 0) (45 ∷ []) (hexBytes n m at)

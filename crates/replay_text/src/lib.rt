@@ -1,16 +1,17 @@
 // What the replay program prints: the text of a line, bytes as HEX, and the Adler-32 checksum.
 ghost use mathlib.Core.Path.{_≡_};
-ghost use mathlib.Core.List.{foldl};
+ghost use mathlib.Core.List.{[], _∷_};
 ghost use Prim.Native.Nat.{_<_, _≤_, _+_, _*_};
-ghost use lib.ListN.{length, getD};
-ghost use Rattle.replay_text.specs.Text.{noText, withByte, withNumber, answerText, callStart, callText, playText, withRung, registerText};
+ghost use lib.ListN.{length, getD, take};
+ghost use Rattle.decimal.specs.Write.{fieldOf, Put};
+ghost use Rattle.replay_text.specs.Text.{noText, withBytes, kept, startText, rungBytes, answerText, callText, playText, registerText};
 ghost use Rattle.replay_text.specs.Adler.{step, adler};
-ghost use Rattle.replay_text.specs.Hex.{glyphOf, behindOf, hexed};
-use libc::STDOUT_FILENO;
+ghost use Rattle.replay_text.specs.Hex.{glyphOf, behindOf, hexBytes, hexWord};
 
-// A line that is being written: its first `count` bytes. The longest that is printed has 75.
+// A line that is being written: its first `count` bytes. The longest that is made here has six numbers
+// of at most 20 digits, and a byte behind each.
 pub struct Text {
-    pub bytes: [u8; 96],
+    pub bytes: [u8; 128],
     pub count: usize,
 }
 
@@ -20,68 +21,42 @@ struct Sums {
     b: u32,
 }
 
-impl Text {
-    // No byte yet.
-    pub fn empty() -> Text
-        ensures { λ r. ⌜ r ≡ noText ⌝ }
-    {
-        Text {
-            bytes: [0; 96],
-            count: 0,
-        }
-    }
-
-    // The text with one byte more.
-    pub fn with(self, b: u8) -> Text
-        ensures { λ r. ⌜ r ≡ withByte self b ⌝ }
-    {
-        let count = self.count;
-        if 96 <= count {
-            return self;
-        }
-        let mut next = self;
-        next.bytes[count] = b;
-        next.count = count + 1;
-        next
-    }
-}
-
-// A text with these bytes behind it.
-fn with_bytes(text: Text, bytes: &[u8]) -> Text
-    ensures { λ r. ⌜ r ≡ foldl withByte text (now (bytes .entry)) ⌝ }
+// No byte yet.
+fn empty() -> Text
+    ensures { λ r. ⌜ (r ≡ noText) × (r .count ≡ 0) ⌝ }
 {
-    let mut longer = text;
-    let mut i = 0;
-    while i < bytes.len() {
-        longer = longer.with(bytes[i]);
-        i += 1;
+    Text {
+        bytes: [0; 128],
+        count: 0,
     }
-    longer
 }
 
 // A text with a number in decimal and the byte `end` behind it.
-pub fn with_number(text: Text, n: u64, end: u8) -> Text
-    ensures { λ r. ⌜ r ≡ withNumber text n end ⌝ }
+fn with_number(text: Text, n: u64, end: u8) -> Text
+    requires { ⌜ text .count + 21 ≤ 128 ⌝ }
+    ensures { λ r. ⌜ (r ≡ withBytes text (fieldOf n end)) × (r .count ≤ text .count + 21) ⌝ }
 {
-    let mut digits = [0u8; 20];
-    let count = io::decimal(n, &mut digits);
-    let longer = with_bytes(text, &digits[..count]);
-    longer.with(end)
+    let mut bytes = text.bytes;
+    let count = decimal::put(&mut bytes, text.count, n, end);
+    Text {
+        bytes: bytes,
+        count: count,
+    }
 }
 
 // `LINE ANSWER`
 pub fn answer_text(line: u64, answer: u8) -> Text
     ensures { λ r. ⌜ r ≡ answerText line answer ⌝ }
 {
-    let numbered = with_number(Text::empty(), line, b' ');
+    let numbered = with_number(empty(), line, b' ');
     with_number(numbered, answer as u64, b'\n')
 }
 
 // `LINE ANSWER COUNT IRQ` and a space
 fn call_start(line: u64, answer: u8, count: usize, irq: u8) -> Text
-    ensures { λ r. ⌜ r ≡ callStart line answer count irq ⌝ }
+    ensures { λ r. ⌜ (r ≡ startText line answer count irq) × (r .count ≤ 84) ⌝ }
 {
-    let numbered = with_number(Text::empty(), line, b' ');
+    let numbered = with_number(empty(), line, b' ');
     let answered = with_number(numbered, answer as u64, b' ');
     let counted = with_number(answered, count as u64, b' ');
     with_number(counted, irq as u64, b' ')
@@ -104,11 +79,16 @@ pub fn play_text(line: u64, answer: u8, count: usize, irq: u8, sum: u32, host: u
 
 // `RUNG` and a space: the queue, or `-` for none
 fn with_rung(text: Text, rung: u8) -> Text
-    ensures { λ r. ⌜ r ≡ withRung text rung ⌝ }
+    requires { ⌜ text .count + 21 ≤ 128 ⌝ }
+    ensures { λ r. ⌜ (r ≡ withBytes text (rungBytes rung)) × (r .count ≤ text .count + 21) ⌝ }
 {
     if rung == 255 {
-        let dashed = text.with(b'-');
-        return dashed.with(b' ');
+        let mut bytes = text.bytes;
+        let count = decimal::put_bytes(&mut bytes, text.count, b"- ");
+        return Text {
+            bytes: bytes,
+            count: count,
+        };
     }
     with_number(text, rung as u64, b' ')
 }
@@ -117,25 +97,31 @@ fn with_rung(text: Text, rung: u8) -> Text
 pub fn register_text(line: u64, answer: u8, value: u32, rung: u8, irq: u8) -> Text
     ensures { λ r. ⌜ r ≡ registerText line answer value rung irq ⌝ }
 {
-    let numbered = with_number(Text::empty(), line, b' ');
+    let numbered = with_number(empty(), line, b' ');
     let answered = with_number(numbered, answer as u64, b' ');
     let valued = with_number(answered, value as u64, b' ');
     with_number(with_rung(valued, rung), irq as u64, b'\n')
 }
 
-// The first `count` bytes of `s`, or all of `s` where it has no more, written out.
-pub fn write_first(s: &[u8], count: usize) {
+// The first `count` bytes of `s`, or all of `s` where it has no more, written to the start of `out`. The
+// place behind them.
+fn put_first(out: &mut [u8], s: &[u8], count: usize) -> usize
+    requires { ⌜ length (now s) ≤ length (now out) ⌝ }
+    ensures { λ r. ⌜ Put (take count (now (s .entry))) (now (out .entry)) 0 (now (out .exit)) r × (r ≤ length (now (s .entry))) ⌝ }
+{
     if s.len() <= count {
-        io::write_all(STDOUT_FILENO, s);
-        return;
+        return decimal::put_bytes(out, 0, s);
     }
-    io::write_all(STDOUT_FILENO, &s[..count]);
+    decimal::put_bytes(out, 0, &s[..count])
 }
 
-// The text, written out.
-pub fn print(text: Text) {
+// A text's bytes, written to the start of `out`. The place behind them.
+pub fn lay(text: Text, out: &mut [u8]) -> usize
+    requires { ⌜ 128 ≤ length (now out) ⌝ }
+    ensures { λ r. ⌜ Put (kept text) (now (out .entry)) 0 (now (out .exit)) r × (r ≤ 128) ⌝ }
+{
     let bytes = text.bytes;
-    write_first(&bytes, text.count);
+    put_first(out, &bytes, text.count)
 }
 
 // The sums with one byte more.
@@ -194,20 +180,34 @@ fn behind(len: usize, at: usize) -> usize
     at + 1
 }
 
-// `n` bytes of `m` at `at` as HEX, written to the start of `out`; 0 past the end of `m`.
-pub fn put_hex(m: &[u8], at: usize, n: usize, out: &mut [u8])
-    requires { ⌜ 2 * n ≤ length (now out) ⌝ }
-    ensures { λ r. ⌜ now (out .exit) ≡ hexed n (now (m .entry)) at (now (out .entry)) 0 ⌝ }
+// `n` bytes of `m` at `at` as HEX, written to `out` from `to` on; 0 past the end of `m`. The place behind
+// them.
+fn put_hex(m: &[u8], at: usize, n: usize, out: &mut [u8], to: usize) -> usize
+    requires { ⌜ to + 2 * n ≤ length (now out) ⌝ }
+    ensures { λ r. ⌜ Put (hexBytes n (now (m .entry)) at) (now (out .entry)) to (now (out .exit)) r × (r ≡ to + 2 * n) ⌝ }
 {
     let mut from = at;
-    let mut d = 0;
+    let mut d = to;
     let mut left = n;
     while 0 < left {
         let b = byte_at(m, from);
         out[d] = glyph(b / 16);
-        out[d + 1] = glyph(b % 16);
+        d += 1;
+        out[d] = glyph(b % 16);
+        d += 1;
         from = behind(m.len(), from);
-        d += 2;
         left -= 1;
     }
+    d
+}
+
+// The same as one word: `-` stands for no bytes.
+pub fn put_word(m: &[u8], at: usize, n: usize, out: &mut [u8], to: usize) -> usize
+    requires { ⌜ to + 2 * n + 1 ≤ length (now out) ⌝ }
+    ensures { λ r. ⌜ Put (hexWord n (now (m .entry)) at) (now (out .entry)) to (now (out .exit)) r × (r ≤ to + 2 * n + 1) ⌝ }
+{
+    if n == 0 {
+        return decimal::put_bytes(out, to, b"-");
+    }
+    put_hex(m, at, n, out, to)
 }

@@ -22,7 +22,11 @@ write-form-requires c κs = search needs
 
 returns-3 : tie.Need-returns-3
 returns-3 c =
-    rw (line-letter _ (c .before .before .before .before .if1 .left), ne-eqb _ 114 (c .before .before .if2 .left), eq-eqb _ 119 (c .before .if3 .taken)) (c .write-form .ensures)
+    rw (
+      line-letter _ (c .before .before .before .before .if1 .left),
+      ne-eqb _ 114 (c .before .before .if2 .left),
+      eq-eqb _ 119 (c .before .if3 .taken),
+    ) (c .write-form .ensures)
 
 returns-4 : tie.Need-returns-4
 returns-4 c = rw (line-letter _ (c .before .before .before .if1 .left), ne-eqb _ 114 (c .before .if2 .left), ne-eqb _ 119 (c .if3 .left))

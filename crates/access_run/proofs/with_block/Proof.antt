@@ -47,8 +47,8 @@ shared-slice-read-feed c = omega arith
 
 feed-requires : tie.Need-feed-requires Inv-loop μ-loop
 feed-requires c κs =
-    let l = c .before .before .before .before .loop .inv in
-    (l .fit, omega (arith, l .room, l .long, c .before .before .before .before .before .before .before .pre .1))
+    let h = c .before .before .before .before in
+    (h .loop .inv .fit, omega (arith, h .loop .inv .room, h .loop .inv .long, h .before .before .before .pre .1))
 
 add-i : tie.Need-add-i Inv-loop μ-loop
 add-i c = omega arith

@@ -91,7 +91,8 @@ sub-if4 c = omega arith
 returns-4 : tie.Need-returns-4 Inv-loop μ-loop
 returns-4 c =
     let l = head (c .before .before) .loop in
-    sym (reading-long _ _ _ _ (l .i) (l .v) (l .inv) (c .before .before .before .before .loop-test .taken) (digit (c .before)) (omega arith))
+    sym
+    (reading-long _ _ _ _ (l .i) (l .v) (l .inv) (c .before .before .before .before .loop-test .taken) (digit (c .before)) (omega arith))
 
 sub-wide : tie.Need-sub-wide Inv-loop μ-loop
 sub-wide c = omega (arith, digit-bounds _ (digit (c .before)))
@@ -107,7 +108,8 @@ returns-5 c =
     let l = tested (c .before) .loop in
     let over : args (tested (c .before)) .args .max < 10 * l .v + c .before .before .wide .result =
     leb-false _ _ (sym (c .before .has-room .ensures) ∙ not-true _ (c .if5 .taken)) in
-    sym (reading-great _ _ _ _ (l .i) (l .v) (l .inv) (omega arith) (digit (c .before .before .before .before)) (omega (arith, over, next (c .before))))
+    sym (reading-great _ _ _ _ (l .i) (l .v) (l .inv) (omega arith) (digit (c .before .before .before .before))
+    (omega (arith, over, next (c .before))))
 
 mul-v : tie.Need-mul-v Inv-loop μ-loop
 mul-v c = omega (arith, fits c)

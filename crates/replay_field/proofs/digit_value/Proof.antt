@@ -16,18 +16,24 @@ returns-2 c = let b = c .before .before .args .b in rw (le-leb 48 b (omega arith
 
 returns-3 : tie.Need-returns-3
 unfolding nibble
-returns-3 c = let b = c .before .before .before .args .b in rw (le-leb 48 b (omega arith), lt-leb b 57 (omega arith), lt-leb 97 b (omega arith)) (omega arith)
+returns-3 c =
+    let b = c .before .before .before .args .b in
+    rw (le-leb 48 b (omega arith), lt-leb b 57 (omega arith), lt-leb 97 b (omega arith)) (omega arith)
 
 add-result : tie.Need-add-result
 add-result c = search needs
 
 returns-4 : tie.Need-returns-4
 unfolding nibble
-returns-4 c = let b = c .before .before .before .before .args .b in rw (le-leb 48 b (omega arith), lt-leb b 57 (omega arith), le-leb 97 b (omega arith), le-leb b 102 (omega arith)) (omega arith)
+returns-4 c =
+    let b = c .before .before .before .before .args .b in
+    rw (le-leb 48 b (omega arith), lt-leb b 57 (omega arith), le-leb 97 b (omega arith), le-leb b 102 (omega arith)) (omega arith)
 
 returns-5 : tie.Need-returns-5
 unfolding nibble
-returns-5 c = let b = c .before .before .before .before .args .b in rw (le-leb 48 b (omega arith), lt-leb b 57 (omega arith), le-leb 97 b (omega arith), lt-leb b 102 (omega arith)) (omega arith)
+returns-5 c =
+    let b = c .before .before .before .before .args .b in
+    rw (le-leb 48 b (omega arith), lt-leb b 57 (omega arith), le-leb 97 b (omega arith), lt-leb b 102 (omega arith)) (omega arith)
 
 pub digit-value-spec : {M : Type 1} → statement M
 digit-value-spec = tie.close (tie.spec returns returns-2 returns-3 add-result returns-4 returns-5)

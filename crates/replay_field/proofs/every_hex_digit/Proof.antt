@@ -27,7 +27,10 @@ is-hex-digit-requires c κs = omega arith
 returns : tie.Need-returns Inv-loop μ-loop
 returns c =
     let l = c .before .before .before .before .loop in
-    rw (← (l .inv .1), hex-stop _ (l .i) (c .before .before .before .loop-test .taken) (sym (c .before .is-hex-digit .ensures) ∙ not-true _ (c .if1 .taken)))
+    rw (
+      ← (l .inv .1),
+      hex-stop _ (l .i) (c .before .before .before .loop-test .taken) (sym (c .before .is-hex-digit .ensures) ∙ not-true _ (c .if1 .taken)),
+    )
 
 add-i : tie.Need-add-i Inv-loop μ-loop
 add-i c = omega arith
@@ -38,7 +41,8 @@ loop-less c = omega arith
 loop-again : tie.Need-loop-again Inv-loop μ-loop
 loop-again c =
     let l = c .before .before .before .before .loop in
-    (omega arith, rw (← (l .inv .1), hex-more _ (l .i) (c .before .before .before .loop-test .taken) (sym (c .before .is-hex-digit .ensures) ∙ not-false _ (c .if1 .left))))
+    let digit = sym (c .before .is-hex-digit .ensures) ∙ not-false _ (c .if1 .left) in
+    (omega arith, rw (← (l .inv .1), hex-more _ (l .i) (c .before .before .before .loop-test .taken) digit))
 
 returns-2 : tie.Need-returns-2 Inv-loop μ-loop
 returns-2 c = rw (← (c .before .loop .inv .1), hex-past _ (c .before .loop .i) (c .loop-test .left))

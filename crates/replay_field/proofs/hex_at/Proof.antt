@@ -9,6 +9,10 @@ use borrow.Author.Tests.{eq-eqb, le-ltb, lt-ltb, ne-eqb, not-false, not-true}
 use Rattle.replay_field.proofs.hex_at.Statement.{statement}
 use Rattle.replay_field.proofs.hex_at.Tie as tie
 
+-- what was given, from behind the test of the word
+abbrev given : tie.After-is-hex → tie.Start
+given c = c .before .before .before .before .before .before
+
 returns : tie.Need-returns
 unfolding hexAt
 returns c = rw (le-ltb _ _ (c .if1 .taken))
@@ -38,8 +42,13 @@ is-hex-requires c κs = tt
 returns-3 : tie.Need-returns-3
 unfolding hexAt
 returns-3 c =
-    let a = c .before .before .before .before .before .before .before .args in
-    rw (lt-ltb _ _ (c .before .before .before .before .before .if1 .left), eq-eqb _ 32 (c .before .before .before .if2 .left), ← (rest-whole (a .s .now) (a .at + 1) (omega arith)), sym (c .before .is-hex .ensures) ∙ not-true _ (c .if3 .taken))
+    let a = given (c .before) .args in
+    rw (
+      lt-ltb _ _ (c .before .before .before .before .before .if1 .left),
+      eq-eqb _ 32 (c .before .before .before .if2 .left),
+      ← (rest-whole (a .s .now) (a .at + 1) (omega arith)),
+      sym (c .before .is-hex .ensures) ∙ not-true _ (c .if3 .taken),
+    )
 
 sub-t12 : tie.Need-sub-t12
 sub-t12 c = search needs
@@ -47,8 +56,13 @@ sub-t12 c = search needs
 returns-4 : tie.Need-returns-4
 unfolding hexAt
 returns-4 c =
-    let a = c .before .before .before .before .before .before .before .args in
-    rw (lt-ltb _ _ (c .before .before .before .before .before .if1 .left), eq-eqb _ 32 (c .before .before .before .if2 .left), ← (rest-whole (a .s .now) (a .at + 1) (omega arith)), sym (c .before .is-hex .ensures) ∙ not-false _ (c .if3 .left))
+    let a = given (c .before) .args in
+    rw (
+      lt-ltb _ _ (c .before .before .before .before .before .if1 .left),
+      eq-eqb _ 32 (c .before .before .before .if2 .left),
+      ← (rest-whole (a .s .now) (a .at + 1) (omega arith)),
+      sym (c .before .is-hex .ensures) ∙ not-false _ (c .if3 .left),
+    )
 
 pub hex-at-spec : {M : Type 1} → statement M
 hex-at-spec =

@@ -14,7 +14,8 @@ shared-slice-read-if3 c = search needs
 
 returns-2 : tie.Need-returns-2
 unfolding isHex
-returns-2 c = rw (ne-eqb _ 0 (c .before .before .before .if1 .left), eq-eqb _ 1 (c .before .before .if2 .taken), eq-eqb _ 45 (c .if3 .taken))
+returns-2 c =
+    rw (ne-eqb _ 0 (c .before .before .before .if1 .left), eq-eqb _ 1 (c .before .before .if2 .taken), eq-eqb _ 45 (c .if3 .taken))
 
 returns-3 : tie.Need-returns-3
 unfolding isHex
@@ -29,7 +30,9 @@ every-hex-digit-requires c κs = tt
 
 returns-5 : tie.Need-returns-5
 unfolding isHex
-returns-5 c = rw (ne-eqb _ 0 (c .before .before .before .if1 .left), ne-eqb _ 1 (c .before .before .if2 .left), eq-eqb _ 0 (c .before .if4 .left)) (c .every-hex-digit .ensures)
+returns-5 c =
+    rw (ne-eqb _ 0 (c .before .before .before .if1 .left), ne-eqb _ 1 (c .before .before .if2 .left), eq-eqb _ 0 (c .before .if4 .left))
+    (c .every-hex-digit .ensures)
 
 pub is-hex-spec : {M : Type 1} → statement M
 is-hex-spec =

@@ -18,11 +18,21 @@ returns-2 c = rw (sym (c .before .before .is-digit .ensures) ∙ c .before .if1 
 
 returns-3 : tie.Need-returns-3
 unfolding isHexDigit
-returns-3 c = rw (sym (c .before .before .before .is-digit .ensures) ∙ c .before .before .if1 .left, le-leb 97 _ (c .before .if2 .left), le-leb _ 102 (c .if3 .taken))
+returns-3 c =
+    rw (
+      sym (c .before .before .before .is-digit .ensures) ∙ c .before .before .if1 .left,
+      le-leb 97 _ (c .before .if2 .left),
+      le-leb _ 102 (c .if3 .taken),
+    )
 
 returns-4 : tie.Need-returns-4
 unfolding isHexDigit
-returns-4 c = rw (sym (c .before .before .before .is-digit .ensures) ∙ c .before .before .if1 .left, le-leb 97 _ (c .before .if2 .left), lt-leb _ 102 (c .if3 .left))
+returns-4 c =
+    rw (
+      sym (c .before .before .before .is-digit .ensures) ∙ c .before .before .if1 .left,
+      le-leb 97 _ (c .before .if2 .left),
+      lt-leb _ 102 (c .if3 .left),
+    )
 
 pub is-hex-digit-spec : {M : Type 1} → statement M
 is-hex-digit-spec = tie.close (tie.spec is-digit-requires returns returns-2 returns-3 returns-4)

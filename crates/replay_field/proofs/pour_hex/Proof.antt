@@ -14,12 +14,19 @@ Inv-loop s at m₀ to i₀ d₀ m i d = (length m ≡ length m₀) × (poured (b
 abbrev μ-loop : tie.MeasureT-loop
 μ-loop s at m₀ to i₀ d₀ m i d = length s - i
 
+-- what was given, from the loop's head; and the head, from behind the first digit
+abbrev given : tie.At-loop Inv-loop μ-loop → tie.Start Inv-loop μ-loop
+given c = c .before .before .before
+
+abbrev head : tie.After-digit-value Inv-loop μ-loop → tie.At-loop Inv-loop μ-loop
+head c = c .before .before .before .before .before
+
 -- at the end of the word nothing is left to write
-done : (c : tie.At-loop Inv-loop μ-loop) → length (c .before .before .before .args .s .now) ≤ c .loop .i + 1
-    → c .loop .m ≡ poured (bytesOfHex (drop (c .before .before .before .args .at) (c .before .before .before .args .s .now))) (c .before .before .before .args .m .now) (c .before .before .before .args .to)
+done : (c : tie.At-loop Inv-loop μ-loop) → let a = given c .args in
+    length (a .s .now) ≤ c .loop .i + 1 → c .loop .m ≡ poured (bytesOfHex (drop (a .at) (a .s .now))) (a .m .now) (a .to)
 done c h =
     let l = c .loop in
-    let none : poured (bytesOfHex (drop (l .i) (c .before .before .before .args .s .now))) (l .m) (l .d) ≡ l .m = rw (bytes-end _ (l .i) h, poured-none) in
+    let none : poured (bytesOfHex (drop (l .i) (given c .args .s .now))) (l .m) (l .d) ≡ l .m = rw (bytes-end _ (l .i) h, poured-none) in
     sym none ∙ l .inv .1
 
 loop-holds : tie.Need-loop-holds Inv-loop μ-loop
@@ -75,9 +82,11 @@ loop-less c = omega arith
 
 loop-again : tie.Need-loop-again Inv-loop μ-loop
 loop-again c =
-    let l = c .before .before .before .before .before .before .before .loop in (
+    let h = head (c .before .before) in
+    let l = h .loop in (
       simp length-set (omega arith),
-      rw (c .digit-value2 .ensures .0, c .before .before .digit-value .ensures .0) (sym (poured-more (c .before .before .before .before .before .before .before .before .before .before .args .s .now) (l .m) (l .i) (l .d) (omega arith)) ∙ l .inv .1),
+      rw (c .digit-value2 .ensures .0, c .before .before .digit-value .ensures .0)
+          (sym (poured-more (given h .args .s .now) (l .m) (l .i) (l .d) (omega arith)) ∙ l .inv .1),
     )
 
 same-length-3 : tie.Need-same-length-3 Inv-loop μ-loop

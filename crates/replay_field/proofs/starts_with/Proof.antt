@@ -18,7 +18,11 @@ loop-holds : tie.Need-loop-holds Inv-loop μ-loop
 loop-holds c = (omega arith, refl)
 
 returns : tie.Need-returns Inv-loop μ-loop
-returns c = rw (← (c .before .before .loop .inv .1), begins-short _ _ (c .before .before .loop .i) (c .before .loop-test .taken) (c .if1 .taken))
+returns c =
+    rw (
+      ← (c .before .before .loop .inv .1),
+      begins-short _ _ (c .before .before .loop .i) (c .before .loop-test .taken) (c .if1 .taken),
+    )
 
 shared-slice-read-if2 : tie.Need-shared-slice-read-if2 Inv-loop μ-loop
 shared-slice-read-if2 c = omega arith
@@ -27,7 +31,10 @@ shared-slice-read-if2-2 : tie.Need-shared-slice-read-if2-2 Inv-loop μ-loop
 shared-slice-read-if2-2 c = omega arith
 
 returns-2 : tie.Need-returns-2 Inv-loop μ-loop
-returns-2 c = rw (← (c .before .before .before .before .before .loop .inv .1), begins-other _ _ (c .before .before .before .before .before .loop .i) (c .before .before .before .before .loop-test .taken) (c .before .before .before .if1 .left) (c .if2 .taken))
+returns-2 c =
+    let turn = c .before .before .before .before in
+    let l = turn .before .loop in
+    rw (← (l .inv .1), begins-other _ _ (l .i) (turn .loop-test .taken) (c .before .before .before .if1 .left) (c .if2 .taken))
 
 add-i : tie.Need-add-i Inv-loop μ-loop
 add-i c = omega arith
@@ -36,7 +43,10 @@ loop-less : tie.Need-loop-less Inv-loop μ-loop
 loop-less c = omega arith
 
 loop-again : tie.Need-loop-again Inv-loop μ-loop
-loop-again c = (omega arith, rw (← (c .before .before .before .before .before .loop .inv .1), begins-more _ _ (c .before .before .before .before .before .loop .i) (c .before .before .before .before .loop-test .taken) (c .before .before .before .if1 .left) (c .if2 .left)))
+loop-again c =
+    let turn = c .before .before .before .before in
+    let l = turn .before .loop in
+    (omega arith, rw (← (l .inv .1), begins-more _ _ (l .i) (turn .loop-test .taken) (c .before .before .before .if1 .left) (c .if2 .left)))
 
 returns-3 : tie.Need-returns-3 Inv-loop μ-loop
 returns-3 c = rw (← (c .before .loop .inv .1), begins-whole _ _ (c .before .loop .i) (c .loop-test .left))

@@ -1,9 +1,55 @@
 -- The command word says which form the line has.
 use borrow.Author.Needs.{needs}
-use mathlib.Core.Path.{_∙_, sym}
-use Rattle.replay_line.specs.Line.{guestLine}
+use mathlib.Core.Path.{_≡_, _∙_, sym}
+use mathlib.Core.List.{List}
+use mathlib.Core.Bool.{cond}
+use Prim.Native.Nat.{ℕ}
+use Rattle.replay_field.specs.Word.{bytes, begins}
+use Rattle.replay_line.specs.Line.{dumpForm, fillForm, guestLine, ramForm, storeForm}
+use Rattle.replay_line.specs.declared.Line.{Line}
+use Rattle.replay_line.specs.declared.Line.the-variants.{Unreadable}
 use Rattle.replay_line.proofs.guest_line.Statement.{statement}
 use Rattle.replay_line.proofs.guest_line.Tie as tie
+
+-- what the definition says behind each word
+abbrev behind4 : List ℕ → Line
+behind4 s = Unreadable
+
+abbrev behind3 : List ℕ → Line
+behind3 s = cond (begins (bytes "d ") s) (dumpForm s) (behind4 s)
+
+abbrev behind2 : List ℕ → Line
+behind2 s = cond (begins (bytes "ram ") s) (ramForm s) (behind3 s)
+
+abbrev behind1 : List ℕ → Line
+behind1 s = cond (begins (bytes "f ") s) (fillForm s) (behind2 s)
+
+-- the line, from behind a word that it does not begin with
+abbrev text1 : tie.Else1 → List ℕ
+text1 c = c .before .before .before .before .args .s .now
+
+abbrev text2 : tie.Else2 → List ℕ
+text2 c = text1 (c .before .before .before)
+
+abbrev text3 : tie.Else3 → List ℕ
+text3 c = text2 (c .before .before .before)
+
+abbrev text4 : tie.Else4 → List ℕ
+text4 c = text3 (c .before .before .before)
+
+-- there the line is what the definition says behind the word
+past1 : (c : tie.Else1) → guestLine (text1 c) ≡ behind1 (text1 c)
+unfolding guestLine
+past1 c = rw (sym (c .before .starts-with .ensures) ∙ c .if1 .left)
+
+past2 : (c : tie.Else2) → guestLine (text2 c) ≡ behind2 (text2 c)
+past2 c = past1 (c .before .before .before) ∙ rw (sym (c .before .starts-with2 .ensures) ∙ c .if2 .left)
+
+past3 : (c : tie.Else3) → guestLine (text3 c) ≡ behind3 (text3 c)
+past3 c = past2 (c .before .before .before) ∙ rw (sym (c .before .starts-with3 .ensures) ∙ c .if3 .left)
+
+past4 : (c : tie.Else4) → guestLine (text4 c) ≡ behind4 (text4 c)
+past4 c = past3 (c .before .before .before) ∙ rw (sym (c .before .starts-with4 .ensures) ∙ c .if4 .left)
 
 slice-aggregate-starts-with : tie.Need-slice-aggregate-starts-with
 slice-aggregate-starts-with c = search needs
@@ -28,8 +74,9 @@ fill-form-requires : tie.Need-fill-form-requires
 fill-form-requires c κs = tt
 
 returns-2 : tie.Need-returns-2
-unfolding guestLine
-returns-2 c = rw (sym (c .before .before .before .before .before .starts-with .ensures) ∙ c .before .before .before .before .if1 .left, sym (c .before .before .starts-with2 .ensures) ∙ c .before .if2 .taken) (c .fill-form .ensures)
+returns-2 c =
+    rw (past1 (c .before .before .before .before), sym (c .before .before .starts-with2 .ensures) ∙ c .before .if2 .taken)
+    (c .fill-form .ensures)
 
 slice-aggregate-starts-with-3 : tie.Need-slice-aggregate-starts-with-3
 slice-aggregate-starts-with-3 c = search needs
@@ -41,8 +88,9 @@ ram-form-requires : tie.Need-ram-form-requires
 ram-form-requires c κs = tt
 
 returns-3 : tie.Need-returns-3
-unfolding guestLine
-returns-3 c = rw (sym (c .before .before .before .before .before .before .before .before .starts-with .ensures) ∙ c .before .before .before .before .before .before .before .if1 .left, sym (c .before .before .before .before .before .starts-with2 .ensures) ∙ c .before .before .before .before .if2 .left, sym (c .before .before .starts-with3 .ensures) ∙ c .before .if3 .taken) (c .ram-form .ensures)
+returns-3 c =
+    rw (past2 (c .before .before .before .before), sym (c .before .before .starts-with3 .ensures) ∙ c .before .if3 .taken)
+    (c .ram-form .ensures)
 
 slice-aggregate-starts-with-4 : tie.Need-slice-aggregate-starts-with-4
 slice-aggregate-starts-with-4 c = search needs
@@ -54,12 +102,12 @@ dump-form-requires : tie.Need-dump-form-requires
 dump-form-requires c κs = tt
 
 returns-4 : tie.Need-returns-4
-unfolding guestLine
-returns-4 c = rw (sym (c .before .before .before .before .before .before .before .before .before .before .before .starts-with .ensures) ∙ c .before .before .before .before .before .before .before .before .before .before .if1 .left, sym (c .before .before .before .before .before .before .before .before .starts-with2 .ensures) ∙ c .before .before .before .before .before .before .before .if2 .left, sym (c .before .before .before .before .before .starts-with3 .ensures) ∙ c .before .before .before .before .if3 .left, sym (c .before .before .starts-with4 .ensures) ∙ c .before .if4 .taken) (c .dump-form .ensures)
+returns-4 c =
+    rw (past3 (c .before .before .before .before), sym (c .before .before .starts-with4 .ensures) ∙ c .before .if4 .taken)
+    (c .dump-form .ensures)
 
 returns-5 : tie.Need-returns-5
-unfolding guestLine
-returns-5 c = rw (sym (c .before .before .before .before .before .before .before .before .before .before .starts-with .ensures) ∙ c .before .before .before .before .before .before .before .before .before .if1 .left, sym (c .before .before .before .before .before .before .before .starts-with2 .ensures) ∙ c .before .before .before .before .before .before .if2 .left, sym (c .before .before .before .before .starts-with3 .ensures) ∙ c .before .before .before .if3 .left, sym (c .before .starts-with4 .ensures) ∙ c .if4 .left)
+returns-5 c = rw (past4 c)
 
 pub guest-line-spec : {M : Type 1} → statement M
 guest-line-spec =

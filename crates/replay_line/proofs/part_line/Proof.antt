@@ -1,9 +1,63 @@
 -- The command word says which form the line has.
 use borrow.Author.Needs.{needs}
-use mathlib.Core.Path.{_∙_, sym}
-use Rattle.replay_line.specs.Line.{partLine}
+use mathlib.Core.Path.{_≡_, _∙_, sym}
+use mathlib.Core.List.{List}
+use mathlib.Core.Bool.{true, false, cond}
+use Prim.Native.Nat.{ℕ}
+use Rattle.replay_field.specs.Word.{bytes, begins}
+use Rattle.replay_line.specs.Line.{callLine, jackForm, mapForm, partLine, powerForm, streamForm}
+use Rattle.replay_line.specs.declared.Line.{Line}
 use Rattle.replay_line.proofs.part_line.Statement.{statement}
 use Rattle.replay_line.proofs.part_line.Tie as tie
+
+-- what the definition says behind each word
+abbrev behind5 : List ℕ → Line
+behind5 s = callLine s
+
+abbrev behind4 : List ℕ → Line
+behind4 s = cond (begins (bytes "power ") s) (powerForm s) (behind5 s)
+
+abbrev behind3 : List ℕ → Line
+behind3 s = cond (begins (bytes "in ") s) (streamForm s 2 true) (behind4 s)
+
+abbrev behind2 : List ℕ → Line
+behind2 s = cond (begins (bytes "out ") s) (streamForm s 3 false) (behind3 s)
+
+abbrev behind1 : List ℕ → Line
+behind1 s = cond (begins (bytes "map ") s) (mapForm s) (behind2 s)
+
+-- the line, from behind a word that it does not begin with
+abbrev text1 : tie.Else1 → List ℕ
+text1 c = c .before .before .before .before .args .s .now
+
+abbrev text2 : tie.Else2 → List ℕ
+text2 c = text1 (c .before .before .before)
+
+abbrev text3 : tie.Else3 → List ℕ
+text3 c = text2 (c .before .before .before)
+
+abbrev text4 : tie.Else4 → List ℕ
+text4 c = text3 (c .before .before .before)
+
+abbrev text5 : tie.Else5 → List ℕ
+text5 c = text4 (c .before .before .before)
+
+-- there the line is what the definition says behind the word
+past1 : (c : tie.Else1) → partLine (text1 c) ≡ behind1 (text1 c)
+unfolding partLine
+past1 c = rw (sym (c .before .starts-with .ensures) ∙ c .if1 .left)
+
+past2 : (c : tie.Else2) → partLine (text2 c) ≡ behind2 (text2 c)
+past2 c = past1 (c .before .before .before) ∙ rw (sym (c .before .starts-with2 .ensures) ∙ c .if2 .left)
+
+past3 : (c : tie.Else3) → partLine (text3 c) ≡ behind3 (text3 c)
+past3 c = past2 (c .before .before .before) ∙ rw (sym (c .before .starts-with3 .ensures) ∙ c .if3 .left)
+
+past4 : (c : tie.Else4) → partLine (text4 c) ≡ behind4 (text4 c)
+past4 c = past3 (c .before .before .before) ∙ rw (sym (c .before .starts-with4 .ensures) ∙ c .if4 .left)
+
+past5 : (c : tie.Else5) → partLine (text5 c) ≡ behind5 (text5 c)
+past5 c = past4 (c .before .before .before) ∙ rw (sym (c .before .starts-with5 .ensures) ∙ c .if5 .left)
 
 slice-aggregate-starts-with : tie.Need-slice-aggregate-starts-with
 slice-aggregate-starts-with c = search needs
@@ -28,8 +82,9 @@ map-form-requires : tie.Need-map-form-requires
 map-form-requires c κs = tt
 
 returns-2 : tie.Need-returns-2
-unfolding partLine
-returns-2 c = rw (sym (c .before .before .before .before .before .starts-with .ensures) ∙ c .before .before .before .before .if1 .left, sym (c .before .before .starts-with2 .ensures) ∙ c .before .if2 .taken) (c .map-form .ensures)
+returns-2 c =
+    rw (past1 (c .before .before .before .before), sym (c .before .before .starts-with2 .ensures) ∙ c .before .if2 .taken)
+    (c .map-form .ensures)
 
 slice-aggregate-starts-with-3 : tie.Need-slice-aggregate-starts-with-3
 slice-aggregate-starts-with-3 c = search needs
@@ -41,8 +96,9 @@ stream-form-requires : tie.Need-stream-form-requires
 stream-form-requires c κs = tt
 
 returns-3 : tie.Need-returns-3
-unfolding partLine
-returns-3 c = rw (sym (c .before .before .before .before .before .before .before .before .starts-with .ensures) ∙ c .before .before .before .before .before .before .before .if1 .left, sym (c .before .before .before .before .before .starts-with2 .ensures) ∙ c .before .before .before .before .if2 .left, sym (c .before .before .starts-with3 .ensures) ∙ c .before .if3 .taken) (c .stream-form .ensures)
+returns-3 c =
+    rw (past2 (c .before .before .before .before), sym (c .before .before .starts-with3 .ensures) ∙ c .before .if3 .taken)
+    (c .stream-form .ensures)
 
 slice-aggregate-starts-with-4 : tie.Need-slice-aggregate-starts-with-4
 slice-aggregate-starts-with-4 c = search needs
@@ -54,8 +110,9 @@ stream-form-requires-2 : tie.Need-stream-form-requires-2
 stream-form-requires-2 c κs = tt
 
 returns-4 : tie.Need-returns-4
-unfolding partLine
-returns-4 c = rw (sym (c .before .before .before .before .before .before .before .before .before .before .before .starts-with .ensures) ∙ c .before .before .before .before .before .before .before .before .before .before .if1 .left, sym (c .before .before .before .before .before .before .before .before .starts-with2 .ensures) ∙ c .before .before .before .before .before .before .before .if2 .left, sym (c .before .before .before .before .before .starts-with3 .ensures) ∙ c .before .before .before .before .if3 .left, sym (c .before .before .starts-with4 .ensures) ∙ c .before .if4 .taken) (c .stream-form2 .ensures)
+returns-4 c =
+    rw (past3 (c .before .before .before .before), sym (c .before .before .starts-with4 .ensures) ∙ c .before .if4 .taken)
+    (c .stream-form2 .ensures)
 
 slice-aggregate-starts-with-5 : tie.Need-slice-aggregate-starts-with-5
 slice-aggregate-starts-with-5 c = search needs
@@ -67,15 +124,15 @@ power-form-requires : tie.Need-power-form-requires
 power-form-requires c κs = tt
 
 returns-5 : tie.Need-returns-5
-unfolding partLine
-returns-5 c = rw (sym (c .before .before .before .before .before .before .before .before .before .before .before .before .before .before .starts-with .ensures) ∙ c .before .before .before .before .before .before .before .before .before .before .before .before .before .if1 .left, sym (c .before .before .before .before .before .before .before .before .before .before .before .starts-with2 .ensures) ∙ c .before .before .before .before .before .before .before .before .before .before .if2 .left, sym (c .before .before .before .before .before .before .before .before .starts-with3 .ensures) ∙ c .before .before .before .before .before .before .before .if3 .left, sym (c .before .before .before .before .before .starts-with4 .ensures) ∙ c .before .before .before .before .if4 .left, sym (c .before .before .starts-with5 .ensures) ∙ c .before .if5 .taken) (c .power-form .ensures)
+returns-5 c =
+    rw (past4 (c .before .before .before .before), sym (c .before .before .starts-with5 .ensures) ∙ c .before .if5 .taken)
+    (c .power-form .ensures)
 
 call-line-requires : tie.Need-call-line-requires
 call-line-requires c κs = tt
 
 returns-6 : tie.Need-returns-6
-unfolding partLine
-returns-6 c = rw (sym (c .before .before .before .before .before .before .before .before .before .before .before .before .before .before .starts-with .ensures) ∙ c .before .before .before .before .before .before .before .before .before .before .before .before .before .if1 .left, sym (c .before .before .before .before .before .before .before .before .before .before .before .starts-with2 .ensures) ∙ c .before .before .before .before .before .before .before .before .before .before .if2 .left, sym (c .before .before .before .before .before .before .before .before .starts-with3 .ensures) ∙ c .before .before .before .before .before .before .before .if3 .left, sym (c .before .before .before .before .before .starts-with4 .ensures) ∙ c .before .before .before .before .if4 .left, sym (c .before .before .starts-with5 .ensures) ∙ c .before .if5 .left) (c .call-line .ensures)
+returns-6 c = rw (past5 (c .before)) (c .call-line .ensures)
 
 pub part-line-spec : {M : Type 1} → statement M
 part-line-spec =

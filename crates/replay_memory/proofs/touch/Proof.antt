@@ -1,7 +1,14 @@
--- Each line works on the first bytes, and the others stay.
+-- Each line works on the first bytes, and the others stay; a dump alone leaves a text.
+use mathlib.Core.Path.{_≡_, sym, _∙_}
+use native.Mathlib.Omega.{arith}
+use Rattle.decimal.proofs.Writing.{put-none}
 use borrow.Author.Needs.{needs}
 use Rattle.replay_memory.proofs.touch.Statement.{statement}
 use Rattle.replay_memory.proofs.touch.Tie as tie
+
+-- what was given, from behind the length lent
+abbrev start : tie.After-within → tie.Start
+start c = c .before .before .before .before .before
 
 within-requires : tie.Need-within-requires
 within-requires c κs = search needs
@@ -53,28 +60,59 @@ same-length c = search needs
 
 returns : tie.Need-returns
 returns c =
-    let w = c .before .before .before .before .before .before .before .within .ensures .1 in
-    (rw (c .before .before .before .before .before .guest .given .1, ← w, c .before .before .pour-hex .ensures), rw (c .before .before .before .before .before .guest .given .1) w)
+    let g = c .before .before .before .before .before in
+    let lent = g .before .before .within .ensures .1 in
+    record {
+      memory = rw (g .guest .given .1, ← lent, c .before .before .pour-hex .ensures);
+      len = rw (g .guest .given .1) lent;
+      text = rw (g .guest .given .1) (put-none _ 0);
+      room = omega arith;
+    }
 
 same-length-2 : tie.Need-same-length-2
 same-length-2 c = search needs
 
 returns-2 : tie.Need-returns-2
 returns-2 c =
-    let w = c .before .before .before .before .before .before .before .within .ensures .1 in
-    (rw (c .before .before .before .before .before .guest2 .given .1, ← w, c .before .before .fill .ensures), rw (c .before .before .before .before .before .guest2 .given .1) w)
+    let g = c .before .before .before .before .before in
+    let lent = g .before .before .within .ensures .1 in
+    record {
+      memory = rw (g .guest2 .given .1, ← lent, c .before .before .fill .ensures);
+      len = rw (g .guest2 .given .1) lent;
+      text = rw (g .guest2 .given .1) (put-none _ 0);
+      room = omega arith;
+    }
 
 same-length-3 : tie.Need-same-length-3
 same-length-3 c = search needs
 
 returns-3 : tie.Need-returns-3
-returns-3 c = (rw (c .before .before .before .before .before .guest3 .given .1, c .before .before .fill2 .ensures), rw (c .before .before .before .before .before .guest3 .given .1))
+returns-3 c =
+    let g = c .before .before .before .before .before in
+    record {
+      memory = rw (g .guest3 .given .1, c .before .before .fill2 .ensures);
+      len = rw (g .guest3 .given .1);
+      text = rw (g .guest3 .given .1) (put-none _ 0);
+      room = omega arith;
+    }
 
 same-length-4 : tie.Need-same-length-4
 same-length-4 c = search needs
 
+same-length-5 : tie.Need-same-length-5
+same-length-5 c = search needs
+
 returns-4 : tie.Need-returns-4
-returns-4 c = (rw (c .before .before .before .guest4 .given .1), rw (c .before .before .before .guest4 .given .1) (c .before .before .before .before .before .within .ensures .1))
+returns-4 c =
+    let d = c .before .before .dump in
+    let g = c .before .before .before .before .before .before in
+    let lent = g .before .before .within .ensures .1 in
+    record {
+      memory = rw (g .guest4 .given .1);
+      len = rw (g .guest4 .given .1) lent;
+      text = rw (g .guest4 .given .1, ← lent) (d .ensures .0);
+      room = omega (arith, d .ensures .1, d .kept .1 .1 .1 .1 .0, start (g .before .before) .pre);
+    }
 
 pub touch-spec : {M : Type 1} → statement M
 touch-spec =
@@ -102,4 +140,5 @@ touch-spec =
     same-length-3
     returns-3
     same-length-4
+    same-length-5
     returns-4)

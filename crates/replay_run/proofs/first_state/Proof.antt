@@ -13,7 +13,9 @@ no-description-requires-2 : tie.Need-no-description-requires-2
 no-description-requires-2 c κs = search needs
 
 returns : tie.Need-returns
-returns c = (rw (c .no-description2 .ensures), c .before .before .power-up .ensures .1)
+returns c =
+    let p = c .before .before in
+    (rw (c .no-description2 .ensures, p .power-up .ensures .0, p .before .no-description .ensures), p .power-up .ensures .1)
 
 pub first-state-spec : {M : Type 1} → statement M
 first-state-spec =

@@ -1,7 +1,20 @@
 -- Each part of the state is what its call made.
+use native.Mathlib.Omega.{arith}
+use Rattle.decimal.proofs.Writing.{put-as}
 use borrow.Author.Needs.{needs}
+use Rattle.replay_run.proofs.Laws.{powered-text, powered-world}
 use Rattle.replay_run.proofs.power.Statement.{statement}
 use Rattle.replay_run.proofs.power.Tie as tie
+
+-- from behind the answer to the power-up, to the fill, to the length lent and to the start
+abbrev up : tie.After-answer → tie.After-power-up
+up c = c .before .before
+
+abbrev cleared : tie.After-power-up → tie.After-fill
+cleared c = c .before .before .before .before
+
+abbrev start : tie.After-within → tie.Start
+start c = c .before .before .before .before
 
 within-requires : tie.Need-within-requires
 within-requires c κs = search needs
@@ -12,11 +25,8 @@ fill-requires c κs = search needs
 power-up-requires : tie.Need-power-up-requires
 power-up-requires c κs = search needs
 
-answer-text-requires : tie.Need-answer-text-requires
-answer-text-requires c κs = search needs
-
-print-requires : tie.Need-print-requires
-print-requires c κs = search needs
+answer-requires : tie.Need-answer-requires
+answer-requires c κs = search needs
 
 no-description-requires : tie.Need-no-description-requires
 no-description-requires c κs = search needs
@@ -24,11 +34,26 @@ no-description-requires c κs = search needs
 same-length : tie.Need-same-length
 same-length c = search needs
 
+same-length-2 : tie.Need-same-length-2
+same-length-2 c = search needs
+
 returns : tie.Need-returns
 returns c =
-    let p = c .before .before .before .before .before .power-up .ensures in
-    let w = c .before .before .before .before .before .before .before .before .before .before .before .within .ensures .1 in
-    (rw (c .no-description .ensures, p .0, w), rw (p .0, w), c .before .before .before .before .before .before .before .before .before .fill .ensures, p .1)
+    let put = c .before .before .before .before .before in
+    let on = up put in
+    let fill = cleared on in
+    let within = fill .before .before in
+    let lent = within .within .ensures .1 in
+    let p = on .power-up .ensures in
+    let st = start within .args .state in
+    let n = start within .args .n in
+    let ram = start within .args .ram .now in
+    record {
+      world = powered-world st n _ ram _ lent (p .0) _ _ (fill .fill .ensures) (c .no-description .ensures);
+      text = put-as (powered-text st n _ ram _ lent (p .0)) (put .answer .ensures .0);
+      room = omega (arith, put .answer .ensures .1, put .answer .kept .1 .1 .0, start within .pre);
+      fit = p .1;
+    }
 
 pub power-spec : {M : Type 1} → statement M
 power-spec =
@@ -37,8 +62,8 @@ power-spec =
     within-requires
     fill-requires
     power-up-requires
-    answer-text-requires
-    print-requires
+    answer-requires
     no-description-requires
     same-length
+    same-length-2
     returns)

@@ -1,24 +1,38 @@
 -- Its numbers, one behind the other.
+use native.Mathlib.Omega.{arith}
+use Rattle.replay_text.proofs.Laws.{with-then}
+use borrow.Author.Needs.{needs}
 use Rattle.replay_text.proofs.call_start.Statement.{statement}
 use Rattle.replay_text.proofs.call_start.Tie as tie
 
 empty-requires : tie.Need-empty-requires
-empty-requires c κs = tt
+empty-requires c κs = search needs
 
 with-number-requires : tie.Need-with-number-requires
-with-number-requires c κs = tt
+with-number-requires c κs = omega arith
 
 with-number-requires-2 : tie.Need-with-number-requires-2
-with-number-requires-2 c κs = tt
+with-number-requires-2 c κs = omega arith
 
 with-number-requires-3 : tie.Need-with-number-requires-3
-with-number-requires-3 c κs = tt
+with-number-requires-3 c κs = omega arith
 
 with-number-requires-4 : tie.Need-with-number-requires-4
-with-number-requires-4 c κs = tt
+with-number-requires-4 c κs = omega arith
 
 returns : tie.Need-returns
-returns c = rw (c .with-number4 .ensures, c .before .with-number3 .ensures, c .before .before .with-number2 .ensures, c .before .before .before .with-number .ensures, c .before .before .before .before .empty .ensures)
+returns c =
+    let three = c .before in
+    let one = three .before .before in (
+      rw (
+        c .with-number4 .ensures .0,
+        three .with-number3 .ensures .0,
+        three .before .with-number2 .ensures .0,
+        one .with-number .ensures .0,
+        one .before .empty .ensures .0,
+      ) (simp with-then),
+      omega arith,
+    )
 
 pub call-start-spec : {M : Type 1} → statement M
 call-start-spec =

@@ -1,15 +1,18 @@
 -- Its numbers, one behind the other.
+use native.Mathlib.Omega.{arith}
+use Rattle.replay_text.proofs.Laws.{with-then}
+use borrow.Author.Needs.{needs}
 use Rattle.replay_text.proofs.call_text.Statement.{statement}
 use Rattle.replay_text.proofs.call_text.Tie as tie
 
 call-start-requires : tie.Need-call-start-requires
-call-start-requires c κs = tt
+call-start-requires c κs = search needs
 
 with-number-requires : tie.Need-with-number-requires
-with-number-requires c κs = tt
+with-number-requires c κs = search needs
 
 returns : tie.Need-returns
-returns c = rw (c .with-number .ensures, c .before .call-start .ensures)
+returns c = rw (c .with-number .ensures .0, c .before .call-start .ensures .0, with-then)
 
 pub call-text-spec : {M : Type 1} → statement M
 call-text-spec = tie.close (tie.spec call-start-requires with-number-requires returns)

@@ -1,18 +1,22 @@
 -- Its numbers, one behind the other.
+use native.Mathlib.Omega.{arith}
+use Rattle.replay_text.proofs.Laws.{with-then}
+use borrow.Author.Needs.{needs}
 use Rattle.replay_text.proofs.play_text.Statement.{statement}
 use Rattle.replay_text.proofs.play_text.Tie as tie
 
 call-start-requires : tie.Need-call-start-requires
-call-start-requires c κs = tt
+call-start-requires c κs = search needs
 
 with-number-requires : tie.Need-with-number-requires
-with-number-requires c κs = tt
+with-number-requires c κs = search needs
 
 with-number-requires-2 : tie.Need-with-number-requires-2
-with-number-requires-2 c κs = tt
+with-number-requires-2 c κs = search needs
 
 returns : tie.Need-returns
-returns c = rw (c .with-number2 .ensures, c .before .with-number .ensures, c .before .before .call-start .ensures)
+returns c =
+    rw (c .with-number2 .ensures .0, c .before .with-number .ensures .0, c .before .before .call-start .ensures .0) (simp with-then)
 
 pub play-text-spec : {M : Type 1} → statement M
 play-text-spec =

@@ -1,42 +1,18 @@
--- The digits are those that `io::decimal` made, the fewest that hold the number.
-use mathlib.Core.List.{foldl-append}
-use Rattle.replay_text.specs.Text.{withByte, withNumber, decimal}
-use Rattle.replay_text.proofs.Laws.{places-of-fewest}
-use borrow.Author.Needs.{needs}
+-- The number is stored behind the bytes that the text has.
 use native.Mathlib.Omega.{arith}
+use Rattle.replay_text.proofs.Laws.{with-put}
+use borrow.Author.Needs.{needs}
 use Rattle.replay_text.proofs.with_number.Statement.{statement}
 use Rattle.replay_text.proofs.with_number.Tie as tie
 
-decimal-requires : tie.Need-decimal-requires
-decimal-requires c κs = search needs
+slice-aggregate-put : tie.Need-slice-aggregate-put
+slice-aggregate-put c = search needs
 
-array-share-prefix-digits : tie.Need-array-share-prefix-digits
-array-share-prefix-digits c = search needs
-
-slice-aggregate-with-bytes : tie.Need-slice-aggregate-with-bytes
-slice-aggregate-with-bytes c = search needs
-
-with-bytes-requires : tie.Need-with-bytes-requires
-with-bytes-requires c κs = search needs
-
-with-requires : tie.Need-with-requires
-with-requires c κs = search needs
+put-requires : tie.Need-put-requires
+put-requires c κs = omega (arith, slice-aggregate-put c)
 
 returns : tie.Need-returns
-unfolding withNumber decimal
-returns c =
-    let a = c .before .before .before .before .before .args in
-    let d = c .before .before .before .decimal .ensures in
-    let p = places-of-fewest 19 (a .n) (c .before .before .before .decimal .result) (omega arith) (d .1 .0) in
-    rw (foldl-append withByte (a .text), p, ← (d .1 .1), c .with .ensures, c .before .with-bytes .ensures)
+returns c = (with-put _ _ _ _ (c .before .put .ensures .0), c .before .put .ensures .1)
 
 pub with-number-spec : {M : Type 1} → statement M
-with-number-spec =
-    tie.close
-    (tie.spec
-    decimal-requires
-    array-share-prefix-digits
-    slice-aggregate-with-bytes
-    with-bytes-requires
-    with-requires
-    returns)
+with-number-spec = tie.close (tie.spec slice-aggregate-put put-requires returns)

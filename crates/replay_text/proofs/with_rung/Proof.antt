@@ -1,26 +1,41 @@
 -- The queue's number, or a dash for none.
-use Rattle.replay_text.specs.Text.{withRung}
+use native.Mathlib.Omega.{arith}
 use borrow.Author.Tests.{eq-eqb, ne-eqb}
+use Rattle.replay_text.specs.Text.{rungBytes}
+use Rattle.replay_text.proofs.Laws.{with-put}
+use borrow.Author.Needs.{needs}
 use Rattle.replay_text.proofs.with_rung.Statement.{statement}
 use Rattle.replay_text.proofs.with_rung.Tie as tie
 
-with-requires : tie.Need-with-requires
-with-requires c κs = tt
+slice-aggregate-put-bytes : tie.Need-slice-aggregate-put-bytes
+slice-aggregate-put-bytes c = search needs
 
-with-requires-2 : tie.Need-with-requires-2
-with-requires-2 c κs = tt
+slice-aggregate-put-bytes-2 : tie.Need-slice-aggregate-put-bytes-2
+slice-aggregate-put-bytes-2 c = search needs
+
+put-bytes-requires : tie.Need-put-bytes-requires
+put-bytes-requires c κs = omega (arith, slice-aggregate-put-bytes (c .before))
 
 returns : tie.Need-returns
-unfolding withRung
-returns c = rw (eq-eqb _ 255 (c .before .before .if1 .taken), c .with2 .ensures, c .before .with .ensures)
+unfolding rungBytes
+returns c =
+    let p = c .before .put-bytes .ensures in
+    rw (eq-eqb _ 255 (c .before .before .before .before .before .if1 .taken)) (with-put _ _ _ _ p, omega (arith, p .behind))
 
 with-number-requires : tie.Need-with-number-requires
-with-number-requires c κs = tt
+with-number-requires c κs = search needs
 
 returns-2 : tie.Need-returns-2
-unfolding withRung
-returns-2 c = rw (ne-eqb _ 255 (c .before .if1 .left), c .with-number .ensures)
+unfolding rungBytes
+returns-2 c = rw (ne-eqb _ 255 (c .before .if1 .left)) (c .with-number .ensures)
 
 pub with-rung-spec : {M : Type 1} → statement M
 with-rung-spec =
-    tie.close (tie.spec with-requires with-requires-2 returns with-number-requires returns-2)
+    tie.close
+    (tie.spec
+    slice-aggregate-put-bytes
+    slice-aggregate-put-bytes-2
+    put-bytes-requires
+    returns
+    with-number-requires
+    returns-2)
