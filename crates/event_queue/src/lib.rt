@@ -1,7 +1,7 @@
 // The event queue (01, "Play, capture, events", third paragraph): an event goes into the next chain
 // that has room for it.
 ghost use mathlib.Core.Path.{_≡_};
-ghost use mathlib.Core.Bool.{cond};
+ghost use mathlib.Core.Bool.{cond, true};
 ghost use mathlib.Core.List.{[]};
 ghost use mathlib.Core.Option.{none, some};
 ghost use Rattle.chain.specs.Walk.{whole, walkOf};
@@ -181,7 +181,7 @@ fn try_entry(
     counted(false, registers, counters, posted)
 }
 
-// At most `new` entries, tried one after the other.
+// At most `new` entries, tried one after the other: the attempt that is returned has ended.
 fn try_entries(
     m: &mut [u8],
     registers: Registers,
@@ -192,7 +192,7 @@ fn try_entries(
 ) -> Attempt
     requires { ⌜ FitRegisters registers ⌝ }
     ensures { λ r. ⌜ ((rest : Rest) → eventRun code «data» new (holding registers counters rest) (now (m .entry)) ≡ resultIn rest r (now (m .exit)))
-        × FitRegisters (r .registers) ⌝ }
+        × FitRegisters (r .registers) × (r .ended ≡ true) ⌝ }
 {
     let mut file = registers;
     let mut counts = counters;
@@ -214,18 +214,18 @@ fn try_entries(
     }
 }
 
-// The event queue is checked, then its new entries are tried.
+// The event queue is checked, then its new entries are tried: the attempt that is returned has ended.
 pub fn send(m: &mut [u8], registers: Registers, counters: Counters, code: u32, data: u32) -> Attempt
     requires { ⌜ FitRegisters registers ⌝ }
     ensures { λ r. ⌜ ((rest : Rest) → sentOf code «data» (holding registers counters rest) (now (m .entry)) ≡ resultIn rest r (now (m .exit)))
-        × FitRegisters (r .registers) ⌝ }
+        × FitRegisters (r .registers) × (r .ended ≡ true) ⌝ }
 {
     let page = registers.pages[NUMBER];
     let size = queue_size();
     let found = ring::check_queue(m, page, size, counters.taken, 0);
     match found {
         ring::Check::Idle => Attempt {
-            ended: true,
+            ended: true, // there is no entry to try
             answer: registers::NO_EVENT_BUFFER,
             registers: registers,
             counters: counters,

@@ -31,12 +31,15 @@ same-length c = c .before .before .before .try-entry .kept .0 ∙ c .before .bef
 
 returns : tie.Need-returns Inv-loop μ-loop
 returns c =
-    let l = c .before .before .before .before .before .before .loop in
-    let t = c .before .before .before .try-entry in
-    let a = c .before .before .before .before .before .before .before .before .args in (
+    let p = c .before .before .before in
+    let t = p .try-entry in
+    let l = p .before .before .before .loop in
+    let a = p .before .before .before .before .before .args in (
       λ rest. sym (l .inv .1 rest)
-          ∙ run-ended (a .code) (a .«data») (l .left) (holding (l .file) (l .counts) rest) (l .m) rest (t .result) (t .last .0) (t .ensures .0 rest) (l .left - 1) (omega arith) (c .if1 .taken),
+          ∙ run-ended (a .code) (a .«data») (l .left) (holding (l .file) (l .counts) rest) (l .m) rest (t .result) (t .last .0)
+          (t .ensures .0 rest) (l .left - 1) (omega arith) (c .if1 .taken),
       t .ensures .1,
+      c .if1 .taken,
     )
 
 sub-left : tie.Need-sub-left Inv-loop μ-loop
@@ -47,11 +50,14 @@ loop-less c = omega arith
 
 loop-again : tie.Need-loop-again Inv-loop μ-loop
 loop-again c =
-    let l = c .before .before .before .before .before .before .before .before .loop in
-    let t = c .before .before .before .before .before .try-entry in
-    let a = c .before .before .before .before .before .before .before .before .before .before .args in (
+    let p = c .before .before .before .before .before in
+    let t = p .try-entry in
+    let l = p .before .before .before .loop in
+    let a = p .before .before .before .before .before .args in (
       t .kept .0 ∙ l .inv .0,
-      λ rest. sym (run-further (a .code) (a .«data») (l .left) (holding (l .file) (l .counts) rest) (l .m) rest (t .result) (t .last .0) (t .ensures .0 rest) (l .left - 1) (omega arith) (c .before .before .if1 .left))
+      λ rest. sym
+          (run-further (a .code) (a .«data») (l .left) (holding (l .file) (l .counts) rest) (l .m) rest (t .result) (t .last .0)
+          (t .ensures .0 rest) (l .left - 1) (omega arith) (c .before .before .if1 .left))
           ∙ l .inv .1 rest,
       t .ensures .1,
     )
@@ -65,6 +71,7 @@ returns-2 c =
     let a = c .before .before .before .args in (
       λ rest. sym (l .inv .1 rest) ∙ run-none (a .code) (a .«data») (l .left) (holding (l .file) (l .counts) rest) (l .m) (omega arith),
       l .inv .2,
+      refl,
     )
 
 pub try-entries-spec : {M : Type 1} → statement M
