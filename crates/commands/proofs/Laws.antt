@@ -9,7 +9,7 @@ use borrow.Author.Tests.{ltb-true, ltb-false, eqb-true, eqb-false}
 use lib.Dec.{eqb, ltb}
 use lib.Pow.{pow-mono}
 use lib.ListN.{length, getD, set, take, length-set, length-take}
-use lib.Seq.{take-set-lt, getD-take, getD-set-same, getD-set-other, set-out}
+use lib.Seq.{sets, take-set-lt, getD-take, getD-set-same, getD-set-other, set-out}
 use Rattle.memory.specs.Bytes.{le}
 use Rattle.card.specs.Card.{noStream}
 use Rattle.card.specs.Fit.{Fit, FitParts}
@@ -17,10 +17,10 @@ use Rattle.card.specs.declared.Card.{Card}
 use Rattle.card.specs.declared.Parts.{Parts}
 use Rattle.card.specs.declared.Stream.{Stream}
 use Rattle.message.specs.Card.{restOf}
-use Rattle.requests.specs.Requests.{Serves, repliedOf, foundOf}
+use Rattle.requests.specs.Requests.{Serves, repliedOf, foundOf, withParts, partsWith}
 use Rattle.requests.specs.declared.Found.the-variants.{There}
 use Rattle.requests.specs.declared.Served.{Served}
-use Rattle.requests.proofs.Laws.{serves-reply, found-there}
+use Rattle.requests.proofs.Laws.{sets-take, sets-take-set, serves-reply, found-there}
 use Rattle.rules.specs.Control as rules
 use Rattle.rules.specs.Device.{Rest, streamAt}
 use Rattle.rules.specs.Numbers.{sOk, sBadMsg, sNotSupp}
@@ -59,7 +59,18 @@ module _ (c : Card) (i : ℕ) (s : Stream) where
   unfolding restOf
   rest-with-stream h = rw (take-set-lt (c .parts .«stream_count») (c .parts .streams) i s h)
 
-  states-with : (l : List Stream) → ((k : ℕ) → getD l k noStream .state ≤ 5) → s .state ≤ 5 → (j : ℕ) → getD (set l i s) j noStream .state ≤ 5
+  pub parts-with-stream : i < c .parts .«stream_count»
+      → withStreamAt i s c ≡ withParts (partsWith (restOf (withStreamAt i s c)) (c .parts)) c
+  unfolding restOf
+  parts-with-stream h =
+      rw (
+        take-set-lt (c .parts .«stream_count») (c .parts .streams) i s h,
+        sets-take-set (c .parts .streams) (c .parts .«stream_count») i s h,
+        sets-take (c .parts .jacks) (c .parts .«jack_count»),
+      )
+
+  states-with : (l : List Stream) → ((k : ℕ) → getD l k noStream .state ≤ 5) → s .state ≤ 5 → (j : ℕ)
+      → getD (set l i s) j noStream .state ≤ 5
   states-with l h b j = by (eqb j i) refl where
     by : (t : Bool) → eqb j i ≡ t → getD (set l i s) j noStream .state ≤ 5
     by true e = same (ltb i (length l)) refl where
@@ -107,11 +118,13 @@ stream-at c i h = getD-take (c .parts .«stream_count») (c .parts .streams) i n
 
 -- a reply with another stream
 pub serves-stream :
-    (card : Card) (i : ℕ) (s : Stream) (r : Served) (out : List ℕ)
-    → Fit card → i < card .parts .«stream_count» → s .state ≤ 5 → r ≡ repliedOf (withStreamAt i s card) → take 4 out ≡ rules.status sOk
-    → Serves card (rules.Reply (rules.withStream (restOf card) i s) (rules.status sOk)) r out
-serves-stream card i s r out f h b e t =
-    rw (← (rest-with-stream card i s h)) (serves-reply card (withStreamAt i s card) sOk r out (fit-with-stream card i s f b) refl e t)
+    (card : Card) (i : ℕ) (s : Stream) (r : Served) (before after : List ℕ)
+    → Fit card → length before ≡ 132 → i < card .parts .«stream_count» → s .state ≤ 5 → r ≡ repliedOf (withStreamAt i s card)
+    → after ≡ sets before 0 (rules.status sOk)
+    → Serves card (rules.Reply (rules.withStream (restOf card) i s) (rules.status sOk)) r before after
+serves-stream card i s r before after f n h b e t =
+    rw (← (rest-with-stream card i s h))
+    (serves-reply card (withStreamAt i s card) sOk r before after (fit-with-stream card i s f b) n (parts-with-stream card i s h) e t)
 
 -- ---- SET_PARAMS
 
@@ -134,6 +147,8 @@ module _ (r : Rest) (request : List ℕ) where
     pub set-done :
         offered (streamAt r (rules.word request 1) .info) (rules.paramsOf request) ≡ true
         → rules.setParams r request
-        ≡ rules.Reply (rules.withStream r (rules.word request 1) (rules.withParams (rules.paramsOf request) (streamAt r (rules.word request 1)))) (rules.status sOk)
+        ≡ rules.Reply
+        (rules.withStream r (rules.word request 1) (rules.withParams (rules.paramsOf request) (streamAt r (rules.word request 1))))
+        (rules.status sOk)
     unfolding rules.setParams rules.judgedParams
     set-done l = rw (h, l)

@@ -88,7 +88,7 @@ pub fn move_stream(card: Card, command: u32, state: u8, request: &[u8], out: &mu
     requires { ⌜ Fit card × (length (now out) ≡ 132) × (state ≤ 5) ⌝ }
     ensures { λ r. ⌜ Serves card
         (lawfully (restOf card) command (word (now (request .entry)) 1) (moves (restOf card) (word (now (request .entry)) 1) state))
-        r (now (out .exit)) ⌝ }
+        r (now (out .entry)) (now (out .exit)) ⌝ }
 {
     let parts = card.parts;
     let id = memory::number32(request, 4);
@@ -106,12 +106,12 @@ pub fn move_stream(card: Card, command: u32, state: u8, request: &[u8], out: &mu
     requests::reply(with_stream(card, i, moved), message::OK, out)
 }
 
-// RELEASE: which stream is to be released.
+// RELEASE: which stream is to be released; nothing is changed or written yet.
 pub fn release(card: Card, command: u32, request: &[u8], out: &mut [u8]) -> Served
     requires { ⌜ Fit card × (length (now out) ≡ 132) ⌝ }
     ensures { λ r. ⌜ Serves card
         (lawfully (restOf card) command (word (now (request .entry)) 1) (ReleaseOf (word (now (request .entry)) 1)))
-        r (now (out .exit)) ⌝ }
+        r (now (out .entry)) (now (out .exit)) ⌝ }
 {
     let parts = card.parts;
     let id = memory::number32(request, 4);
@@ -205,7 +205,7 @@ pub fn set_params(card: Card, command: u32, request: &[u8], out: &mut [u8]) -> S
     requires { ⌜ Fit card × (length (now out) ≡ 132) ⌝ }
     ensures { λ r. ⌜ Serves card
         (lawfully (restOf card) command (word (now (request .entry)) 1) (setParams (restOf card) (now (request .entry))))
-        r (now (out .exit)) ⌝ }
+        r (now (out .entry)) (now (out .exit)) ⌝ }
 {
     let parts = card.parts;
     let id = memory::number32(request, 4);

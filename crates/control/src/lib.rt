@@ -91,7 +91,7 @@ fn laid_out(asked: Asked, len: u32) -> Check
 // A request that has the length of its layout.
 fn answer(asked: Asked, card: Card, code: u32, request: &[u8], room: u32, out: &mut [u8]) -> Served
     requires { ⌜ Fit card × (length (now out) ≡ 132) × stateFits asked ⌝ }
-    ensures { λ r. ⌜ Serves card (answerOf asked card code (now (request .entry)) room) r (now (out .exit)) ⌝ }
+    ensures { λ r. ⌜ Serves card (answerOf asked card code (now (request .entry)) room) r (now (out .entry)) (now (out .exit)) ⌝ }
 {
     match asked {
         Asked::Information(l) => requests::inform(card, l, request, room, out),
@@ -106,7 +106,7 @@ fn answer(asked: Asked, card: Card, code: u32, request: &[u8], room: u32, out: &
 // writable side.
 pub fn serve(m: &[u8], card: Card, request: Ranges, room: u32, out: &mut [u8]) -> Served
     requires { ⌜ Fit card × Sound request × (length (now out) ≡ 132) ⌝ }
-    ensures { λ r. ⌜ Serves card (served (restOf card) (bytesAt (now (m .entry)) (places (rangesOf request))) room) r (now (out .exit)) ⌝ }
+    ensures { λ r. ⌜ Serves card (served (restOf card) (bytesAt (now (m .entry)) (places (rangesOf request))) room) r (now (out .entry)) (now (out .exit)) ⌝ }
 {
     // no layout is longer
     let mut bytes = [0u8; 24];

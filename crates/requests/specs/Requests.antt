@@ -5,6 +5,7 @@ use mathlib.Core.List.{List}
 use Prim.Native.Nat.{ℕ, _+_, _*_, _≤_}
 use lib.Dec.{eqb, leb}
 use lib.ListN.{length, set, take}
+use lib.Seq.{sets}
 use Rattle.card.specs.Fit.{Fit}
 use Rattle.card.specs.declared.Card.{Card}
 use Rattle.card.specs.declared.Jack.{Jack}
@@ -13,6 +14,7 @@ use Rattle.information.specs.Information.{itemSize, itemsOf}
 use Rattle.information.specs.declared.Listing.{Listing}
 use Rattle.message.specs.Card.{restOf}
 use Rattle.rules.specs.Control as rules
+use Rattle.rules.specs.Device.{Rest}
 use Rattle.requests.specs.declared.Check.{Check}
 use Rattle.requests.specs.declared.Check.the-variants.{Passed, Failed}
 use Rattle.requests.specs.declared.Found.{Found}
@@ -49,12 +51,36 @@ byKind (kinds.Release id) s = rules.Release id
 abbrev pub servedIn : Served → List ℕ → rules.Served
 servedIn r out = byKind (r .kind) (rules.Reply (restOf (r .card)) (take (r .len) out))
 
--- a request is served as a rule has it; of the card only parts may change
-pub record Serves (card : Card) (rule : rules.Served) (r : Served) (out : List ℕ) : Type 0 where
-  pub says : servedIn r out ≡ rule
+-- the parts with the rules' jacks and streams; what stands past the counts stays
+abbrev pub partsWith : Rest → Parts → Parts
+partsWith r p =
+    record {
+      «jack_count» = p .«jack_count»;
+      «map_count» = p .«map_count»;
+      «stream_count» = p .«stream_count»;
+      jacks = sets (p .jacks) 0 (r .jacks);
+      maps = p .maps;
+      streams = sets (p .streams) 0 (r .streams);
+    }
+
+-- all that a request leaves: of the card only jacks and streams change, and at a Release nothing; its length is 0
+abbrev pub servedOf : Card → rules.Served → Served
+servedOf c (rules.Reply rest bytes) =
+    record { kind = kinds.Reply; card = withParts (partsWith rest (c .parts)) c; len = length bytes }
+servedOf c (rules.Release id) = record { kind = kinds.Release id; card = c; len = 0 }
+
+-- .. and of the buffer: the reply in front, the rest as it was; at a Release all of it
+abbrev pub writtenOf : rules.Served → List ℕ → List ℕ
+writtenOf (rules.Reply rest bytes) out = sets out 0 bytes
+writtenOf (rules.Release id) out = out
+
+-- a request is served as a rule has it, with the buffer before and after: the card and the reply stand for the rule's
+pub record Serves (card : Card) (rule : rules.Served) (r : Served) (before after : List ℕ) : Type 0 where
+  pub whole : r ≡ servedOf card rule
+  pub buffer : after ≡ writtenOf rule before
+  pub says : servedIn r after ≡ rule
   pub fit : Fit (r .card)
   pub short : r .len ≤ 132
-  pub rest : r .card ≡ withParts (r .card .parts) card
 
 -- a reply of four bytes
 abbrev pub repliedOf : Card → Served

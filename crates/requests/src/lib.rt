@@ -3,7 +3,8 @@
 ghost use mathlib.Core.Path.{_≡_};
 ghost use Prim.Native.Nat.{_<_};
 ghost use lib.Dec.{ltb};
-ghost use lib.ListN.{length, take};
+ghost use lib.ListN.{length};
+ghost use lib.Seq.{sets};
 ghost use Rattle.card.specs.Fit.{Fit, FitParts};
 ghost use Rattle.information.specs.Information.{itemSize, itemsOf};
 ghost use Rattle.message.specs.Card.{restOf};
@@ -25,7 +26,7 @@ pub enum Kind {
     Release(u32),
 }
 
-// The card after a request; the reply is the first `len` bytes of the buffer.
+// The card after a request; the reply is the first `len` bytes of the buffer, 0 at a Release.
 pub struct Served {
     pub kind: Kind,
     pub card: Card,
@@ -44,10 +45,10 @@ pub enum Found {
     Absent,
 }
 
-// A reply of four bytes.
+// A reply of four bytes; the rest of the buffer stays.
 pub fn reply(card: Card, code: u32, out: &mut [u8]) -> Served
     requires { ⌜ length (now out) ≡ 132 ⌝ }
-    ensures { λ r. ⌜ (r ≡ repliedOf card) × (take 4 (now (out .exit)) ≡ status code) ⌝ }
+    ensures { λ r. ⌜ (r ≡ repliedOf card) × (now (out .exit) ≡ sets (now (out .entry)) 0 (status code)) ⌝ }
 {
     memory::set32(out, 0, code);
     Served {
@@ -82,7 +83,7 @@ fn with_jack(card: Card, i: usize, jack: Jack) -> Card
 // JACK_REMAP: association and sequence replace bits 7:4 and 3:0 of the configuration default.
 pub fn remap(card: Card, request: &[u8], out: &mut [u8]) -> Served
     requires { ⌜ Fit card × (length (now out) ≡ 132) ⌝ }
-    ensures { λ r. ⌜ Serves card (remapOf (restOf card) (now (request .entry))) r (now (out .exit)) ⌝ }
+    ensures { λ r. ⌜ Serves card (remapOf (restOf card) (now (request .entry))) r (now (out .entry)) (now (out .exit)) ⌝ }
 {
     let parts = card.parts;
     let Found::There(i) = find(memory::number32(request, 4), parts.jack_count) else {
@@ -133,7 +134,7 @@ pub fn inform(card: Card, l: Listing, request: &[u8], room: u32, out: &mut [u8])
     requires { ⌜ Fit card × (length (now out) ≡ 132) ⌝ }
     ensures { λ r. ⌜ Serves card
         (informationOf (restOf card) (itemSize l) (itemsOf l (card .parts)) (now (request .entry)) room)
-        r (now (out .exit)) ⌝ }
+        r (now (out .entry)) (now (out .exit)) ⌝ }
 {
     let parts = card.parts;
     let start = memory::number32(request, 4);

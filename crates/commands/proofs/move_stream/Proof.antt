@@ -12,11 +12,16 @@ use Rattle.commands.proofs.move_stream.Tie as tie
 
 there :
     (c : tie.After-known-told)
-    → (lawfulIn (c .before .before .before .before .before .before .before .before .args .card .parts) (c .before .before .before .before .before .before .before .before .args .command) (c .before .before .before .before .number32 .result) ≡ true)
-    × (c .before .i .given .0 .0 ≡ c .before .before .before .before .number32 .result)
-    × (c .before .i .given .0 .0 < c .before .before .before .before .before .before .before .before .args .card .parts .«stream_count»)
+    →
+    let at-number32 = c .before .before .before .before in
+    let start = at-number32 .before .before .before .before in
+    (lawfulIn (start .args .card .parts) (start .args .command) (at-number32 .number32 .result) ≡ true)
+    × (c .before .i .given .0 .0 ≡ at-number32 .number32 .result)
+    × (c .before .i .given .0 .0 < start .args .card .parts .«stream_count»)
 there c =
-    stream-there _ (c .before .before .before .before .before .before .before .before .pre .0 .parts) _ _ _ (sym (c .before .before .before .stream-for .ensures) ∙ c .before .i .given .1)
+    let at-stream-for = c .before .before .before in
+    let start = at-stream-for .before .before .before .before .before in
+    stream-there _ (start .pre .0 .parts) _ _ _ (sym (at-stream-for .stream-for .ensures) ∙ c .before .i .given .1)
 
 number32-requires : tie.Need-number32-requires
 number32-requires c κs = search needs
@@ -38,19 +43,33 @@ same-length c = search needs
 
 returns : tie.Need-returns
 returns c =
-    let a = c .before .before .before .before .before .before .before .before .before .before .before .args in
-    let n = c .before .before .before .before .before .before .before .number32 in
-    rw (← (n .ensures), lawfully-false (a .card) (a .command) (n .result) _ (found-absent _ _ (sym (c .before .before .before .before .before .before .stream-for .ensures) ∙ c .before .before .before .before .enum-told .given .1)))
-    (serves-refusal (a .card) _ _ _ (c .before .before .before .before .before .before .before .before .before .before .before .pre .0) (c .before .before .reply .ensures .0) (c .before .before .reply .ensures .1))
+    let at-stream-for = c .before .before .before .before .before .before in
+    let at-number32 = at-stream-for .before in
+    let start = at-number32 .before .before .before .before in
+    let a = start .args in
+    let n = at-number32 .number32 in
+    rw (← (n .ensures), lawfully-false (a .card) (a .command) (n .result) _
+    (found-absent _ _ (sym (at-stream-for .stream-for .ensures) ∙ c .before .before .before .before .enum-told .given .1)))
+    (serves-refusal (a .card) _ _ _ _ (start .pre .0) (start .pre .1) (c .before .before .reply .ensures))
 
 mul-stream : tie.Need-mul-stream
-mul-stream c = omega (arith, there c .2, c .before .before .before .before .before .before .before .before .pre .0 .parts .streams)
+mul-stream c =
+    let back6 = c .before .before .before .before .before .before in
+    let start = back6 .before .before in
+    omega (arith, there c .2, start .pre .0 .parts .streams)
 
 element-copy-out-stream : tie.Need-element-copy-out-stream
-element-copy-out-stream c = omega (arith, there c .2, c .before .before .before .before .before .before .before .before .pre .0 .parts .streams)
+element-copy-out-stream c =
+    let back6 = c .before .before .before .before .before .before in
+    let start = back6 .before .before in
+    omega (arith, there c .2, start .pre .0 .parts .streams)
 
 with-stream-requires : tie.Need-with-stream-requires
-with-stream-requires c κs = omega (arith, there (c .before .before .before) .2, c .before .before .before .before .before .before .before .before .before .before .before .pre .0 .parts .streams)
+with-stream-requires c κs =
+    let back3 = c .before .before .before in
+    let back9 = back3 .before .before .before .before .before .before in
+    let start = back9 .before .before in
+    omega (arith, there back3 .2, start .pre .0 .parts .streams)
 
 reply-requires-2 : tie.Need-reply-requires-2
 reply-requires-2 c κs = search needs
@@ -60,12 +79,17 @@ same-length-2 c = search needs
 
 returns-2 : tie.Need-returns-2
 returns-2 c =
-    let a = c .before .before .before .before .before .before .before .before .before .before .before .before .before .before .before .before .args in
-    let n = c .before .before .before .before .before .before .before .before .before .before .before .before .number32 in
-    let t = there (c .before .before .before .before .before .before .before .before) in
+    let at-with-stream = c .before .before .before .before in
+    let back8 = at-with-stream .before .before .before .before in
+    let at-number32 = back8 .before .before .before .before in
+    let start = at-number32 .before .before .before .before in
+    let a = start .args in
+    let n = at-number32 .number32 in
+    let t = there back8 in
     let h = t .2 in
     rw (← (n .ensures), lawfully-true (a .card) (a .command) (n .result) _ (t .0), ← (t .1), stream-at (a .card) _ h)
-    (serves-stream (a .card) _ _ _ _ (c .before .before .before .before .before .before .before .before .before .before .before .before .before .before .before .before .pre .0) h (c .before .before .before .before .before .before .before .before .before .before .before .before .before .before .before .before .pre .2) (c .before .before .reply2 .ensures .0 ∙ rw (c .before .before .before .before .with-stream .ensures)) (c .before .before .reply2 .ensures .1))
+    (serves-stream (a .card) _ _ _ _ _ (start .pre .0) (start .pre .1) h (start .pre .2)
+    (c .before .before .reply2 .ensures .0 ∙ rw (at-with-stream .with-stream .ensures)) (c .before .before .reply2 .ensures .1))
 
 pub move-stream-spec : {M : Type 1} → statement M
 move-stream-spec =

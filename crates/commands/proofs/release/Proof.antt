@@ -1,4 +1,4 @@
--- A lawful release is told apart, any other is refused.
+-- A lawful release is told apart, with the card and the buffer as they were; any other is refused.
 use mathlib.Core.Path.{_∙_, sym, refl}
 use native.Mathlib.Omega.{arith}
 use borrow.Author.Needs.{needs}
@@ -27,17 +27,24 @@ same-length c = search needs
 
 returns : tie.Need-returns
 returns c =
-    let a = c .before .before .before .before .before .before .before .before .before .before .before .args in
-    let n = c .before .before .before .before .before .before .before .number32 in
-    rw (← (n .ensures), lawfully-false (a .card) (a .command) (n .result) _ (found-absent _ _ (sym (c .before .before .before .before .before .before .stream-for .ensures) ∙ c .before .before .before .before .enum-told2 .given .1)))
-    (serves-refusal (a .card) _ _ _ (c .before .before .before .before .before .before .before .before .before .before .before .pre .0) (c .before .before .reply .ensures .0) (c .before .before .reply .ensures .1))
+    let at-stream-for = c .before .before .before .before .before .before in
+    let at-number32 = at-stream-for .before in
+    let start = at-number32 .before .before .before .before in
+    let a = start .args in
+    let n = at-number32 .number32 in
+    rw (← (n .ensures), lawfully-false (a .card) (a .command) (n .result) _
+    (found-absent _ _ (sym (at-stream-for .stream-for .ensures) ∙ c .before .before .before .before .enum-told2 .given .1)))
+    (serves-refusal (a .card) _ _ _ _ (start .pre .0) (start .pre .1) (c .before .before .reply .ensures))
 
 returns-2 : tie.Need-returns-2
 returns-2 c =
-    let a = c .before .before .before .before .before .before .before .args in
-    let n = c .before .before .before .number32 in
+    let at-number32 = c .before .before .before in
+    let start = at-number32 .before .before .before .before in
+    let a = start .args in
+    let n = at-number32 .number32 in
     let t = found-there _ _ _ (sym (c .before .before .stream-for .ensures) ∙ c .enum-told .given .1) in
-    rw (← (n .ensures), lawfully-true (a .card) (a .command) (n .result) _ (t .0)) (record { says = refl; fit = c .before .before .before .before .before .before .before .pre .0; short = omega arith; rest = refl })
+    rw (← (n .ensures), lawfully-true (a .card) (a .command) (n .result) _ (t .0))
+    (record { whole = refl; buffer = refl; says = refl; fit = start .pre .0; short = omega arith })
 
 pub release-spec : {M : Type 1} → statement M
 release-spec =

@@ -13,27 +13,53 @@ use Rattle.message.specs.Card.{restOf}
 use Rattle.card.specs.Card.{noStream}
 use Rattle.commands.specs.Commands.{lawfulIn, malformed, offered}
 use Rattle.requests.proofs.Laws.{found-absent, serves-refusal, check-passed, check-failed}
-use Rattle.commands.proofs.Laws.{stream-there, lawfully-true, lawfully-false, serves-stream, stream-at, set-malformed, set-lacking, set-done}
+use Rattle.commands.proofs.Laws.{stream-there, lawfully-true, lawfully-false, serves-stream, stream-at}
+use Rattle.commands.proofs.Laws.{set-malformed, set-lacking, set-done}
 use Rattle.commands.proofs.set_params.Statement.{statement}
 use Rattle.commands.proofs.set_params.Tie as tie
 
 there :
     (c : tie.After-known-told)
-    → (lawfulIn (c .before .before .before .before .before .before .before .before .args .card .parts) (c .before .before .before .before .before .before .before .before .args .command) (c .before .before .before .before .number32 .result) ≡ true)
-    × (c .before .i .given .0 .0 ≡ c .before .before .before .before .number32 .result)
-    × (c .before .i .given .0 .0 < c .before .before .before .before .before .before .before .before .args .card .parts .«stream_count»)
+    →
+    let at-number32 = c .before .before .before .before in
+    let start = at-number32 .before .before .before .before in
+    (lawfulIn (start .args .card .parts) (start .args .command) (at-number32 .number32 .result) ≡ true)
+    × (c .before .i .given .0 .0 ≡ at-number32 .number32 .result)
+    × (c .before .i .given .0 .0 < start .args .card .parts .«stream_count»)
 there c =
-    stream-there _ (c .before .before .before .before .before .before .before .before .pre .0 .parts) _ _ _ (sym (c .before .before .before .stream-for .ensures) ∙ c .before .i .given .1)
+    let at-stream-for = c .before .before .before in
+    let start = at-stream-for .before .before .before .before .before in
+    stream-there _ (start .pre .0 .parts) _ _ _ (sym (at-stream-for .stream-for .ensures) ∙ c .before .i .given .1)
 
-well : (c : tie.After-enum-told2) → malformed (paramsOf (c .before .before .before .before .before .before .before .before .before .before .before .before .before .before .before .args .request .now)) (le 1 (c .before .before .before .before .before .before .before .before .before .before .before .before .before .before .before .args .request .now) 23) ≡ false
+well : (c : tie.After-enum-told2) →
+    let back6 = c .before .before .before .before .before .before in
+    let back12 = back6 .before .before .before .before .before .before in
+    let start = back12 .before .before .before in
+    malformed (paramsOf (start .args .request .now)) (le 1 (start .args .request .now) 23) ≡ false
 well c =
-    let e : not (malformed (paramsOf (c .before .before .before .before .before .before .before .before .before .before .before .before .before .before .before .args .request .now)) (le 1 (c .before .before .before .before .before .before .before .before .before .before .before .before .before .before .before .args .request .now) 23)) ≡ true =
-    rw (c .before .before .before .before .params-in .ensures, c .before .before .before .number8 .ensures) at (check-passed (not (malformed (c .before .before .before .before .params-in .result) (c .before .before .before .number8 .result))) (sym (c .before .before .well-formed .ensures) ∙ c .enum-told2 .given .1)) in
+    let at-params-in = c .before .before .before .before in
+    let back10 = at-params-in .before .before .before .before .before .before in
+    let start = back10 .before .before .before .before .before in
+    let e : not (malformed (paramsOf (start .args .request .now)) (le 1 (start .args .request .now) 23)) ≡ true =
+    rw (at-params-in .params-in .ensures, c .before .before .before .number8 .ensures) at
+    (check-passed (not (malformed (at-params-in .params-in .result) (c .before .before .before .number8 .result)))
+    (sym (c .before .before .well-formed .ensures) ∙ c .enum-told2 .given .1)) in
     not-true _ e
 
-the-stream : (c : tie.After-enum-told2) → streamAt (restOf (c .before .before .before .before .before .before .before .before .before .before .before .before .before .before .before .args .card)) (word (c .before .before .before .before .before .before .before .before .before .before .before .before .before .before .before .args .request .now) 1) ≡ getD (c .before .before .before .before .before .before .before .before .before .before .before .before .before .before .before .args .card .parts .streams) (c .before .before .before .before .before .before .before .before .i .given .0 .0) noStream
+the-stream : (c : tie.After-enum-told2) →
+    let back6 = c .before .before .before .before .before .before in
+    let at-i = back6 .before .before in
+    let back14 = at-i .before .before .before .before .before .before in
+    let start = back14 .before in
+    streamAt (restOf (start .args .card)) (word (start .args .request .now) 1) ≡ getD (start .args .card .parts .streams)
+    (at-i .i .given .0 .0) noStream
 the-stream c =
-    rw (← (c .before .before .before .before .before .before .before .before .before .before .before .number32 .ensures), ← (there (c .before .before .before .before .before .before .before) .1)) (stream-at (c .before .before .before .before .before .before .before .before .before .before .before .before .before .before .before .args .card) (c .before .before .before .before .before .before .before .before .i .given .0 .0) (there (c .before .before .before .before .before .before .before) .2))
+    let back6 = c .before .before .before .before .before .before in
+    let back7 = back6 .before in
+    let at-i = back7 .before in
+    let at-number32 = at-i .before .before .before in
+    let start = at-number32 .before .before .before .before in
+    rw (← (at-number32 .number32 .ensures), ← (there back7 .1)) (stream-at (start .args .card) (at-i .i .given .0 .0) (there back7 .2))
 
 number32-requires : tie.Need-number32-requires
 number32-requires c κs = search needs
@@ -55,16 +81,26 @@ same-length c = search needs
 
 returns : tie.Need-returns
 returns c =
-    let a = c .before .before .before .before .before .before .before .before .before .before .before .args in
-    let n = c .before .before .before .before .before .before .before .number32 in
-    rw (← (n .ensures), lawfully-false (a .card) (a .command) (n .result) _ (found-absent _ _ (sym (c .before .before .before .before .before .before .stream-for .ensures) ∙ c .before .before .before .before .enum-told .given .1)))
-    (serves-refusal (a .card) _ _ _ (c .before .before .before .before .before .before .before .before .before .before .before .pre .0) (c .before .before .reply .ensures .0) (c .before .before .reply .ensures .1))
+    let at-stream-for = c .before .before .before .before .before .before in
+    let at-number32 = at-stream-for .before in
+    let start = at-number32 .before .before .before .before in
+    let a = start .args in
+    let n = at-number32 .number32 in
+    rw (← (n .ensures), lawfully-false (a .card) (a .command) (n .result) _
+    (found-absent _ _ (sym (at-stream-for .stream-for .ensures) ∙ c .before .before .before .before .enum-told .given .1)))
+    (serves-refusal (a .card) _ _ _ _ (start .pre .0) (start .pre .1) (c .before .before .reply .ensures))
 
 mul-stream : tie.Need-mul-stream
-mul-stream c = omega (arith, there c .2, c .before .before .before .before .before .before .before .before .pre .0 .parts .streams)
+mul-stream c =
+    let back6 = c .before .before .before .before .before .before in
+    let start = back6 .before .before in
+    omega (arith, there c .2, start .pre .0 .parts .streams)
 
 element-copy-out-stream : tie.Need-element-copy-out-stream
-element-copy-out-stream c = omega (arith, there c .2, c .before .before .before .before .before .before .before .before .pre .0 .parts .streams)
+element-copy-out-stream c =
+    let back6 = c .before .before .before .before .before .before in
+    let start = back6 .before .before in
+    omega (arith, there c .2, start .pre .0 .parts .streams)
 
 params-in-requires : tie.Need-params-in-requires
 params-in-requires c κs = search needs
@@ -89,12 +125,21 @@ same-length-2 c = search needs
 
 returns-2 : tie.Need-returns-2
 returns-2 c =
-    let a = c .before .before .before .before .before .before .before .before .before .before .before .before .before .before .before .before .before .before .before .args in
-    let n = c .before .before .before .before .before .before .before .before .before .before .before .before .before .before .before .number32 in
+    let at-well-formed = c .before .before .before .before .before .before in
+    let at-number8 = at-well-formed .before in
+    let at-params-in = at-number8 .before in
+    let back11 = at-params-in .before .before .before in
+    let at-number32 = back11 .before .before .before .before in
+    let start = at-number32 .before .before .before .before in
+    let a = start .args in
+    let n = at-number32 .number32 in
     let e : not (malformed (paramsOf (a .request .now)) (le 1 (a .request .now) 23)) ≡ false =
-    rw (c .before .before .before .before .before .before .before .before .params-in .ensures, c .before .before .before .before .before .before .before .number8 .ensures) at (check-failed (not (malformed (c .before .before .before .before .before .before .before .before .params-in .result) (c .before .before .before .before .before .before .before .number8 .result))) (sym (c .before .before .before .before .before .before .well-formed .ensures) ∙ c .before .before .before .before .enum-told3 .given .1)) in
-    rw (set-malformed (restOf (a .card)) (a .request .now) (not-false _ e), ← (n .ensures), lawfully-true (a .card) (a .command) (n .result) _ (there (c .before .before .before .before .before .before .before .before .before .before .before) .0))
-    (serves-refusal (a .card) _ _ _ (c .before .before .before .before .before .before .before .before .before .before .before .before .before .before .before .before .before .before .before .pre .0) (c .before .before .reply2 .ensures .0) (c .before .before .reply2 .ensures .1))
+    rw (at-params-in .params-in .ensures, at-number8 .number8 .ensures) at
+    (check-failed (not (malformed (at-params-in .params-in .result) (at-number8 .number8 .result)))
+    (sym (at-well-formed .well-formed .ensures) ∙ c .before .before .before .before .enum-told3 .given .1)) in
+    rw (set-malformed (restOf (a .card)) (a .request .now) (not-false _ e), ← (n .ensures), lawfully-true (a .card) (a .command)
+    (n .result) _ (there back11 .0))
+    (serves-refusal (a .card) _ _ _ _ (start .pre .0) (start .pre .1) (c .before .before .reply2 .ensures))
 
 is-offered-requires : tie.Need-is-offered-requires
 is-offered-requires c κs = search needs
@@ -113,34 +158,69 @@ same-length-3 c = search needs
 
 returns-3 : tie.Need-returns-3
 returns-3 c =
-    let a = c .before .before .before .before .before .before .before .before .before .before .before .before .before .before .before .before .before .before .before .before .before .before .args in
-    let n = c .before .before .before .before .before .before .before .before .before .before .before .before .before .before .before .before .before .before .number32 in
-    let o : offered (getD (a .card .parts .streams) (c .before .before .before .before .before .before .before .before .before .before .before .before .before .before .before .i .given .0 .0) noStream .info) (paramsOf (a .request .now)) ≡ false =
-    rw (c .before .before .before .before .before .before .before .before .before .before .before .params-in .ensures) at (check-failed (offered (getD (a .card .parts .streams) (c .before .before .before .before .before .before .before .before .before .before .before .before .before .before .before .i .given .0 .0) noStream .info) (c .before .before .before .before .before .before .before .before .before .before .before .params-in .result)) (sym (c .before .before .before .before .before .before .is-offered .ensures) ∙ c .before .before .before .before .enum-told5 .given .1)) in
-    let l : offered (streamAt (restOf (a .card)) (word (a .request .now) 1) .info) (paramsOf (a .request .now)) ≡ false = rw (the-stream (c .before .before .before .before .before .before .before)) o in
-    rw (set-lacking (restOf (a .card)) (a .request .now) (well (c .before .before .before .before .before .before .before)) l, ← (n .ensures), lawfully-true (a .card) (a .command) (n .result) _ (there (c .before .before .before .before .before .before .before .before .before .before .before .before .before .before) .0))
-    (serves-refusal (a .card) _ _ _ (c .before .before .before .before .before .before .before .before .before .before .before .before .before .before .before .before .before .before .before .before .before .before .pre .0) (c .before .before .reply3 .ensures .0) (c .before .before .reply3 .ensures .1))
+    let at-is-offered = c .before .before .before .before .before .before in
+    let back7 = at-is-offered .before in
+    let at-params-in = back7 .before .before .before .before in
+    let back14 = at-params-in .before .before .before in
+    let at-i = back14 .before in
+    let at-number32 = at-i .before .before .before in
+    let start = at-number32 .before .before .before .before in
+    let a = start .args in
+    let n = at-number32 .number32 in
+    let o : offered (getD (a .card .parts .streams) (at-i .i .given .0 .0) noStream .info) (paramsOf (a .request .now)) ≡ false =
+    rw (at-params-in .params-in .ensures) at
+    (check-failed (offered (getD (a .card .parts .streams) (at-i .i .given .0 .0) noStream .info)
+    (at-params-in .params-in .result))
+    (sym (at-is-offered .is-offered .ensures) ∙ c .before .before .before .before .enum-told5 .given .1)) in
+    let l : offered (streamAt (restOf (a .card)) (word (a .request .now) 1) .info) (paramsOf (a .request .now)) ≡ false = rw
+    (the-stream back7) o in
+    rw (set-lacking (restOf (a .card)) (a .request .now) (well back7) l, ← (n .ensures), lawfully-true (a .card) (a .command)
+    (n .result) _ (there back14 .0))
+    (serves-refusal (a .card) _ _ _ _ (start .pre .0) (start .pre .1) (c .before .before .reply3 .ensures))
 
 with-stream-requires : tie.Need-with-stream-requires
-with-stream-requires c κs = omega (arith, there (c .before .before .before .before .before .before .before .before .before .before) .2, c .before .before .before .before .before .before .before .before .before .before .before .before .before .before .before .before .before .before .pre .0 .parts .streams)
+with-stream-requires c κs =
+    let back6 = c .before .before .before .before .before .before in
+    let back10 = back6 .before .before .before .before in
+    let back16 = back10 .before .before .before .before .before .before in
+    let start = back16 .before .before in
+    omega (arith, there back10 .2, start .pre .0 .parts .streams)
 
 reply-requires-4 : tie.Need-reply-requires-4
-reply-requires-4 c κs = c .before .before .before .before .before .before .before .before .before .before .before .before .before .before .before .before .before .before .before .before .pre .1
+reply-requires-4 c κs =
+    let back6 = c .before .before .before .before .before .before in
+    let back12 = back6 .before .before .before .before .before .before in
+    let back18 = back12 .before .before .before .before .before .before in
+    let start = back18 .before .before in
+    start .pre .1
 
 same-length-4 : tie.Need-same-length-4
 same-length-4 c = search needs
 
 returns-4 : tie.Need-returns-4
 returns-4 c =
-    let a = c .before .before .before .before .before .before .before .before .before .before .before .before .before .before .before .before .before .before .before .before .before .before .before .args in
-    let n = c .before .before .before .before .before .before .before .before .before .before .before .before .before .before .before .before .before .before .before .number32 in
-    let t = there (c .before .before .before .before .before .before .before .before .before .before .before .before .before .before .before) in
-    let o : offered (getD (a .card .parts .streams) (c .before .before .before .before .before .before .before .before .before .before .before .before .before .before .before .before .i .given .0 .0) noStream .info) (paramsOf (a .request .now)) ≡ true =
-    rw (c .before .before .before .before .before .before .before .before .before .before .before .before .params-in .ensures) at (check-passed (offered (getD (a .card .parts .streams) (c .before .before .before .before .before .before .before .before .before .before .before .before .before .before .before .before .i .given .0 .0) noStream .info) (c .before .before .before .before .before .before .before .before .before .before .before .before .params-in .result)) (sym (c .before .before .before .before .before .before .before .is-offered .ensures) ∙ c .before .before .before .before .before .enum-told4 .given .1)) in
-    let l : offered (streamAt (restOf (a .card)) (word (a .request .now) 1) .info) (paramsOf (a .request .now)) ≡ true = rw (the-stream (c .before .before .before .before .before .before .before .before)) o in
-    rw (set-done (restOf (a .card)) (a .request .now) (well (c .before .before .before .before .before .before .before .before)) l, ← (n .ensures), lawfully-true (a .card) (a .command) (n .result) _ (t .0), ← (t .1), stream-at (a .card) _ (there (c .before .before .before .before .before .before .before .before .before .before .before .before .before .before .before) .2))
-    (serves-stream (a .card) _ _ _ _ (c .before .before .before .before .before .before .before .before .before .before .before .before .before .before .before .before .before .before .before .before .before .before .before .pre .0) (there (c .before .before .before .before .before .before .before .before .before .before .before .before .before .before .before) .2) (omega arith)
-    (c .before .before .reply4 .ensures .0 ∙ rw (c .before .before .before .before .with-stream .ensures, c .before .before .before .before .before .before .before .before .before .before .before .before .params-in .ensures)) (c .before .before .reply4 .ensures .1))
+    let at-enum-told4 = c .before .before .before .before .before in
+    let at-is-offered = at-enum-told4 .before .before in
+    let back8 = at-is-offered .before in
+    let at-params-in = back8 .before .before .before .before in
+    let back15 = at-params-in .before .before .before in
+    let at-i = back15 .before in
+    let at-number32 = at-i .before .before .before in
+    let start = at-number32 .before .before .before .before in
+    let a = start .args in
+    let n = at-number32 .number32 in
+    let t = there back15 in
+    let o : offered (getD (a .card .parts .streams) (at-i .i .given .0 .0) noStream .info) (paramsOf (a .request .now)) ≡ true =
+    rw (at-params-in .params-in .ensures) at
+    (check-passed (offered (getD (a .card .parts .streams) (at-i .i .given .0 .0) noStream .info)
+    (at-params-in .params-in .result)) (sym (at-is-offered .is-offered .ensures) ∙ at-enum-told4 .enum-told4 .given .1)) in
+    let l : offered (streamAt (restOf (a .card)) (word (a .request .now) 1) .info) (paramsOf (a .request .now)) ≡ true = rw
+    (the-stream back8) o in
+    rw (set-done (restOf (a .card)) (a .request .now) (well back8) l, ← (n .ensures), lawfully-true (a .card) (a .command)
+    (n .result) _ (t .0), ← (t .1), stream-at (a .card) _ (there back15 .2))
+    (serves-stream (a .card) _ _ _ _ _ (start .pre .0) (start .pre .1) (there back15 .2) (omega arith)
+    (c .before .before .reply4 .ensures .0 ∙ rw
+    (c .before .before .before .before .with-stream .ensures, at-params-in .params-in .ensures)) (c .before .before .reply4 .ensures .1))
 
 pub set-params-spec : {M : Type 1} → statement M
 set-params-spec =

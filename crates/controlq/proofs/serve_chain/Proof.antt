@@ -3,6 +3,7 @@ use mathlib.Core.Path.{_≡_, _∙_, sym}
 use borrow.Author.Needs.{needs}
 use Rattle.ranges.specs.Ranges.{rangesOf, places, bytesAt, total}
 use Rattle.message.specs.Card.{restOf}
+use Rattle.requests.proofs.Laws.{serves-parts}
 use Rattle.rules.specs.Calls.{acted}
 use Rattle.rules.specs.Control as rules
 use Rattle.controlq.specs.Control.{pendingOf, servedChain}
@@ -30,8 +31,12 @@ same-length c = search needs
 
 returns : tie.Need-returns
 returns c =
-    let a = c .before .before .before .before .before .before .before .before .before .args in
-    rw (chain-mute (a .card) (a .head) (rangesOf (a .request)) (rangesOf (a .reply)) (a .m .now) (sym (c .before .before .before .before .before .before .before .judge .ensures) ∙ c .before .before .before .before .before .enum-told2 .given .1)) (c .before .before .complete .ensures)
+    let at-enum-told2 = c .before .before .before .before .before in
+    let at-judge = at-enum-told2 .before .before in
+    let start = at-judge .before .before in
+    let a = start .args in
+    rw (chain-mute (a .card) (a .head) (rangesOf (a .request)) (rangesOf (a .reply)) (a .m .now)
+    (sym (at-judge .judge .ensures) ∙ at-enum-told2 .enum-told2 .given .1)) (c .before .before .complete .ensures)
 
 judge-requires-2 : tie.Need-judge-requires-2
 judge-requires-2 c κs = search needs
@@ -50,8 +55,14 @@ same-length-2 c = search needs
 
 returns-2 : tie.Need-returns-2
 returns-2 c =
-    let a = c .before .before .before .before .before .before .before .before .before .before .before .args in
-    rw (chain-bad (a .card) (a .head) (rangesOf (a .request)) (rangesOf (a .reply)) (a .m .now) (sym (c .before .before .before .before .before .before .before .before .before .judge .ensures) ∙ c .before .before .before .before .before .before .before .enum-told .given .1) (sym (c .before .before .before .before .before .before .judge2 .ensures) ∙ c .before .before .before .before .enum-told4 .given .1)) (c .before .before .reply-status .ensures)
+    let at-judge2 = c .before .before .before .before .before .before in
+    let at-enum-told = at-judge2 .before in
+    let at-judge = at-enum-told .before .before in
+    let start = at-judge .before .before in
+    let a = start .args in
+    rw (chain-bad (a .card) (a .head) (rangesOf (a .request)) (rangesOf (a .reply)) (a .m .now)
+    (sym (at-judge .judge .ensures) ∙ at-enum-told .enum-told .given .1)
+    (sym (at-judge2 .judge2 .ensures) ∙ c .before .before .before .before .enum-told4 .given .1)) (c .before .before .reply-status .ensures)
 
 slice-aggregate-serve : tie.Need-slice-aggregate-serve
 slice-aggregate-serve c = search needs
@@ -76,21 +87,30 @@ same-length-3 c = search needs
 
 -- past the tests of both sides the request decides
 served-as : (c : tie.After-serve) (s : rules.Served)
-    → let a = c .before .before .before .before .before .before .before .before .before .before .args in
+    → let at-judge2 = c .before .before .before .before .before in
+    let a = at-judge2 .before .before .before .before .before .args in
     s ≡ rules.served (restOf (a .card)) (bytesAt (a .m .now) (places (rangesOf (a .request)))) (total (rangesOf (a .reply)))
     → servedChain (a .card) (a .head) (rangesOf (a .request)) (rangesOf (a .reply)) (a .m .now)
     ≡ acted s (pendingOf (a .card) (a .head) (rangesOf (a .reply))) (a .m .now)
 served-as c s e =
-    let a = c .before .before .before .before .before .before .before .before .before .before .args in
+    let at-judge2 = c .before .before .before .before .before in
+    let at-judge = at-judge2 .before .before .before in
+    let a = at-judge .before .before .args in
     chain-acted (a .card) (a .head) (rangesOf (a .request)) (rangesOf (a .reply)) (a .m .now)
-    (sym (c .before .before .before .before .before .before .before .before .judge .ensures) ∙ c .before .before .before .before .before .before .enum-told .given .1) (sym (c .before .before .before .before .before .judge2 .ensures) ∙ c .before .before .before .enum-told3 .given .1) s e
+    (sym (at-judge .judge .ensures) ∙ at-judge2 .before .enum-told .given .1)
+    (sym (at-judge2 .judge2 .ensures) ∙ c .before .before .before .enum-told3 .given .1) s e
 
 returns-3 : tie.Need-returns-3
 returns-3 c =
-    let p = c .before .before .before .before .before .before .before .before .before in
-    let a = p .before .before .before .before .before .before .before .before .before .before .args in
-    let e = rw (c .before .before .before .before .before .enum-told5 .given .1, p .before .before .before .before .before .before .before .before .before .before .pre .3 .sum) at (p .serve .ensures .says) in
-    let q = served-queues (a .card) (p .serve .result .card) (p .serve .ensures .rest) in
+    let at-kind = c .before .before .before .before .before in
+    let p = at-kind .before .before .before .before in
+    let at-judge2 = p .before .before .before .before .before in
+    let start = at-judge2 .before .before .before .before .before in
+    let a = start .args in
+    let e = rw (at-kind .enum-told5 .given .1, start .pre .3 .sum) at (p .serve .ensures .says) in
+    let rule = rules.served (restOf (a .card)) (bytesAt (a .m .now) (places (rangesOf (a .request)))) (a .reply .bytes) in
+    let same = serves-parts (a .card) rule (p .serve .result) (p .serve .ensures .whole) in
+    let q = served-queues (a .card) (p .serve .result .card) same in
     rw (served-as p _ e, ← (q .play), ← (q .capture)) (c .before .before .complete2 .ensures)
 
 release-requires : tie.Need-release-requires
@@ -101,8 +121,10 @@ same-length-4 c = search needs
 
 returns-4 : tie.Need-returns-4
 returns-4 c =
-    let p = c .before .before .before .before .before .before .before .before .before in
-    let e = rw (c .before .before .before .before .before .kind .given .1, p .before .before .before .before .before .before .before .before .before .before .pre .3 .sum) at (p .serve .ensures .says) in
+    let at-kind = c .before .before .before .before .before in
+    let p = at-kind .before .before .before .before in
+    let at-judge2 = p .before .before .before .before .before in
+    let e = rw (at-kind .kind .given .1, at-judge2 .before .before .before .before .before .pre .3 .sum) at (p .serve .ensures .says) in
     rw (served-as p _ e) (c .before .before .release .ensures)
 
 pub serve-chain-spec : {M : Type 1} → statement M

@@ -4,11 +4,16 @@ use mathlib.Core.Bool.{true, false}
 use borrow.Author.Needs.{needs}
 use Rattle.rules.specs.Control.{word}
 use Rattle.requests.specs.Requests.{listable}
-use Rattle.requests.proofs.Laws.{check-passed, check-failed, serves-refusal, serves-items, inform-refused, inform-done, listable-inside}
+use Rattle.requests.proofs.Laws.{check-passed, check-failed, serves-refusal, serves-items}
+use Rattle.requests.proofs.Laws.{inform-refused, inform-done, listable-inside}
 use Rattle.requests.proofs.inform.Statement.{statement}
 use Rattle.requests.proofs.inform.Tie as tie
 
-there : (c : tie.After-enum-told) → listable (c .before .before .before .before .before .before .before .before .before .args .card .parts) (c .before .before .before .before .before .before .before .before .before .args .l) (c .before .before .before .before .before .number32 .result) (c .before .before .before .before .number322 .result) (c .before .before .before .number323 .result) (c .before .before .before .before .before .before .before .before .before .args .room) ≡ true
+there : (c : tie.After-enum-told)
+    → let at-number32 = c .before .before .before .before .before in
+    let start = at-number32 .before .before .before .before in
+    listable (start .args .card .parts) (start .args .l) (at-number32 .number32 .result)
+    (c .before .before .before .before .number322 .result) (c .before .before .before .number323 .result) (start .args .room) ≡ true
 there c = check-passed _ (sym (c .before .before .is-listable .ensures) ∙ c .enum-told .given .1)
 
 number32-requires : tie.Need-number32-requires
@@ -37,12 +42,20 @@ same-length c = search needs
 
 returns : tie.Need-returns
 returns c =
-    let a = c .before .before .before .before .before .before .before .before .before .before .before .before .before .args in
+    let at-is-listable = c .before .before .before .before .before .before in
+    let at-number323 = at-is-listable .before in
+    let at-number322 = at-number323 .before in
+    let at-number32 = at-number322 .before in
+    let start = at-number32 .before .before .before .before in
+    let a = start .args in
     let q = a .request .now in
     let h : listable (a .card .parts) (a .l) (word q 1) (word q 2) (word q 3) (a .room) ≡ false =
-    rw (c .before .before .before .before .before .before .before .before .before .number32 .ensures, c .before .before .before .before .before .before .before .before .number322 .ensures, c .before .before .before .before .before .before .before .number323 .ensures) at (check-failed (listable (a .card .parts) (a .l) (c .before .before .before .before .before .before .before .before .before .number32 .result) (c .before .before .before .before .before .before .before .before .number322 .result) (c .before .before .before .before .before .before .before .number323 .result) (a .room)) (sym (c .before .before .before .before .before .before .is-listable .ensures) ∙ c .before .before .before .before .enum-told2 .given .1)) in
+    rw (at-number32 .number32 .ensures, at-number322 .number322 .ensures, at-number323 .number323 .ensures) at
+    (check-failed (listable (a .card .parts) (a .l) (at-number32 .number32 .result) (at-number322 .number322 .result)
+    (at-number323 .number323 .result) (a .room))
+    (sym (at-is-listable .is-listable .ensures) ∙ c .before .before .before .before .enum-told2 .given .1)) in
     rw (inform-refused (a .card) (a .l) q (a .room) h)
-    (serves-refusal (a .card) _ _ _ (c .before .before .before .before .before .before .before .before .before .before .before .before .before .pre .0) (c .before .before .reply .ensures .0) (c .before .before .reply .ensures .1))
+    (serves-refusal (a .card) _ _ _ _ (start .pre .0) (start .pre .1) (c .before .before .reply .ensures))
 
 set32-requires : tie.Need-set32-requires
 set32-requires c κs = search needs
@@ -55,10 +68,16 @@ cast-write-items-2 c = search needs
 
 write-items-requires : tie.Need-write-items-requires
 write-items-requires c κs =
-    let a = c .before .before .before .before .before .before .before .before .before .before .before .before .before .before .args in (
-      c .before .before .before .before .before .before .before .before .before .before .before .before .before .before .pre .0 .parts,
-      listable-inside (a .card .parts) (a .l) (c .before .before .before .before .before .before .before .before .before .before .number32 .result) (c .before .before .before .before .before .before .before .before .before .number322 .result) (c .before .before .before .before .before .before .before .before .number323 .result) (a .room) (there (c .before .before .before .before .before)),
-      c .before .before .before .set32 .kept .0 ∙ c .before .before .before .before .before .before .before .before .before .before .before .before .before .before .pre .1,
+    let back5 = c .before .before .before .before .before in
+    let at-number323 = back5 .before .before .before in
+    let at-number322 = at-number323 .before in
+    let at-number32 = at-number322 .before in
+    let start = at-number32 .before .before .before .before in
+    let a = start .args in (
+      start .pre .0 .parts,
+      listable-inside (a .card .parts) (a .l) (at-number32 .number32 .result) (at-number322 .number322 .result)
+      (at-number323 .number323 .result) (a .room) (there back5),
+      c .before .before .before .set32 .kept .0 ∙ start .pre .1,
     )
 
 same-length-2 : tie.Need-same-length-2
@@ -66,13 +85,20 @@ same-length-2 c = search needs
 
 returns-2 : tie.Need-returns-2
 returns-2 c =
-    let a = c .before .before .before .before .before .before .before .before .before .before .before .before .before .before .before .before .before .args in
+    let at-set32 = c .before .before .before .before .before .before in
+    let back8 = at-set32 .before .before in
+    let at-number323 = back8 .before .before .before in
+    let at-number322 = at-number323 .before in
+    let at-number32 = at-number322 .before in
+    let start = at-number32 .before .before .before .before in
+    let a = start .args in
     let q = a .request .now in
     let w = c .before .before .write-items in
     let h : listable (a .card .parts) (a .l) (word q 1) (word q 2) (word q 3) (a .room) ≡ true =
-    rw (c .before .before .before .before .before .before .before .before .before .before .before .before .before .number32 .ensures, c .before .before .before .before .before .before .before .before .before .before .before .before .number322 .ensures, c .before .before .before .before .before .before .before .before .before .before .before .number323 .ensures) at (there (c .before .before .before .before .before .before .before .before)) in
-    rw (inform-done (a .card) (a .l) q (a .room) h, ← (c .before .before .before .before .before .before .before .before .before .before .before .before .before .number32 .ensures), ← (c .before .before .before .before .before .before .before .before .before .before .before .before .number322 .ensures))
-    (serves-items (a .card) _ (a .out .now) _ _ (c .before .before .before .before .before .before .before .before .before .before .before .before .before .before .before .before .before .pre .0) (c .before .before .before .before .before .before .before .before .before .before .before .before .before .before .before .before .before .pre .1) (w .ensures .0 ∙ rw (c .before .before .before .before .before .before .set32 .ensures)) (w .ensures .1) (w .ensures .2))
+    rw (at-number32 .number32 .ensures, at-number322 .number322 .ensures, at-number323 .number323 .ensures) at (there back8) in
+    rw (inform-done (a .card) (a .l) q (a .room) h, ← (at-number32 .number32 .ensures), ← (at-number322 .number322 .ensures))
+    (serves-items (a .card) _ (a .out .now) _ _ (start .pre .0) (start .pre .1) (w .ensures .0 ∙ rw (at-set32 .set32 .ensures))
+    (w .ensures .1) (w .ensures .2))
 
 pub inform-spec : {M : Type 1} → statement M
 inform-spec =

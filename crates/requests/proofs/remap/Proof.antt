@@ -11,13 +11,24 @@ use Rattle.requests.proofs.Laws.{found-there, found-absent, serves-refu
 use Rattle.requests.proofs.remap.Statement.{statement}
 use Rattle.requests.proofs.remap.Tie as tie
 
-there : (c : tie.After-known-told) → (ltb (c .before .before .before .before .number32 .result) (c .before .before .before .before .before .before .before .before .args .card .parts .«jack_count») ≡ true) × (c .before .i .given .0 .0 ≡ c .before .before .before .before .number32 .result)
+there : (c : tie.After-known-told)
+    → let at-number32 = c .before .before .before .before in
+    let start = at-number32 .before .before .before .before in
+    (ltb (at-number32 .number32 .result) (start .args .card .parts .«jack_count») ≡ true)
+    × (c .before .i .given .0 .0 ≡ at-number32 .number32 .result)
 there c = found-there _ _ _ (sym (c .before .before .before .find .ensures) ∙ c .before .i .given .1)
 
-inside : (c : tie.After-known-told) → c .before .i .given .0 .0 < c .before .before .before .before .before .before .before .before .args .card .parts .«jack_count»
+inside : (c : tie.After-known-told)
+    → let at-i = c .before in
+    let back7 = at-i .before .before .before .before .before .before in
+    let start = back7 .before in
+    at-i .i .given .0 .0 < start .args .card .parts .«jack_count»
 inside c = rw (there c .1) (ltb-true _ _ (there c .0))
 
-at-word : (c : tie.After-known-told) → ltb (word (c .before .before .before .before .before .before .before .before .args .request .now) 1) (c .before .before .before .before .before .before .before .before .args .card .parts .«jack_count») ≡ true
+at-word : (c : tie.After-known-told)
+    → let back6 = c .before .before .before .before .before .before in
+    let start = back6 .before .before in
+    ltb (word (start .args .request .now) 1) (start .args .card .parts .«jack_count») ≡ true
 at-word c = rw (← (c .before .before .before .before .number32 .ensures)) (there c .0)
 
 number32-requires : tie.Need-number32-requires
@@ -40,16 +51,26 @@ same-length c = search needs
 
 returns : tie.Need-returns
 returns c =
-    let a = c .before .before .before .before .before .before .before .before .before .before .before .args in
-    let h : ltb (word (a .request .now) 1) (a .card .parts .«jack_count») ≡ false = rw (← (c .before .before .before .before .before .before .before .number32 .ensures)) (found-absent _ _ (sym (c .before .before .before .before .before .before .find .ensures) ∙ c .before .before .before .before .enum-told .given .1)) in
-    rw (remap-absent (a .card) (c .before .before .before .before .before .before .before .before .before .before .before .pre .0 .parts) (a .request .now) h)
-    (serves-refusal (a .card) _ _ _ (c .before .before .before .before .before .before .before .before .before .before .before .pre .0) (c .before .before .reply .ensures .0) (c .before .before .reply .ensures .1))
+    let at-find = c .before .before .before .before .before .before in
+    let at-number32 = at-find .before in
+    let start = at-number32 .before .before .before .before in
+    let a = start .args in
+    let h : ltb (word (a .request .now) 1) (a .card .parts .«jack_count») ≡ false = rw (← (at-number32 .number32 .ensures))
+    (found-absent _ _ (sym (at-find .find .ensures) ∙ c .before .before .before .before .enum-told .given .1)) in
+    rw (remap-absent (a .card) (start .pre .0 .parts) (a .request .now) h)
+    (serves-refusal (a .card) _ _ _ _ (start .pre .0) (start .pre .1) (c .before .before .reply .ensures))
 
 mul-jack : tie.Need-mul-jack
-mul-jack c = omega (arith, inside c, c .before .before .before .before .before .before .before .before .pre .0 .parts .jacks)
+mul-jack c =
+    let back6 = c .before .before .before .before .before .before in
+    let start = back6 .before .before in
+    omega (arith, inside c, start .pre .0 .parts .jacks)
 
 element-copy-out-jack : tie.Need-element-copy-out-jack
-element-copy-out-jack c = omega (arith, inside c, c .before .before .before .before .before .before .before .before .pre .0 .parts .jacks)
+element-copy-out-jack c =
+    let back6 = c .before .before .before .before .before .before in
+    let start = back6 .before .before in
+    omega (arith, inside c, start .pre .0 .parts .jacks)
 
 reply-requires-2 : tie.Need-reply-requires-2
 reply-requires-2 c κs = search needs
@@ -59,9 +80,14 @@ same-length-2 c = search needs
 
 returns-2 : tie.Need-returns-2
 returns-2 c =
-    let a = c .before .before .before .before .before .before .before .before .before .before .before .before .before .before .before .before .args in
-    rw (remap-there (a .card) (c .before .before .before .before .before .before .before .before .before .before .before .before .before .before .before .before .pre .0 .parts) (a .request .now) (at-word (c .before .before .before .before .before .before .before .before)), ← (c .before .before .before .before .before .before .before .before .before .before .before .before .number32 .ensures), ← (there (c .before .before .before .before .before .before .before .before) .1), ne-eqb _ _ (c .before .before .before .before .if1 .taken))
-    (serves-refusal (a .card) _ _ _ (c .before .before .before .before .before .before .before .before .before .before .before .before .before .before .before .before .pre .0) (c .before .before .reply2 .ensures .0) (c .before .before .reply2 .ensures .1))
+    let at-if1 = c .before .before .before .before in
+    let back8 = at-if1 .before .before .before .before in
+    let at-number32 = back8 .before .before .before .before in
+    let start = at-number32 .before .before .before .before in
+    let a = start .args in
+    rw (remap-there (a .card) (start .pre .0 .parts) (a .request .now) (at-word back8), ← (at-number32 .number32 .ensures),
+    ← (there back8 .1), ne-eqb _ _ (at-if1 .if1 .taken))
+    (serves-refusal (a .card) _ _ _ _ (start .pre .0) (start .pre .1) (c .before .before .reply2 .ensures))
 
 number32-requires-2 : tie.Need-number32-requires-2
 number32-requires-2 c κs = search needs
@@ -77,16 +103,21 @@ same-length-3 c = search needs
 
 returns-3 : tie.Need-returns-3
 returns-3 c =
-    let a = c .before .before .before .before .before .before .before .before .before .before .before .before .before .before .before .before .before .before .before .args in
+    let at-number322 = c .before .before .before .before .before .before in
+    let at-if1 = at-number322 .before in
+    let back11 = at-if1 .before .before .before .before in
+    let at-number32 = back11 .before .before .before .before in
+    let start = at-number32 .before .before .before .before in
+    let a = start .args in
     rw (
-      remap-there (a .card) (c .before .before .before .before .before .before .before .before .before .before .before .before .before .before .before .before .before .before .before .pre .0 .parts) (a .request .now) (at-word (c .before .before .before .before .before .before .before .before .before .before .before)),
-      ← (c .before .before .before .before .before .before .before .before .before .before .before .before .before .before .before .number32 .ensures),
-      ← (c .before .before .before .before .before .before .number322 .ensures),
-      ← (there (c .before .before .before .before .before .before .before .before .before .before .before) .1),
-      eq-eqb _ _ (c .before .before .before .before .before .before .before .if1 .left),
+      remap-there (a .card) (start .pre .0 .parts) (a .request .now) (at-word back11),
+      ← (at-number32 .number32 .ensures),
+      ← (at-number322 .number322 .ensures),
+      ← (there back11 .1),
+      eq-eqb _ _ (at-if1 .if1 .left),
       lt-leb _ _ (c .before .before .before .before .if2 .taken),
     )
-    (serves-refusal (a .card) _ _ _ (c .before .before .before .before .before .before .before .before .before .before .before .before .before .before .before .before .before .before .before .pre .0) (c .before .before .reply3 .ensures .0) (c .before .before .reply3 .ensures .1))
+    (serves-refusal (a .card) _ _ _ _ (start .pre .0) (start .pre .1) (c .before .before .reply3 .ensures))
 
 reply-requires-4 : tie.Need-reply-requires-4
 reply-requires-4 c κs = search needs
@@ -96,18 +127,24 @@ same-length-4 c = search needs
 
 returns-4 : tie.Need-returns-4
 returns-4 c =
-    let a = c .before .before .before .before .before .before .before .before .before .before .before .before .before .before .before .before .before .before .before .before .args in
+    let at-number323 = c .before .before .before .before .before .before in
+    let at-number322 = at-number323 .before in
+    let at-if1 = at-number322 .before in
+    let back12 = at-if1 .before .before .before .before in
+    let at-number32 = back12 .before .before .before .before in
+    let start = at-number32 .before .before .before .before in
+    let a = start .args in
     rw (
-      remap-there (a .card) (c .before .before .before .before .before .before .before .before .before .before .before .before .before .before .before .before .before .before .before .before .pre .0 .parts) (a .request .now) (at-word (c .before .before .before .before .before .before .before .before .before .before .before .before)),
-      ← (c .before .before .before .before .before .before .before .before .before .before .before .before .before .before .before .before .number32 .ensures),
-      ← (c .before .before .before .before .before .before .before .number322 .ensures),
-      ← (c .before .before .before .before .before .before .number323 .ensures),
-      ← (there (c .before .before .before .before .before .before .before .before .before .before .before .before) .1),
-      eq-eqb _ _ (c .before .before .before .before .before .before .before .before .if1 .left),
+      remap-there (a .card) (start .pre .0 .parts) (a .request .now) (at-word back12),
+      ← (at-number32 .number32 .ensures),
+      ← (at-number322 .number322 .ensures),
+      ← (at-number323 .number323 .ensures),
+      ← (there back12 .1),
+      eq-eqb _ _ (at-if1 .if1 .left),
       le-leb _ _ (c .before .before .before .before .before .if2 .left),
       lt-leb _ _ (c .before .before .before .before .if3 .taken),
     )
-    (serves-refusal (a .card) _ _ _ (c .before .before .before .before .before .before .before .before .before .before .before .before .before .before .before .before .before .before .before .before .pre .0) (c .before .before .reply4 .ensures .0) (c .before .before .reply4 .ensures .1))
+    (serves-refusal (a .card) _ _ _ _ (start .pre .0) (start .pre .1) (c .before .before .reply4 .ensures))
 
 mul-t26 : tie.Need-mul-t26
 mul-t26 c = search needs
@@ -122,28 +159,48 @@ add-t29 : tie.Need-add-t29
 add-t29 c = search needs
 
 with-jack-requires : tie.Need-with-jack-requires
-with-jack-requires c κs = omega (arith, inside (c .before .before .before .before .before .before .before .before .before), c .before .before .before .before .before .before .before .before .before .before .before .before .before .before .before .before .before .pre .0 .parts .jacks)
+with-jack-requires c κs =
+    let back6 = c .before .before .before .before .before .before in
+    let back9 = back6 .before .before .before in
+    let back15 = back9 .before .before .before .before .before .before in
+    let start = back15 .before .before in
+    omega (arith, inside back9, start .pre .0 .parts .jacks)
 
 reply-requires-5 : tie.Need-reply-requires-5
-reply-requires-5 c κs = c .before .before .before .before .before .before .before .before .before .before .before .before .before .before .before .before .before .before .before .pre .1
+reply-requires-5 c κs =
+    let back6 = c .before .before .before .before .before .before in
+    let back12 = back6 .before .before .before .before .before .before in
+    let back18 = back12 .before .before .before .before .before .before in
+    let start = back18 .before in
+    start .pre .1
 
 same-length-5 : tie.Need-same-length-5
 same-length-5 c = search needs
 
 returns-5 : tie.Need-returns-5
 returns-5 c =
-    let a = c .before .before .before .before .before .before .before .before .before .before .before .before .before .before .before .before .before .before .before .before .before .before .args in
+    let at-if3 = c .before .before .before .before .before .before in
+    let at-if2 = at-if3 .before in
+    let at-number323 = at-if2 .before in
+    let at-number322 = at-number323 .before in
+    let at-if1 = at-number322 .before in
+    let back14 = at-if1 .before .before .before .before in
+    let at-number32 = back14 .before .before .before .before in
+    let start = at-number32 .before .before .before .before in
+    let a = start .args in
     rw (
-      remap-there (a .card) (c .before .before .before .before .before .before .before .before .before .before .before .before .before .before .before .before .before .before .before .before .before .before .pre .0 .parts) (a .request .now) (at-word (c .before .before .before .before .before .before .before .before .before .before .before .before .before .before)),
-      ← (c .before .before .before .before .before .before .before .before .before .before .before .before .before .before .before .before .before .before .number32 .ensures),
-      ← (c .before .before .before .before .before .before .before .before .before .number322 .ensures),
-      ← (c .before .before .before .before .before .before .before .before .number323 .ensures),
-      ← (there (c .before .before .before .before .before .before .before .before .before .before .before .before .before .before) .1),
-      eq-eqb _ _ (c .before .before .before .before .before .before .before .before .before .before .if1 .left),
-      le-leb _ _ (c .before .before .before .before .before .before .before .if2 .left),
-      le-leb _ _ (c .before .before .before .before .before .before .if3 .left),
+      remap-there (a .card) (start .pre .0 .parts) (a .request .now) (at-word back14),
+      ← (at-number32 .number32 .ensures),
+      ← (at-number322 .number322 .ensures),
+      ← (at-number323 .number323 .ensures),
+      ← (there back14 .1),
+      eq-eqb _ _ (at-if1 .if1 .left),
+      le-leb _ _ (at-if2 .if2 .left),
+      le-leb _ _ (at-if3 .if3 .left),
     )
-    (serves-jack (a .card) _ _ _ _ (c .before .before .before .before .before .before .before .before .before .before .before .before .before .before .before .before .before .before .before .before .before .before .pre .0) (inside (c .before .before .before .before .before .before .before .before .before .before .before .before .before .before)) (c .before .before .reply5 .ensures .0 ∙ rw (c .before .before .before .before .with-jack .ensures)) (c .before .before .reply5 .ensures .1))
+    (serves-jack (a .card) _ _ _ _ _ (start .pre .0) (start .pre .1) (inside back14)
+    (c .before .before .reply5 .ensures .0 ∙ rw (c .before .before .before .before .with-jack .ensures))
+    (c .before .before .reply5 .ensures .1))
 
 pub remap-spec : {M : Type 1} → statement M
 remap-spec =

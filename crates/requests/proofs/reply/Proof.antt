@@ -1,7 +1,7 @@
--- The code is stored in the first four bytes.
-use mathlib.Core.Path.{refl}
+-- The code is stored in the first four bytes, and nothing else.
+use mathlib.Core.Path.{_∙_, refl}
 use borrow.Author.Needs.{needs}
-use Rattle.requests.proofs.Laws.{status-first}
+use Rattle.information.proofs.Laws.{put-sets}
 use Rattle.requests.proofs.reply.Statement.{statement}
 use Rattle.requests.proofs.reply.Tie as tie
 
@@ -12,7 +12,7 @@ same-length : tie.Need-same-length
 same-length c = search needs
 
 returns : tie.Need-returns
-returns c = (refl, rw (c .before .before .set32 .ensures) (status-first _ _ (c .before .before .before .before .before .pre)))
+returns c = (refl, c .before .before .set32 .ensures ∙ put-sets 4 _ 0 _)
 
 pub reply-spec : {M : Type 1} → statement M
 reply-spec = tie.close (tie.spec set32-requires same-length returns)
