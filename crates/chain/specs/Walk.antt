@@ -136,7 +136,18 @@ pub record Joins (c : Chain) (d : Descriptor) (w : Walked) : Type 0 where
   pub sound : SoundChain (w .chain)
   pub more : w .chain .request .count + w .chain .reply .count ≤ c .request .count + c .reply .count + 1
 
--- the whole walk; the chain is sound after a fault too
+-- the ranges followed to the end of the chain or to a fault; the chain is sound after a fault too
+pub record Follows (m : List ℕ) (table size head : ℕ) (negotiated : Bool) (w : Walked) : Type 0 where
+  pub outcome : outcomeOf w ≡ walkOf m table size head negotiated
+  pub sound : SoundChain (w .chain)
+
+-- no ranges after a fault
+abbrev pub Cleared : End → Chain → Type 0
+Cleared Whole c = Unit
+Cleared (Faulted f) c = c ≡ emptyChain
+
+-- the whole walk: its outcome is the rule's, and after a fault the chain is empty
 pub record Walks (m : List ℕ) (table size head : ℕ) (negotiated : Bool) (w : Walked) : Type 0 where
   pub outcome : outcomeOf w ≡ walkOf m table size head negotiated
   pub sound : SoundChain (w .chain)
+  pub cleared : Cleared (w .end) (w .chain)

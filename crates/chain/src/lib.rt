@@ -3,7 +3,7 @@
 ghost use mathlib.Core.Path.{_≡_};
 ghost use Prim.Native.Nat.{_+_, _*_, _<_};
 ghost use Rattle.chain.specs.declared.End.the-variants.{Faulted};
-ghost use Rattle.chain.specs.Walk.{descriptorAt, hasNext, isWritable, isIndirect, rangeOf, enterOf, SoundChain, emptyChain, Joins, Walks};
+ghost use Rattle.chain.specs.Walk.{descriptorAt, hasNext, isWritable, isIndirect, rangeOf, enterOf, SoundChain, emptyChain, Joins, Follows, Walks};
 use counts::DescriptorNumber;
 use counts::GuestAddress;
 use memory::get16;
@@ -62,7 +62,7 @@ pub struct Chain {
     pub reply: Ranges,
 }
 
-// What a walk gives; after a fault the chain is what was read so far.
+// What a walk gives; after a fault the chain is empty.
 pub struct Walked {
     pub end: End,
     pub chain: Chain,
@@ -188,15 +188,15 @@ fn enter(ram: usize, negotiated: bool, d: Descriptor) -> End
 }
 
 // The chain that begins at `head` in the table of `size` descriptors at `table`; `indirect` says
-// that bit 28 is negotiated.
-pub fn walk(
+// that bit 28 is negotiated. After a fault the chain is what was read so far.
+fn follow(
     m: &[u8],
     table: GuestAddress,
     size: u16,
     head: DescriptorNumber,
     indirect: bool,
 ) -> Walked
-    ensures { λ r. ⌜ Walks (now (m .entry)) (table .0) size (head .0) indirect r ⌝ }
+    ensures { λ r. ⌜ Follows (now (m .entry)) (table .0) size (head .0) indirect r ⌝ }
 {
     let mut chain = Chain::empty();
     let mut number = head;
@@ -252,5 +252,25 @@ pub fn walk(
         }
         number = d.next;
     };
+    Walked { end, chain }
+}
+
+// The walk of the chain at `head`: its ranges, or a fault and no ranges.
+pub fn walk(
+    m: &[u8],
+    table: GuestAddress,
+    size: u16,
+    head: DescriptorNumber,
+    indirect: bool,
+) -> Walked
+    ensures { λ r. ⌜ Walks (now (m .entry)) (table .0) size (head .0) indirect r ⌝ }
+{
+    let walked = follow(m, table, size, head, indirect);
+    let end = walked.end;
+    let chain = walked.chain;
+    let nothing = Chain::empty();
+    if let End::Faulted(fault) = end {
+        return nothing.stopped(fault);
+    }
     Walked { end, chain }
 }

@@ -32,8 +32,11 @@ returns c =
     let start = at-number32 .before .before .before .before in
     let a = start .args in
     let n = at-number32 .number32 in
-    rw (← (n .ensures), lawfully-false (a .card) (a .command) (n .result) _
-    (found-absent _ _ (sym (at-stream-for .stream-for .ensures) ∙ c .before .before .before .before .enum-told2 .given .1)))
+    rw (
+      ← (n .ensures),
+      lawfully-false (a .card) (a .command) (n .result) _
+          (found-absent _ _ (sym (at-stream-for .stream-for .ensures) ∙ c .before .before .before .before .enum-told2 .given .1)),
+    )
     (serves-refusal (a .card) _ _ _ _ (start .pre .0) (start .pre .1) (c .before .before .reply .ensures))
 
 returns-2 : tie.Need-returns-2

@@ -86,8 +86,11 @@ returns c =
     let start = at-number32 .before .before .before .before in
     let a = start .args in
     let n = at-number32 .number32 in
-    rw (← (n .ensures), lawfully-false (a .card) (a .command) (n .result) _
-    (found-absent _ _ (sym (at-stream-for .stream-for .ensures) ∙ c .before .before .before .before .enum-told .given .1)))
+    rw (
+      ← (n .ensures),
+      lawfully-false (a .card) (a .command) (n .result) _
+          (found-absent _ _ (sym (at-stream-for .stream-for .ensures) ∙ c .before .before .before .before .enum-told .given .1)),
+    )
     (serves-refusal (a .card) _ _ _ _ (start .pre .0) (start .pre .1) (c .before .before .reply .ensures))
 
 mul-stream : tie.Need-mul-stream
@@ -137,8 +140,12 @@ returns-2 c =
     rw (at-params-in .params-in .ensures, at-number8 .number8 .ensures) at
     (check-failed (not (malformed (at-params-in .params-in .result) (at-number8 .number8 .result)))
     (sym (at-well-formed .well-formed .ensures) ∙ c .before .before .before .before .enum-told3 .given .1)) in
-    rw (set-malformed (restOf (a .card)) (a .request .now) (not-false _ e), ← (n .ensures), lawfully-true (a .card) (a .command)
-    (n .result) _ (there back11 .0))
+    rw (
+      set-malformed (restOf (a .card)) (a .request .now) (not-false _ e),
+      ← (n .ensures),
+      lawfully-true (a .card) (a .command)
+          (n .result) _ (there back11 .0),
+    )
     (serves-refusal (a .card) _ _ _ _ (start .pre .0) (start .pre .1) (c .before .before .reply2 .ensures))
 
 is-offered-requires : tie.Need-is-offered-requires
@@ -174,8 +181,12 @@ returns-3 c =
     (sym (at-is-offered .is-offered .ensures) ∙ c .before .before .before .before .enum-told5 .given .1)) in
     let l : offered (streamAt (restOf (a .card)) (word (a .request .now) 1) .info) (paramsOf (a .request .now)) ≡ false = rw
     (the-stream back7) o in
-    rw (set-lacking (restOf (a .card)) (a .request .now) (well back7) l, ← (n .ensures), lawfully-true (a .card) (a .command)
-    (n .result) _ (there back14 .0))
+    rw (
+      set-lacking (restOf (a .card)) (a .request .now) (well back7) l,
+      ← (n .ensures),
+      lawfully-true (a .card) (a .command)
+          (n .result) _ (there back14 .0),
+    )
     (serves-refusal (a .card) _ _ _ _ (start .pre .0) (start .pre .1) (c .before .before .reply3 .ensures))
 
 with-stream-requires : tie.Need-with-stream-requires
@@ -216,8 +227,14 @@ returns-4 c =
     (at-params-in .params-in .result)) (sym (at-is-offered .is-offered .ensures) ∙ at-enum-told4 .enum-told4 .given .1)) in
     let l : offered (streamAt (restOf (a .card)) (word (a .request .now) 1) .info) (paramsOf (a .request .now)) ≡ true = rw
     (the-stream back8) o in
-    rw (set-done (restOf (a .card)) (a .request .now) (well back8) l, ← (n .ensures), lawfully-true (a .card) (a .command)
-    (n .result) _ (t .0), ← (t .1), stream-at (a .card) _ (there back15 .2))
+    rw (
+      set-done (restOf (a .card)) (a .request .now) (well back8) l,
+      ← (n .ensures),
+      lawfully-true (a .card) (a .command)
+          (n .result) _ (t .0),
+      ← (t .1),
+      stream-at (a .card) _ (there back15 .2),
+    )
     (serves-stream (a .card) _ _ _ _ _ (start .pre .0) (start .pre .1) (there back15 .2) (omega arith)
     (c .before .before .reply4 .ensures .0 ∙ rw
     (c .before .before .before .before .with-stream .ensures, at-params-in .params-in .ensures)) (c .before .before .reply4 .ensures .1))

@@ -76,7 +76,7 @@ write-items-requires c κs =
     let a = start .args in (
       start .pre .0 .parts,
       listable-inside (a .card .parts) (a .l) (at-number32 .number32 .result) (at-number322 .number322 .result)
-      (at-number323 .number323 .result) (a .room) (there back5),
+          (at-number323 .number323 .result) (a .room) (there back5),
       c .before .before .before .set32 .kept .0 ∙ start .pre .1,
     )
 

@@ -85,8 +85,12 @@ returns-2 c =
     let at-number32 = back8 .before .before .before .before in
     let start = at-number32 .before .before .before .before in
     let a = start .args in
-    rw (remap-there (a .card) (start .pre .0 .parts) (a .request .now) (at-word back8), ← (at-number32 .number32 .ensures),
-    ← (there back8 .1), ne-eqb _ _ (at-if1 .if1 .taken))
+    rw (
+      remap-there (a .card) (start .pre .0 .parts) (a .request .now) (at-word back8),
+      ← (at-number32 .number32 .ensures),
+      ← (there back8 .1),
+      ne-eqb _ _ (at-if1 .if1 .taken),
+    )
     (serves-refusal (a .card) _ _ _ _ (start .pre .0) (start .pre .1) (c .before .before .reply2 .ensures))
 
 number32-requires-2 : tie.Need-number32-requires-2
