@@ -9,7 +9,6 @@ use borrow.Author.Tests.{le-leb, ltb-true, ltb-false}
 use lib.Dec.{ltb}
 use lib.ListN.{length, drop, length-append, length-drop}
 use lib.Seq.{getD-append-seam}
-use Rattle.counts.specs.declared.PageNumber.{PageNumber}
 use Rattle.memory.specs.Bytes.{le}
 use Rattle.ranges.proofs.Laws.{length-upFrom}
 use Rattle.registers.specs.Map.{sizeOf}
@@ -59,16 +58,16 @@ unless false y e f = refl
 no-room : (n : ℕ) → ltb 0 n ≡ false → n ≡ 0
 no-room n e = omega (arith, ltb-false 0 n e)
 
-module _ (page : PageNumber) (negotiated : Bool) (call : Ending) (m : List ℕ) (h : History) where
+module _ (lies : Virtqueue) (call : Ending) (m : List ℕ) (h : History) where
   pub record Fair (s : Run History) : Type 0 where
-    pub sofar : Sofar page negotiated call m h s
+    pub sofar : Sofar lies call m h s
     pub well : Well (s .queue)
 
   abbrev q : Virtqueue
-  q = v page negotiated
+  q = v lies
 
   abbrev hs : Ops History
-  hs = ops page negotiated
+  hs = ops
 
   -- no message is in work after a completion
   completed-free : (w : List ℕ) (s : Run History) (e : Ending) → Good output w (s .queue) → free (completed hs q e s .queue) ≡ true
@@ -80,13 +79,13 @@ module _ (page : PageNumber) (negotiated : Bool) (call : Ending) (m : List ℕ) 
       (w : List ℕ) (s : Run History) (e : Ending)
       → Good output w (s .queue)
       → free (s .queue) ≡ false
-      → Fits page negotiated call m h e (current (s .queue) .form)
+      → Fits lies call m h e (current (s .queue) .form)
       → (call ≡ finished → waiting output (s .queue) ≡ [])
-      → Sofar page negotiated call m h s
+      → Sofar lies call m h s
       → Fair (completed hs q e s)
   completed-fair w s e g busy fits spent f =
       record {
-        sofar = completed-sofar page negotiated call m h w s g busy e fits spent f;
+        sofar = completed-sofar lies call m h w s g busy e fits spent f;
         well = λ b. absurd (true≢false (sym (completed-free w s e g) ∙ b));
       }
 
@@ -103,7 +102,7 @@ module _ (page : PageNumber) (negotiated : Bool) (call : Ending) (m : List ℕ) 
     nothing-waits e = none-left output (took output t (s .queue)) (rw (taken-now, e) (omega arith))
 
     entered-fair :
-        (Sofar page negotiated call m h (taking hs q t s)) → Fair (entered hs q t s)
+        (Sofar lies call m h (taking hs q t s)) → Fair (entered hs q t s)
     unfolding entered
     entered-fair f =
         by-cond Fair (isWell (t .form)) (λ e. record { sofar = f; well = λ b. rw taken-now (well-of (t .form) e) })
@@ -114,11 +113,11 @@ module _ (page : PageNumber) (negotiated : Bool) (call : Ending) (m : List ℕ) 
   next-fair : (w : List ℕ) (s : Run History) → Good output w (s .queue) → free (s .queue) ≡ true → Fair s → Fair (next hs q s)
   unfolding next headAt sizeOf
   next-fair w s g idle f =
-      let head : ℕ = le 2 (s .mem) (baseOf page + (4100 + 2 * (length (s .queue .takings) % 256))) in
+      let head : ℕ = le 2 (s .mem) (baseOf (lies .page) + (4100 + 2 * (length (s .queue .takings) % 256))) in
       by-cond (λ (x : Head). Fair (met hs q x s)) (ltb head 256)
       (λ e.
       entered-fair w s g idle (takingOf q (s .mem) head)
-      (taking-sofar page negotiated call m h w s g idle (takingOf q (s .mem) head) (f .sofar) refl (ltb-true head 256 e)))
+      (taking-sofar lies call m h w s g idle (takingOf q (s .mem) head) (f .sofar) refl (ltb-true head 256 e)))
       (λ e. record { sofar = record { adds = f .sofar .adds; memory = f .sofar .memory; order = f .sofar .order }; well = f .well })
 
   -- the host has no part in it
@@ -140,7 +139,7 @@ module _ (page : PageNumber) (negotiated : Bool) (call : Ending) (m : List ℕ) 
 
   next-beside : (s : Run History) → Beside s (next hs q s)
   unfolding next
-  next-beside s = met-beside (headAt (s .mem) page (sizeOf 2) (hs .place (s .queue))) s
+  next-beside s = met-beside (headAt (s .mem) (lies .page) (sizeOf 2) (hs .place (s .queue))) s
 
   -- ---- at the start of a call
 
@@ -171,17 +170,17 @@ module _ (page : PageNumber) (negotiated : Bool) (call : Ending) (m : List ℕ) 
 
 -- ---- a play
 
-module _ (page : PageNumber) (negotiated : Bool) (m : List ℕ) (h : History) (w host : List ℕ) where
+module _ (lies : Virtqueue) (m : List ℕ) (h : History) (w host : List ℕ) where
   abbrev vq : Virtqueue
-  vq = v page negotiated
+  vq = v lies
 
   abbrev over : Ops History
-  over = ops page negotiated
+  over = ops
 
   -- what the simulation keeps, and what was added so far; without room, something of the message in work waits
   pub record Playing (s : Run History) : Type 0 where
     pub kept : Moved over (card output) vq queueOf (Good output) (alike output) w host s
-    pub fair : Fair page negotiated finished m h s
+    pub fair : Fair lies finished m h s
     pub waits : s .room ≡ 0 → Waits (s .queue)
 
   module _ (s : Run History) (p : Playing s) (busy : free (s .queue) ≡ false) where
@@ -194,19 +193,19 @@ module _ (page : PageNumber) (negotiated : Bool) (m : List ℕ) (h : History) (w
     on-busy : free (on .queue) ≡ false
     on-busy = moved-busy over (card output) vq queueOf (Good output) (alike output) w host s busy
 
-    on-fair : Fair page negotiated finished m h on
+    on-fair : Fair lies finished m h on
     unfolding moved noted
     on-fair =
         record {
-          sofar = moved-sofar page negotiated finished m h (w ++ s .bytes) s (p .kept .kept) busy (p .fair .well busy) (p .fair .sofar);
+          sofar = moved-sofar lies finished m h (w ++ s .bytes) s (p .kept .kept) busy (p .fair .well busy) (p .fair .sofar);
           well = p .fair .well;
         }
 
-    settled-fair : Fair page negotiated finished m h (settled over vq on)
+    settled-fair : Fair lies finished m h (settled over vq on)
     settled-fair =
-        by-cond (Fair page negotiated finished m h) (isNil (over .left (on .queue)))
+        by-cond (Fair lies finished m h) (isNil (over .left (on .queue)))
         (λ e.
-        completed-fair page negotiated finished m h (w ++ on .bytes) on finished (on-kept .kept) on-busy
+        completed-fair lies finished m h (w ++ on .bytes) on finished (on-kept .kept) on-busy
         (rw (on-fair .well on-busy) (played refl refl)) (λ c. nothing-left output (on .queue) (nil-true (over .left (on .queue)) e))
         (on-fair .sofar))
         (λ e. on-fair)
@@ -215,7 +214,7 @@ module _ (page : PageNumber) (negotiated : Bool) (m : List ℕ) (h : History) (w
     settled-waits =
         by-cond (λ (u : Run History). Waits (u .queue)) (isNil (over .left (on .queue))) {x = completed over vq finished on} {y = on}
         (λ e b.
-        absurd (true≢false (sym (completed-free page negotiated finished m h (w ++ on .bytes) on finished (on-kept .kept)) ∙ b)))
+        absurd (true≢false (sym (completed-free lies finished m h (w ++ on .bytes) on finished (on-kept .kept)) ∙ b)))
         (λ e b. left-waits (on .queue) e)
 
   -- after work, something of a message in work waits
@@ -230,7 +229,7 @@ module _ (page : PageNumber) (negotiated : Bool) (m : List ℕ) (h : History) (w
       record {
         kept = worked-keeps over (card output) vq queueOf (Good output) (alike output) w host s (p .kept);
         fair =
-            by-cond (Fair page negotiated finished m h) (ltb 0 (s .room) && not (free (s .queue)))
+            by-cond (Fair lies finished m h) (ltb 0 (s .room) && not (free (s .queue)))
             (λ e. settled-fair s p (works-busy over (card output) vq queueOf (Good output) (alike output) w host s e)) (λ e. p .fair);
         waits = λ z. worked-waits s p;
       }
@@ -245,8 +244,8 @@ module _ (page : PageNumber) (negotiated : Bool) (m : List ℕ) (h : History) (w
       let idle = transfer-free over (card output) vq queueOf (Good output) (alike output) w host s e in
       record {
         kept = moved-next over (card output) vq queueOf (Good output) (alike output) w host s (p .kept) idle;
-        fair = next-fair page negotiated finished m h (w ++ s .bytes) s (p .kept .kept) idle (p .fair);
-        waits = λ z. absurd (some-room s e (sym (next-beside page negotiated finished m h s .same-room) ∙ z));
+        fair = next-fair lies finished m h (w ++ s .bytes) s (p .kept .kept) idle (p .fair);
+        waits = λ z. absurd (some-room s e (sym (next-beside lies finished m h s .same-room) ∙ z));
       }
 
   module _ (k : ℕ) (g : Good output w h) (well : Well h) (waits : Waits h) (order : InOrder 0 (length (h .takings)) (h .notes)) where
@@ -254,11 +253,11 @@ module _ (page : PageNumber) (negotiated : Bool) (m : List ℕ) (h : History) (w
     begins =
         record {
           kept = begun-moved over (card output) vq queueOf (Good output) (alike output) w host h m g;
-          fair = begun-fair page negotiated finished m h host well order;
+          fair = begun-fair lies finished m h host well order;
           waits = λ z. waits;
         }
 
-    pub play-fair : Fair page negotiated finished m h (transferRun over vq k (begun h m host))
+    pub play-fair : Fair lies finished m h (transferRun over vq k (begun h m host))
     unfolding transferRun
     play-fair =
         loop-keeps Playing (worked over vq) (transferMore over vq) (next over vq) worked-playing next-playing k (begun h m host) begins .fair
@@ -274,17 +273,17 @@ module _ (page : PageNumber) (negotiated : Bool) (m : List ℕ) (h : History) (w
 released-not : released ≡ finished → ⊥
 released-not e = let z : _≡_ {A = ℕ} 0 1 = cc in omega arith
 
-module _ (page : PageNumber) (negotiated : Bool) (m : List ℕ) (h : History) (w : List ℕ) where
+module _ (lies : Virtqueue) (m : List ℕ) (h : History) (w : List ℕ) where
   abbrev at : Virtqueue
-  at = v page negotiated
+  at = v lies
 
   abbrev by : Ops History
-  by = ops page negotiated
+  by = ops
 
   -- .. and a Release hands nothing on
   pub record Releasing (s : Run History) : Type 0 where
     pub kept : Good output w (s .queue)
-    pub fair : Fair page negotiated released m h s
+    pub fair : Fair lies released m h s
     pub mute : s .bytes ≡ []
 
   give-releasing : (s : Run History) → Releasing s → Releasing (givenUp by at s)
@@ -292,13 +291,13 @@ module _ (page : PageNumber) (negotiated : Bool) (m : List ℕ) (h : History) (w
       record {
         kept = give-keeps by (card output) at queueOf (Good output) (alike output) (λ o. w) s (p .kept);
         fair =
-            by-cond (Fair page negotiated released m h) (free (s .queue)) (λ e. p .fair)
+            by-cond (Fair lies released m h) (free (s .queue)) (λ e. p .fair)
             (λ e.
-            completed-fair page negotiated released m h w s released (p .kept) e (rw (p .fair .well e) (ended refl refl))
+            completed-fair lies released m h w s released (p .kept) e (rw (p .fair .well e) (ended refl refl))
             (λ c. absurd (released-not c)) (p .fair .sofar));
         mute =
             by-cond (λ (u : Run History). u .bytes ≡ []) (free (s .queue)) {x = s} {y = completed by at released s} (λ e. p .mute)
-            (λ e. completed-beside page negotiated released m h released s s (record { same-room = refl; same-bytes = refl }) .same-bytes ∙ p .mute);
+            (λ e. completed-beside lies released m h released s s (record { same-room = refl; same-bytes = refl }) .same-bytes ∙ p .mute);
       }
 
   next-releasing : (s : Run History) → Releasing s → releaseMore by at s ≡ true → Releasing (next by at s)
@@ -306,19 +305,19 @@ module _ (page : PageNumber) (negotiated : Bool) (m : List ℕ) (h : History) (w
       let idle = release-free by (card output) at queueOf (Good output) (alike output) w s e in
       record {
         kept = next-keeps by (card output) at queueOf (Good output) (alike output) (λ o. w) s (p .kept) idle;
-        fair = next-fair page negotiated released m h w s (p .kept) idle (p .fair);
-        mute = next-beside page negotiated released m h s .same-bytes ∙ p .mute;
+        fair = next-fair lies released m h w s (p .kept) idle (p .fair);
+        mute = next-beside lies released m h s .same-bytes ∙ p .mute;
       }
 
   -- nothing is in work once a Release has given up
   give-free : (s : Run History) → Releasing s → free (givenUp by at s .queue) ≡ true
   give-free s p =
       by-cond (λ (u : Run History). free (u .queue) ≡ true) (free (s .queue)) {x = s} {y = completed by at released s} (λ e. e)
-      (λ e. completed-free page negotiated released m h w s released (p .kept))
+      (λ e. completed-free lies released m h w s released (p .kept))
 
   module _ (k : ℕ) (g : Good output w h) (well : Well h) (order : InOrder 0 (length (h .takings)) (h .notes)) where
     opens : Releasing (begun h m [])
-    opens = record { kept = g; fair = begun-fair page negotiated released m h [] well order; mute = refl }
+    opens = record { kept = g; fair = begun-fair lies released m h [] well order; mute = refl }
 
     pub release-fair : Releasing (releaseRun by at k (begun h m []))
     unfolding releaseRun

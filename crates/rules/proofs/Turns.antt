@@ -10,16 +10,15 @@ use native.Mathlib.Omega.{arith}
 use borrow.Author.Tests.{ne-eqb, leb-true, leb-false, lt-leb}
 use lib.Dec.{eqb, leb}
 use lib.ListN.{length, List·getD-append}
-use Rattle.counts.specs.declared.PageNumber.{PageNumber}
 use Rattle.registers.specs.Answers.{done, lengthDiffers, notLive, notRunning}
 use Rattle.registers.specs.Map.{sizeOf}
 use Rattle.registers.specs.Rules.{live, writeOf, signalled}
 use Rattle.registers.specs.declared.Registers.{Registers}
 use Rattle.ring.specs.declared.Check.{Check}
 use Rattle.rules.specs.Account.{takingAt, entryAt, entriesWritten, Answered, Adds, ifNew, ordersRelease, addsBy, startsAnew, releaseReplied, Turn, Book, end}
-use Rattle.rules.specs.Calls.{Request, ReadRegister, WriteRegister, Control, Play, Capture, Event, Call, Told, Order, Done, ReleaseFirst, Pending, Emptied, emptiedFound, emptied, indirect, virtqueueOf, clearsQueue, orderOf, replied, releasedOf, Transferred, untouched, isRunning, transferFound, transferred, readStep, writeStep, releaseStep, transferStep, ordered, asked}
+use Rattle.rules.specs.Calls.{Request, ReadRegister, WriteRegister, Control, Play, Capture, Event, Call, Told, Order, Done, ReleaseFirst, Pending, Emptied, emptiedFound, emptied, virtqueueOf, clearsQueue, orderOf, replied, releasedOf, Transferred, untouched, isRunning, transferFound, transferred, readStep, writeStep, releaseStep, transferStep, ordered, asked}
 use Rattle.rules.specs.Claim.{Good, clears, account}
-use Rattle.rules.specs.Device.{output, Ending, finished, released, Rest, Device, pageOf, bytesOf}
+use Rattle.rules.specs.Device.{output, Virtqueue, Ending, finished, released, Rest, Device, pageOf, bytesOf}
 use Rattle.rules.specs.Histories.{History, blank, number}
 use Rattle.rules.specs.Numbers.{playQueue}
 use Rattle.rules.specs.Transfer.{Run, found}
@@ -51,8 +50,8 @@ module _ (w : List ℕ) (h : History) (g : Good output w h) (b : Book h) where
   waits busy = b .waits (leb-false (length (h .takings)) (number h) busy)
 
   -- the book after a run: old entries stand, new ones answer as the call's do
-  module _ (page : PageNumber) (negotiated : Bool) (call : Ending) (m : List ℕ) (s : Run History)
-      (f : Fair page negotiated call m h s)
+  module _ (lies : Virtqueue) (call : Ending) (m : List ℕ) (s : Run History)
+      (f : Fair lies call m h s)
       (x : Waits (s .queue))
       (as′ : (k : ℕ) → Answered call (takingAt (s .queue) k) (entryAt (s .queue) k)
       → Answered finished (takingAt (s .queue) k) (entryAt (s .queue) k) ⊎ Answered released (takingAt (s .queue) k) (entryAt (s .queue) k)) where
@@ -96,12 +95,12 @@ module _ (w : List ℕ) (h : History) (g : Good output w h) (b : Book h) where
     found-played Check.Idle = unplayed _ _
     found-played (Check.Broken cause) = unplayed _ _
     found-played (Check.New n) =
-        let p = play-fair (pageOf r playQueue) (indirect r) m h w host n g well waits (b .in-order) in
-        let x = play-waits (pageOf r playQueue) (indirect r) m h w host n g well waits (b .in-order) in
+        let p = play-fair (virtqueueOf r output) m h w host n g well waits (b .in-order) in
+        let x = play-waits (virtqueueOf r output) m h w host n g well waits (b .in-order) in
         record {
           same = λ e. absurd (none-some finished (sym e));
           adds = λ e. (p .sofar .adds, p .sofar .memory);
-          book = book-after (pageOf r playQueue) (indirect r) finished m _ p x (λ k a. inl a);
+          book = book-after (virtqueueOf r output) finished m _ p x (λ k a. inl a);
         }
 
     played : Played (transferred (account output) output r h m host) (addsBy (Play host) r h m)
@@ -132,12 +131,12 @@ module _ (w : List ℕ) (h : History) (g : Good output w h) (b : Book h) where
     found-given Check.Idle = record { same = λ e. refl; adds = λ e. absurd (none-some released e); book = b }
     found-given (Check.Broken cause) = record { same = λ e. refl; adds = λ e. absurd (none-some released e); book = b }
     found-given (Check.New n) =
-        let q = release-fair (pageOf (p .rest) playQueue) (indirect (p .rest)) m h w n g well (b .in-order) in
-        let x = release-ends (pageOf (p .rest) playQueue) (indirect (p .rest)) m h w n g well (b .in-order) in
+        let q = release-fair (virtqueueOf (p .rest) output) m h w n g well (b .in-order) in
+        let x = release-ends (virtqueueOf (p .rest) output) m h w n g well (b .in-order) in
         record {
           same = λ e. absurd (none-some released (sym e));
           adds = λ e. (rw (q .mute) at (q .fair .sofar .adds), q .fair .sofar .memory);
-          book = book-after (pageOf (p .rest) playQueue) (indirect (p .rest)) released m _ (q .fair) (λ e. absurd (true≢false (sym x ∙ e))) (λ k a. inr a);
+          book = book-after (virtqueueOf (p .rest) output) released m _ (q .fair) (λ e. absurd (true≢false (sym x ∙ e))) (λ k a. inr a);
         }
 
     given :

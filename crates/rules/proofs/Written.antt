@@ -1,7 +1,7 @@
 -- What a play or a Release adds, kept by each step of the rules over histories: a taking sees the memory that the entries before it
 -- left, a byte handed on too, and a completion writes its entry behind them.
 use mathlib.Core.Path.{_≡_, refl, sym, ap, _∙_}
-use mathlib.Core.Bool.{Bool, true, false, true≢false}
+use mathlib.Core.Bool.{true, false, true≢false}
 use mathlib.Core.List.{List, [], _∷_, _++_, append-nil, append-assoc, map-append}
 use mathlib.Core.Option.{Option, none, some}
 use Prim.Native.Nat.{ℕ, zero, suc, _+_, _-_, _*_, _%_, _≤_, _<_}
@@ -99,15 +99,22 @@ module _ (page : PageNumber) where
 
 -- ---- what a run has added so far
 
-module _ (page : PageNumber) (negotiated : Bool) where
-  abbrev pub v : Virtqueue
-  v = record { direction = output; page = page; negotiated = negotiated }
+-- a queue, as the play queue
+abbrev pub v : Virtqueue → Virtqueue
+v lies = record { direction = output; page = lies .page; negotiated = lies .negotiated }
 
-  abbrev pub ops : Ops History
-  ops = historiesOf output
+abbrev pub ops : Ops History
+ops = historiesOf output
+
+module _ (lies : Virtqueue) where
+  abbrev vq : Virtqueue
+  vq = v lies
+
+  abbrev page : PageNumber
+  page = lies .page
 
   pub record Sofar (call : Ending) (m : List ℕ) (h : History) (s : Run History) : Type 0 where
-    pub adds : Adds v call m h (s .queue) (s .bytes)
+    pub adds : Adds vq call m h (s .queue) (s .bytes)
     pub memory : s .mem ≡ entriesWritten page h (s .queue) m
     pub order : InOrder 0 (length (s .queue .takings)) (s .queue .notes)
 
@@ -119,10 +126,10 @@ module _ (page : PageNumber) (negotiated : Bool) where
         → Same n q q′
         → ((k : ℕ) → k ≤ n → takingAt q′ k ≡ takingAt q k)
         → Each (λ (x : Note). x .of < suc n) xs
-        → Each (Held v m h q) xs
-        → Each (Held v m h q′) xs
+        → Each (Held vq m h q) xs
+        → Each (Held vq m h q′) xs
     held-same q q′ n xs l s t b e =
-        each-map (λ (x : Note). x .of < suc n) (Held v m h q) (Held v m h q′) xs
+        each-map (λ (x : Note). x .of < suc n) (Held vq m h q) (Held vq m h q′) xs
         (λ x u k.
         record {
           place = rw (t (x .of) (omega arith)) (k .place);
@@ -145,10 +152,10 @@ module _ (page : PageNumber) (negotiated : Bool) where
 
       -- of all takings, this one last
       took-all :
-          (a : Adds v call m h q (s .bytes))
+          (a : Adds vq call m h q (s .bytes))
           → s .mem ≡ entriesWritten page h q m
           → let head : ℕ = le 2 (s .mem) (baseOf page + (4100 + 2 * (length (q .takings) % 256))) in
-          t ≡ takingOf v (s .mem) head
+          t ≡ takingOf vq (s .mem) head
           → head < 256
           → (k : ℕ)
           → length (h .takings) ≤ k
@@ -156,7 +163,7 @@ module _ (page : PageNumber) (negotiated : Bool) where
           → Dec (k ≡ length (q .takings))
           → let now : List ℕ = memoryAfter page (took output t q) (number h) (k - number h) m in
           let at : ℕ = le 2 now (baseOf page + (4100 + 2 * (k % 256))) in
-          (takingAt (took output t q) k ≡ takingOf v now at) × (at < 256)
+          (takingAt (took output t q) k ≡ takingOf vq now at) × (at < 256)
       unfolding took
       took-all a mem is below k lo hi (yes e) =
           let n : number q ≡ length (q .takings) = same-number output w q g idle t in
@@ -179,9 +186,9 @@ module _ (page : PageNumber) (negotiated : Bool) where
       pub taking-sofar :
           Sofar call m h s
           → let head : ℕ = le 2 (s .mem) (baseOf page + (4100 + 2 * (length (q .takings) % 256))) in
-          t ≡ takingOf v (s .mem) head
+          t ≡ takingOf vq (s .mem) head
           → head < 256
-          → Sofar call m h (taking ops v t s)
+          → Sofar call m h (taking ops vq t s)
       unfolding took
       taking-sofar f is below =
           let a = f .adds in
@@ -198,7 +205,7 @@ module _ (page : PageNumber) (negotiated : Bool) where
                   took = λ k lo hi. took-all a (f .memory) is below k lo hi (ℕ-discrete k (length (q .takings)));
                   answered = λ k lo hi. rw (getD-snoc-other (q .takings) t k _ (λ e. omega arith)) (a .answered k lo hi);
                   held =
-                      each-map (λ (x : Note). x .of < length (q .takings)) (Held v m h q) (Held v m h (took output t q)) (a .notes .added)
+                      each-map (λ (x : Note). x .of < length (q .takings)) (Held vq m h q) (Held vq m h (took output t q)) (a .notes .added)
                       (λ x u k.
                       record {
                         place = rw (same .taking-is (x .of) u) (k .place);
@@ -254,7 +261,7 @@ module _ (page : PageNumber) (negotiated : Bool) where
           (p : ℕ) (ys : List ℕ)
           → s .mem ≡ memoryAfter page after (number h) (number now - number h) m
           → ((i : ℕ) → i < length ys → getD ys i 0 ≡ getD (places (current now .request)) (4 + (p + i)) 0)
-          → Each (Held v m h after) (notesOf (number now) p (bytesAt (s .mem) ys) ys)
+          → Each (Held vq m h after) (notesOf (number now) p (bytesAt (s .mem) ys) ys)
       unfolding noted
       held-notes p [] e at = tt
       held-notes p (y ∷ ys) e at =
@@ -264,7 +271,7 @@ module _ (page : PageNumber) (negotiated : Bool) where
                 (λ i l. let z′ : 4 + (p + suc i) ≡ 4 + (p + 1 + i) = omega arith in rw z′ at (at (suc i) (omega arith))),
           )
 
-      pub moved-sofar : Sofar call m h s → Sofar call m h (moved ops v s)
+      pub moved-sofar : Sofar call m h s → Sofar call m h (moved ops vq s)
       unfolding moved noted
       moved-sofar f =
           let a = f .adds in
@@ -283,7 +290,7 @@ module _ (page : PageNumber) (negotiated : Bool) where
                       rw (memory-same page now after (number h) (k - number h) m (noted-same (number h + (k - number h)))) (a .took k lo hi);
                   answered = a .answered;
                   held =
-                      each-append (Held v m h after) (a .notes .added) news
+                      each-append (Held vq m h after) (a .notes .added) news
                       (held-same now after (number now) (a .notes .added) l (noted-same (number now)) (λ k b. refl)
                       (rw one-more at (each-behind (λ (x : Note). x .of < length (now .takings)) (h .notes) (a .notes .added)
                       (rw (a .notes .is) at (order-each 0 (length (now .takings)) (now .notes) (f .order)))))
@@ -348,7 +355,7 @@ module _ (page : PageNumber) (negotiated : Bool) where
       status-written (some code) = refl
 
       -- its entry is written behind the others
-      last-written : completed ops v e s .mem ≡ written page done (number cur) (s .mem)
+      last-written : completed ops vq e s .mem ≡ written page done (number cur) (s .mem)
       unfolding completed history.entered written postedAt sizeOf
       last-written = rw (status-written (statusOf output e (current cur .form)), getD-append-seam)
 
@@ -356,7 +363,7 @@ module _ (page : PageNumber) (negotiated : Bool) where
       unfolding history.entered
       entered-number = rw length-append (omega arith)
 
-      all-written : s .mem ≡ entriesWritten page h cur m → number h ≤ number cur → completed ops v e s .mem ≡ entriesWritten page h done m
+      all-written : s .mem ≡ entriesWritten page h cur m → number h ≤ number cur → completed ops vq e s .mem ≡ entriesWritten page h done m
       unfolding memoryAfter
       all-written f l =
           let z : number done - number h ≡ suc (number cur - number h) = rw entered-number (omega arith) in
@@ -365,7 +372,7 @@ module _ (page : PageNumber) (negotiated : Bool) where
           rw (z, y, memory-same page cur done (number h) (number cur - number h) m same, ← f) last-written
 
       entry-answered :
-          Adds v call m h cur (s .bytes)
+          Adds vq call m h cur (s .bytes)
           → Answered call (current cur) entry
           → (k : ℕ)
           → number h ≤ k
@@ -379,7 +386,7 @@ module _ (page : PageNumber) (negotiated : Bool) where
           rw (getD-snoc-other (cur .entries) entry k _ n) (a .answered k lo b)
 
       pub completed-sofar :
-          Fits e (current cur .form) → (call ≡ finished → waiting output cur ≡ []) → Sofar call m h s → Sofar call m h (completed ops v e s)
+          Fits e (current cur .form) → (call ≡ finished → waiting output cur ≡ []) → Sofar call m h s → Sofar call m h (completed ops vq e s)
       unfolding completed history.entered
       completed-sofar fits spent f =
           let a = f .adds in
