@@ -1,16 +1,16 @@
--- What each call prints and leaves, by the rules' step for it.
+-- What a call prints and leaves, by the rules' step for it.
+use mathlib.Core.Path.{_≡_}
 use mathlib.Core.Bool.{cond}
 use mathlib.Core.List.{List}
 use Prim.Native.Nat.{ℕ}
+use Rattle.card.specs.Fit.{Fit}
 use Rattle.card.specs.declared.Card.{Card}
-use Rattle.card.specs.declared.ReadAnswer.{ReadAnswer}
-use Rattle.card.specs.declared.WriteAnswer.{WriteAnswer}
-use Rattle.message.specs.Card.{deviceOf}
+use Rattle.message.specs.Card.{deviceOf, stepOf}
 use Rattle.registers.specs.Rules.{raised}
 use Rattle.replay_text.specs.Adler.{adler}
 use Rattle.replay_text.specs.Text.{registerText, callText, playText}
 use Rattle.replay_text.specs.declared.Text.{Text}
-use Rattle.rules.specs.Calls.{Step}
+use Rattle.rules.specs.Calls.{Request, ReadRegister, WriteRegister, Control, Play, Capture, Event, Told, Step}
 use Rattle.rules.specs.Device.{Device, Queue}
 use Rattle.replay_call.specs.declared.Shown.{Shown}
 
@@ -18,25 +18,37 @@ use Rattle.replay_call.specs.declared.Shown.{Shown}
 abbrev pub irqOf : Card → ℕ
 irqOf c = cond (raised (c .registers)) 1 0
 
--- "LINE ANSWER VALUE RUNG IRQ: VALUE 0 for a write; RUNG the queue that a NOTIFY rang"
-abbrev pub readShown : ℕ → ReadAnswer → Shown
-readShown line r = record { text = registerText line (r .answer) (r .value) 255 (irqOf (r .card)); card = r .card }
-
-abbrev pub writeShown : ℕ → WriteAnswer → Shown
-writeShown line w = record { text = registerText line (w .answer) 0 (w .rung) (irqOf (w .card)); card = w .card }
-
 abbrev pub irqIn : Device Queue → ℕ
 irqIn d = cond (raised (d .rest .registers)) 1 0
 
+-- ---- the text, of the line's number, IRQ and what was told
+
+-- "LINE ANSWER VALUE RUNG IRQ: VALUE 0 for a write; RUNG the queue that a NOTIFY rang"
+abbrev pub registerTold : ℕ → ℕ → Told → Text
+registerTold line irq t = registerText line (t .answer) (t .value) (t .rung) irq
+
 -- "LINE ANSWER COUNT IRQ SUM: SUM is the Adler-32 checksum of the memory lent, after the call"
-abbrev pub callShown : ℕ → Step (Device Queue) → Text
-callShown line s = callText line (s .told .answer) (s .told .count) (irqIn (s .state)) (adler (s .told .memory))
+abbrev pub callTold : ℕ → ℕ → Told → Text
+callTold line irq t = callText line (t .answer) (t .count) irq (adler (t .memory))
 
 -- "HOST is the Adler-32 checksum of the whole host buffer after the call"
-abbrev pub playShown : ℕ → Step (Device Queue) → Text
-playShown line s = playText line (s .told .answer) (s .told .count) (irqIn (s .state)) (adler (s .told .memory)) (adler (s .told .host))
+abbrev pub playTold : ℕ → ℕ → Told → Text
+playTold line irq t = playText line (t .answer) (t .count) irq (adler (t .memory)) (adler (t .host))
 
--- the device and the memory after a call: as the rules have them, and of a card
+abbrev pub textFor : Request → ℕ → ℕ → Told → Text
+textFor (ReadRegister offset width) = registerTold
+textFor (WriteRegister offset width v) = registerTold
+textFor Control = callTold
+textFor (Play host) = playTold
+textFor (Capture host) = callTold
+textFor (Event code info) = callTold
+
+-- .. of the rules' step
+abbrev pub shownFor : Request → ℕ → Step (Device Queue) → Text
+shownFor q line s = textFor q line (irqIn (s .state)) (s .told)
+
+-- ---- the device and the memory after a call: as the rules have them, and of a card
+
 pub record Left : Type 0 where
   pub device : Device Queue
   pub memory : List ℕ
@@ -46,3 +58,10 @@ leftBy s = record { device = s .state; memory = s .told .memory }
 
 abbrev pub left : Card → List ℕ → Left
 left c m = record { device = deviceOf c; memory = m }
+
+-- ---- what is promised of a call on the card c, which the line-th line makes: q is asked, and m is the memory lent, m′ after it
+
+pub record Shows (c : Card) (line : ℕ) (q : Request) (m m′ : List ℕ) (r : Shown) : Type 0 where
+  pub text : r .text ≡ shownFor q line (stepOf c q m)
+  pub leaves : leftBy (stepOf c q m) ≡ left (r .card) m′
+  pub fit : Fit (r .card)

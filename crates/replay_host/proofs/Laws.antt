@@ -1,4 +1,5 @@
--- Laws of host buffers: within 65,536 bytes, a play lends its N bytes of 238, and a capture the bytes of its HEX.
+-- Laws of host buffers: within 65,536 bytes, a play lends its N bytes of 238, and a capture the bytes of its HEX. What a line asks is its
+-- request with the host buffer that it lends.
 use mathlib.Core.Path.{_≡_, refl, _∙_}
 use mathlib.Core.List.{List, [], _∷_}
 use Prim.Native.Nat.{ℕ, zero, suc, _+_, _-_, _/_, _≤_, min}
@@ -7,7 +8,15 @@ use native.Mathlib.Omega.{arith}
 use lib.ListN.{length, set, take, drop, replicate, length-set, length-drop, length-replicate}
 use lib.Seq.{sets, sets-eq, take-append-le, take-all}
 use Rattle.replay_field.specs.Hex.{bytesOfHex, poured}
-use Rattle.replay_host.specs.Host.{hostBuffer, hostBytes, capturedBytes}
+use Rattle.calls.specs.Calls.{requestOf}
+use Rattle.calls.specs.declared.Request as calls
+use Rattle.replay_call.specs.Shown.{Shows}
+use Rattle.replay_call.specs.declared.Shown.{Shown}
+use Rattle.card.specs.declared.Card.{Card}
+use Rattle.replay_line.specs.declared.Call.{Call}
+use Rattle.replay_line.specs.declared.Call.the-variants.{Read, Write, Control, Play, Capture, Event}
+use Rattle.rules.specs.Calls.{Request}
+use Rattle.replay_host.specs.Host.{hostBuffer, hostBytes, capturedBytes, askedBy, madeBy, hostFilled, hostCount}
 
 pub length-poured : (t m : List ℕ) (to : ℕ) → length (poured t m to) ≡ length m
 unfolding poured
@@ -22,7 +31,12 @@ poured-sets (b ∷ t) m to = rw (add-one to) (poured-sets t (set m to b) (suc to
 -- bytes poured to the start of what holds them stand there
 poured-first : (t m : List ℕ) → length t ≤ length m → take (length t) (poured t m 0) ≡ t
 poured-first t m h =
-    rw (poured-sets t m 0, sets-eq t m 0 (omega arith), take-append-le (length t) t (drop (0 + length t) m) (omega arith), take-all (length t) t (omega arith))
+    rw (
+      poured-sets t m 0,
+      sets-eq t m 0 (omega arith),
+      take-append-le (length t) t (drop (0 + length t) m) (omega arith),
+      take-all (length t) t (omega arith),
+    )
 
 length-bytes : (t : List ℕ) → length (bytesOfHex t) ≡ length t / 2
 unfolding bytesOfHex
@@ -52,3 +66,22 @@ captured-bytes s at h =
     let e : min ((length s - at) / 2) (length hostBuffer) ≡ length (bytesOfHex (drop at s)) =
     rw (host-length, length-bytes (drop at s), length-drop) (omega (arith, rw (length-bytes (drop at s), length-drop) at h)) in
     rw e (poured-first (bytesOfHex (drop at s)) hostBuffer (rw host-length h))
+
+-- ---- what a line asks
+
+asked-as : (call : Call) (s : List ℕ)
+    → requestOf (madeBy call) (take (hostCount call s (length hostBuffer)) (hostFilled call s hostBuffer)) ≡ askedBy call s
+asked-as (Read offset width) s = refl
+asked-as (Write offset width v) s = refl
+asked-as Control s = refl
+asked-as (Play n) s = refl
+asked-as (Capture at) s = refl
+asked-as (Event code info) s = refl
+
+pub asked-from : (call : Call) (s : List ℕ) {q : calls.Request} {n : ℕ} {host host′ : List ℕ}
+    → q ≡ madeBy call → n ≡ hostCount call s (length host) → host′ ≡ hostFilled call s host → host ≡ hostBuffer
+    → requestOf q (take n host′) ≡ askedBy call s
+asked-from call s e f g h = rw (e, f, g, h) (asked-as call s)
+
+pub shows-as : {c : Card} {line : ℕ} {q p : Request} {m m′ : List ℕ} {r : Shown} → q ≡ p → Shows c line q m m′ r → Shows c line p m m′ r
+shows-as e w = rw e at w

@@ -3,10 +3,10 @@ ghost use mathlib.Core.Path.{_≡_};
 ghost use Prim.Native.Nat.{_-_, _/_};
 ghost use lib.ListN.{length};
 ghost use Rattle.card.specs.Fit.{Fit};
-ghost use Rattle.message.specs.Card.{stepOf};
-ghost use Rattle.rules.specs.Calls.{Request};
-ghost use Rattle.replay_call.specs.Shown.{callShown, playShown, leftBy, left};
-ghost use Rattle.replay_host.specs.Host.{hostBuffer, hostBytes, capturedBytes, shownOf, leftOf};
+ghost use Rattle.io.specs.Counts.{Counts};
+ghost use Rattle.replay_call.specs.Shown.{Shows};
+ghost use Rattle.replay_host.specs.Host.{hostBuffer, madeBy, hostFilled, hostCount, askedBy};
+use calls::Request;
 use card::Card;
 use replay_call::Shown;
 use replay_line::Call;
@@ -22,16 +22,18 @@ fn host_buffer() -> [u8; 65536]
     [HOST_BYTE; 65536]
 }
 
-// The play call with a host buffer of `n` bytes.
-fn play(card: Card, line: u64, m: &mut [u8], n: usize) -> Shown
-    requires { ⌜ Fit card ⌝ }
-    ensures { λ r. ⌜ (r .text ≡ playShown line (stepOf card (Request.Play (hostBytes n)) (now (m .entry))))
-        × (leftBy (stepOf card (Request.Play (hostBytes n)) (now (m .entry))) ≡ left (r .card) (now (m .exit)))
-        × Fit (r .card) ⌝ }
+// What is asked of the card.
+fn request(call: Call) -> Request
+    ensures { λ r. ⌜ r ≡ madeBy call ⌝ }
 {
-    let mut host = host_buffer();
-    let room = replay_memory::within(n, &host);
-    replay_call::play_to(card, line, m, &mut host[..room])
+    match call {
+        Call::Read(offset, width) => Request::Read(offset, width),
+        Call::Write(offset, width, value) => Request::Write(offset, width, value),
+        Call::Control => Request::Control,
+        Call::Play(_) => Request::Play,
+        Call::Capture(_) => Request::Capture,
+        Call::Event(code, data) => Request::Event(code, data),
+    }
 }
 
 // How many bytes the HEX is that a line ends with, from `at` on.
@@ -44,32 +46,32 @@ fn hex_count(s: &[u8], at: usize) -> usize
     (s.len() - at) / 2
 }
 
-// The capture call with the bytes that stand in the line from `at` on.
-fn capture(card: Card, line: u64, m: &mut [u8], s: &[u8], at: usize) -> Shown
-    requires { ⌜ Fit card ⌝ }
-    ensures { λ r. ⌜ (r .text ≡ callShown line (stepOf card (Request.Capture (capturedBytes (now (s .entry)) at)) (now (m .entry))))
-        × (leftBy (stepOf card (Request.Capture (capturedBytes (now (s .entry)) at)) (now (m .entry))) ≡ left (r .card) (now (m .exit)))
-        × Fit (r .card) ⌝ }
+// How many bytes of the host buffer a call of the line `s` lends: a play's N; those of a capture's HEX,
+// which are written there; none for the others.
+fn lend(call: Call, s: &[u8], host: &mut [u8]) -> usize
+    ensures { λ r. ⌜ Counts r (now (host .exit)) ⌝ }
+    ensures { λ r. ⌜ (r ≡ hostCount call (now (s .entry)) (length (now (host .entry))))
+        × (now (host .exit) ≡ hostFilled call (now (s .entry)) (now (host .entry))) ⌝ }
 {
-    let mut host = host_buffer();
-    replay_field::pour_hex(s, at, &mut host, 0);
-    let count = replay_memory::within(hex_count(s, at), &host);
-    replay_call::capture_from(card, line, m, &host[..count])
+    match call {
+        Call::Read(_, _) => 0,
+        Call::Write(_, _, _) => 0,
+        Call::Control => 0,
+        Call::Play(n) => replay_memory::within(n, host),
+        Call::Capture(at) => {
+            replay_field::pour_hex(s, at, host, 0);
+            replay_memory::within(hex_count(s, at), host)
+        }
+        Call::Event(_, _) => 0,
+    }
 }
 
 // A call on the card that the line `s` makes, with the memory lent to it.
 pub fn call(card: Card, line: u64, call: Call, s: &[u8], m: &mut [u8]) -> Shown
     requires { ⌜ Fit card ⌝ }
-    ensures { λ r. ⌜ (r .text ≡ shownOf card line call (now (s .entry)) (now (m .entry)))
-        × (leftOf card call (now (s .entry)) (now (m .entry)) ≡ left (r .card) (now (m .exit)))
-        × Fit (r .card) ⌝ }
+    ensures { λ r. ⌜ Shows card line (askedBy call (now (s .entry))) (now (m .entry)) (now (m .exit)) r ⌝ }
 {
-    match call {
-        Call::Read(offset, width) => replay_call::read(card, line, offset, width),
-        Call::Write(offset, width, value) => replay_call::write(card, line, offset, width, value),
-        Call::Control => replay_call::control(card, line, m),
-        Call::Play(n) => play(card, line, m, n),
-        Call::Capture(at) => capture(card, line, m, s, at),
-        Call::Event(code, data) => replay_call::raise(card, line, m, code, data),
-    }
+    let mut host = host_buffer();
+    let count = lend(call, s, &mut host);
+    replay_call::call(card, line, request(call), m, &mut host[..count])
 }

@@ -1,11 +1,10 @@
--- Laws of the replay program: a call on the card is the rules' step, in what it prints and in what it leaves; lines in order.
-use mathlib.Core.Path.{_≡_, refl, sym, _∙_, ap}
-use mathlib.Core.List.{List, [], _∷_, _++_, foldl}
-use mathlib.Core.Bool.{Bool, true, false, cond}
+-- Laws of the replay program: what a call prints and leaves is what the session says of it; lines in order.
+use mathlib.Core.Path.{_≡_, sym, _∙_, ap}
+use mathlib.Core.List.{List, [], _++_}
+use mathlib.Core.Bool.{true, false}
 use Prim.Native.Nat.{ℕ, _+_, _-_, _%_, _^_, _≤_, _<_, min}
 use lib.Dec.{eqb}
 use lib.ListN.{length, take, drop, drop-of-length-le}
-use Rattle.card.specs.Fit.{Fit}
 use Rattle.card.specs.Rules.{poweredOf}
 use Rattle.card.specs.declared.Card.{Card}
 use Rattle.card.specs.declared.Powered.{Powered}
@@ -13,63 +12,73 @@ use Rattle.decimal.proofs.Writing.{put-as}
 use Rattle.description.specs.declared.Description.{Description}
 use Rattle.lines.specs.Lines.{linesOf, joined, spanOf, behindOf}
 use Rattle.lines.proofs.Laws.{lines-next}
-use Rattle.message.specs.Card.{deviceOf, restOf}
-use Rattle.message.proofs.Steps.{read-step, write-step}
-use Rattle.replay_call.specs.Shown.{Left, leftBy}
-use Rattle.replay_call.specs.Shown as shown
+use Rattle.message.specs.Card.{stepOf}
+use Rattle.replay_call.specs.Shown.{shownFor, Left, leftBy, left}
 use Rattle.replay_description.specs.Parts.{noDescription}
-use Rattle.replay_host.specs.Host.{shownOf, leftOf}
+use Rattle.replay_host.specs.Host.{askedBy}
 use Rattle.replay_line.specs.Line.{lineOf}
 use Rattle.replay_line.specs.declared.Call.{Call}
-use Rattle.replay_line.specs.declared.Call.the-variants.{Read, Write, Control, Play, Capture, Event}
 use Rattle.replay_line.specs.declared.Guest.{Guest}
 use Rattle.replay_line.specs.declared.Line.{Line}
 use Rattle.replay_memory.specs.Lent.{filled, touchedLength, touchedRam}
 use Rattle.replay_text.specs.Text.{answerBytes, kept}
 use Rattle.replay_text.proofs.Laws.{kept-call, kept-play, kept-register}
-use Rattle.replay_run.specs.Calls.{stepIn, requestOf, calledBytes}
-use Rattle.replay_run.specs.Session.{World, deskOf, worldOf, firstWorld, numbered, poweredWorld, calledWorld, calledText, touchedWorld, worldAfter, textAfter, stepWorld, stepText, sessionWorld, sessionText, Turns, none, next, Steps}
+use Rattle.rules.specs.Calls.{Request, ReadRegister, WriteRegister, Control, Play, Capture, Event, Step}
+use Rattle.rules.specs.Device.{Device, Queue}
+use Rattle.replay_run.specs.Calls.{printed}
+use Rattle.replay_run.specs.Session.{
+  World,
+  deskOf,
+  worldOf,
+  firstWorld,
+  numbered,
+  poweredWorld,
+  calledWorld,
+  calledText,
+  touchedWorld,
+  worldAfter,
+  textAfter,
+  stepWorld,
+  stepText,
+  sessionWorld,
+  sessionText,
+  Turns,
+  none,
+  next,
+  Steps,
+}
 use Rattle.replay_run.specs.declared.State.{State}
 use Rattle.replay_run.specs.declared.Turn.{Turn}
 
 -- ---- calls
 
-module _ (c : Card) (f : Fit c) (s m : List ℕ) where
-  pub called-text : (line : ℕ) (call : Call)
-      → kept (shownOf c line call s m) ≡ calledBytes call line (stepIn (deviceOf c) (requestOf call s) m)
-  unfolding deviceOf restOf
-  called-text line (Read offset width) = rw (read-step c f offset width m) (kept-register line _ _ _ _)
-  called-text line (Write offset width v) = rw (write-step c f offset width v m) (kept-register line _ _ _ _)
-  called-text line Control = kept-call line _ _ _ _
-  called-text line (Play n) = kept-play line _ _ _ _ _
-  called-text line (Capture at) = kept-call line _ _ _ _
-  called-text line (Event code info) = kept-call line _ _ _ _
-
-  pub called-left : (call : Call) → leftOf c call s m ≡ leftBy (stepIn (deviceOf c) (requestOf call s) m)
-  called-left (Read offset width) = rw (read-step c f offset width m)
-  called-left (Write offset width v) = rw (write-step c f offset width v m)
-  called-left Control = refl
-  called-left (Play n) = refl
-  called-left (Capture at) = refl
-  called-left (Event code info) = refl
+-- the text of a call keeps all that is printed for it
+called-text : (q : Request) (line : ℕ) (s : Step (Device Queue)) → kept (shownFor q line s) ≡ printed q line s
+called-text (ReadRegister offset width) line s = kept-register line _ _ _ _
+called-text (WriteRegister offset width v) line s = kept-register line _ _ _ _
+called-text Control line s = kept-call line _ _ _ _
+called-text (Play host) line s = kept-play line _ _ _ _ _
+called-text (Capture host) line s = kept-call line _ _ _ _
+called-text (Event code info) line s = kept-call line _ _ _ _
 
 -- a line's call, on the first `lent` bytes of the array
-module _ (st : State) (call : Call) (s ram : List ℕ) (lent : ℕ) (f : Fit (st .card)) (p : st .powered ≡ true)
-    (e : lent ≡ min (st .len) (length ram)) where
-  pub made-text : kept (shownOf (st .card) (st .line) call s (take lent ram)) ≡ calledText call s (worldOf st ram)
+module _ (st : State) (call : Call) (s ram : List ℕ) (lent : ℕ) (p : st .powered ≡ true) (e : lent ≡ min (st .len) (length ram)) where
+  abbrev done : Step (Device Queue)
+  done = stepOf (st .card) (askedBy call s) (take lent ram)
+
+  pub made-text : kept (shownFor (askedBy call s) (st .line) done) ≡ calledText call s (worldOf st ram)
   unfolding calledText
-  made-text = rw (p, ← e) (called-text (st .card) f s (take lent ram) (st .line) call)
+  made-text = rw (p, ← e) (called-text (askedBy call s) (st .line) done)
 
   abbrev after : Left → World
   after l = record { desk = deskOf st; device = l .device; ram = l .memory ++ drop lent ram }
 
-  made : after (leftBy (stepIn (deviceOf (st .card)) (requestOf call s) (take lent ram))) ≡ calledWorld call s (worldOf st ram)
+  made : after (leftBy done) ≡ calledWorld call s (worldOf st ram)
   unfolding calledWorld
   made = rw (p, ← e)
 
-  pub made-world : (c : Card) (m : List ℕ) → leftOf (st .card) call s (take lent ram) ≡ shown.left c m
-      → after (shown.left c m) ≡ calledWorld call s (worldOf st ram)
-  made-world c m h = ap after (sym h ∙ called-left (st .card) f s (take lent ram) call) ∙ made
+  pub made-world : (c : Card) (m : List ℕ) → leftBy done ≡ left c m → after (left c m) ≡ calledWorld call s (worldOf st ram)
+  made-world c m h = ap after (sym h) ∙ made
 
 -- with no card it is refused
 module _ (st : State) (call : Call) (s ram : List ℕ) (p : st .powered ≡ false) where

@@ -14,6 +14,7 @@ use Rattle.lines.specs.Lines.{spanOf, behindOf}
 use Rattle.message.specs.Card.{deviceOf}
 use Rattle.replay_call.specs.Shown.{Left, leftBy}
 use Rattle.replay_description.specs.Parts.{noDescription, withPart}
+use Rattle.replay_host.specs.Host.{askedBy}
 use Rattle.replay_line.specs.Line.{lineOf}
 use Rattle.replay_line.specs.declared.Call.{Call}
 use Rattle.replay_line.specs.declared.Guest.{Guest}
@@ -22,7 +23,7 @@ use Rattle.replay_line.specs.declared.Line.the-variants.{Skipped, Unreadable, D
 use Rattle.replay_memory.specs.Lent.{filled, touchedLength, touchedRam, touchedText}
 use Rattle.replay_text.specs.Text.{answerBytes}
 use Rattle.rules.specs.Device as rules
-use Rattle.replay_run.specs.Calls.{stepIn, requestOf, calledBytes}
+use Rattle.replay_run.specs.Calls.{stepIn, printed}
 use Rattle.replay_run.specs.declared.State.{State}
 use Rattle.replay_run.specs.declared.Turn.{Turn}
 
@@ -92,12 +93,12 @@ left l w = record { desk = w .desk; device = l .device; ram = l .memory ++ drop 
 
 unfoldable pub calledWorld : Call → List ℕ → World → World
 calledWorld call s w =
-    cond (w .desk .powered) (left (leftBy (stepIn (w .device) (requestOf call s) (take (lentIn w) (w .ram)))) w) w
+    cond (w .desk .powered) (left (leftBy (stepIn (w .device) (askedBy call s) (take (lentIn w) (w .ram)))) w) w
 
 unfoldable pub calledText : Call → List ℕ → World → List ℕ
 calledText call s w =
     cond (w .desk .powered)
-    (calledBytes call (w .desk .line) (stepIn (w .device) (requestOf call s) (take (lentIn w) (w .ram))))
+    (printed (askedBy call s) (w .desk .line) (stepIn (w .device) (askedBy call s) (take (lentIn w) (w .ram))))
     (answerBytes (w .desk .line) 99)
 
 -- the guest's lines

@@ -1,109 +1,68 @@
--- Each kind of call is made by its own function.
+-- What is asked is the line's request with the bytes that the line lends.
+use mathlib.Core.Path.{_≡_}
+use lib.ListN.{take}
+use Rattle.calls.specs.Calls.{requestOf}
+use Rattle.replay_host.specs.Host.{askedBy}
+use Rattle.replay_host.proofs.Laws.{asked-from, shows-as}
 use borrow.Author.Needs.{needs}
 use Rattle.replay_host.proofs.call.Statement.{statement}
 use Rattle.replay_host.proofs.call.Tie as tie
 
-enum-known-call : tie.Need-enum-known-call
-enum-known-call c = search needs
+-- from behind the call to the bytes lent, and to the start
+abbrev lent : tie.After-call → tie.After-lend
+lent c = c .before .before .before .before .before
 
-read-requires : tie.Need-read-requires
-read-requires c κs = search needs
+abbrev start : tie.After-host-buffer → tie.Start
+start c = c .before .before .before
 
-enum-known-call-2 : tie.Need-enum-known-call-2
-enum-known-call-2 c = search needs
+-- what is asked
+asked : (c : tie.After-call) →
+    let l = lent c in
+    let a = start (l .before .before) .args in
+    requestOf (c .before .before .before .request .result) (take (l .lend .result) (l .lend .last .1 .1 .0)) ≡ askedBy (a .call) (a .s .now)
+asked c =
+    let l = lent c in
+    let a = start (l .before .before) .args in
+    let d = l .lend .ensures .1 in
+    asked-from (a .call) (a .s .now) (c .before .before .before .request .ensures) (d .0) (d .1) (l .before .before .host-buffer .ensures .1)
 
-write-requires : tie.Need-write-requires
-write-requires c κs = search needs
+host-buffer-requires : tie.Need-host-buffer-requires
+host-buffer-requires c κs = search needs
 
-enum-told : tie.Need-enum-told
-enum-told c = search needs
+slice-aggregate-lend : tie.Need-slice-aggregate-lend
+slice-aggregate-lend c = search needs
 
-control-requires : tie.Need-control-requires
-control-requires c κs = search needs
+lend-requires : tie.Need-lend-requires
+lend-requires c κs = search needs
 
-enum-known-call-3 : tie.Need-enum-known-call-3
-enum-known-call-3 c = search needs
+request-requires : tie.Need-request-requires
+request-requires c κs = search needs
 
-play-requires : tie.Need-play-requires
-play-requires c κs = search needs
+array-borrow-prefix-host : tie.Need-array-borrow-prefix-host
+array-borrow-prefix-host c = search needs
 
-enum-known-call-4 : tie.Need-enum-known-call-4
-enum-known-call-4 c = search needs
+slice-aggregate-call : tie.Need-slice-aggregate-call
+slice-aggregate-call c = search needs
 
-capture-requires : tie.Need-capture-requires
-capture-requires c κs = search needs
-
-enum-known-call-5 : tie.Need-enum-known-call-5
-enum-known-call-5 c = search needs
-
-raise-requires : tie.Need-raise-requires
-raise-requires c κs = search needs
-
-returns : tie.Need-returns
-returns c =
-    let p = c .read .ensures in
-    (rw (c .before .before .call .given .1, p .0), rw (c .before .before .call .given .1, p .0), p .1)
-
-returns-2 : tie.Need-returns-2
-returns-2 c =
-    let p = c .write .ensures in
-    (rw (c .before .before .call2 .given .1, p .0), rw (c .before .before .call2 .given .1, p .0), p .1)
+call-requires : tie.Need-call-requires
+call-requires c κs = search needs
 
 same-length : tie.Need-same-length
 same-length c = search needs
 
-returns-3 : tie.Need-returns-3
-returns-3 c =
-    let p = c .before .before .control .ensures in
-    (rw (c .before .before .before .before .enum-told .given .1) (p .0), rw (c .before .before .before .before .enum-told .given .1) (p .1), p .2)
-
-same-length-2 : tie.Need-same-length-2
-same-length-2 c = search needs
-
-returns-4 : tie.Need-returns-4
-returns-4 c =
-    let p = c .before .before .play .ensures in
-    (rw (c .before .before .before .before .before .call3 .given .1) (p .0), rw (c .before .before .before .before .before .call3 .given .1) (p .1), p .2)
-
-same-length-3 : tie.Need-same-length-3
-same-length-3 c = search needs
-
-returns-5 : tie.Need-returns-5
-returns-5 c =
-    let p = c .before .before .capture .ensures in
-    (rw (c .before .before .before .before .before .call4 .given .1) (p .0), rw (c .before .before .before .before .before .call4 .given .1) (p .1), p .2)
-
-same-length-4 : tie.Need-same-length-4
-same-length-4 c = search needs
-
-returns-6 : tie.Need-returns-6
-returns-6 c =
-    let p = c .before .before .raise .ensures in
-    (rw (c .before .before .before .before .before .call5 .given .1) (p .0), rw (c .before .before .before .before .before .call5 .given .1) (p .1), p .2)
+returns : tie.Need-returns
+returns c = shows-as (asked (c .before .before .before)) (c .before .before .before .call .ensures .0)
 
 pub call-spec : {M : Type 1} → statement M
 call-spec =
     tie.close
     (tie.spec
-    enum-known-call
-    read-requires
-    enum-known-call-2
-    write-requires
-    enum-told
-    control-requires
-    enum-known-call-3
-    play-requires
-    enum-known-call-4
-    capture-requires
-    enum-known-call-5
-    raise-requires
-    returns
-    returns-2
+    host-buffer-requires
+    slice-aggregate-lend
+    lend-requires
+    request-requires
+    array-borrow-prefix-host
+    slice-aggregate-call
+    call-requires
     same-length
-    returns-3
-    same-length-2
-    returns-4
-    same-length-3
-    returns-5
-    same-length-4
-    returns-6)
+    returns)

@@ -71,12 +71,11 @@ returns-2 c =
     let q = call .call .ensures in
     let length = lent .within .ensures .1 in
     record {
-      world = made-world (a .state) (a .call) (a .s .now) (a .ram .now) _ (given .pre .0) some length _ _ (q .1);
+      world = made-world (a .state) (a .call) (a .s .now) (a .ram .now) _ some length _ _ (q .leaves);
       text =
-          put-as (ap kept (q .0) ∙ made-text (a .state) (a .call) (a .s .now) (a .ram .now) _ (given .pre .0) some length)
-          (put .lay .ensures .0);
+          put-as (ap kept (q .text) ∙ made-text (a .state) (a .call) (a .s .now) (a .ram .now) _ some length) (put .lay .ensures .0);
       room = omega (arith, put .lay .ensures .1, put .lay .kept .1 .0, given .pre .1);
-      fit = q .2;
+      fit = q .fit;
     }
 
 pub call-line-spec : {M : Type 1} → statement M

@@ -1,7 +1,5 @@
 -- What the line reads as says which part of the state changes, and what is printed.
 use mathlib.Core.Path.{_≡_, _∙_, sym, ap}
-use mathlib.Core.List.{List}
-use Prim.Native.Nat.{ℕ}
 use native.Mathlib.Omega.{arith}
 use Rattle.decimal.proofs.Writing.{put-as, put-none}
 use Rattle.replay_line.specs.declared.Line.{Line}

@@ -1,0 +1,2 @@
+-- Laws of what a call prints and leaves.
+pub mod Laws

@@ -1,0 +1,89 @@
+-- No more than the buffer has: a play's N bytes, a capture's HEX, none for the others.
+use Rattle.replay_host.proofs.Laws.{length-poured}
+use borrow.Author.Needs.{needs}
+use Rattle.replay_host.proofs.lend.Statement.{statement}
+use Rattle.replay_host.proofs.lend.Tie as tie
+
+enum-told : tie.Need-enum-told
+enum-told c = search needs
+
+enum-told-2 : tie.Need-enum-told-2
+enum-told-2 c = search needs
+
+enum-told-3 : tie.Need-enum-told-3
+enum-told-3 c = search needs
+
+enum-known-call : tie.Need-enum-known-call
+enum-known-call c = search needs
+
+within-requires : tie.Need-within-requires
+within-requires c κs = search needs
+
+enum-known-call-2 : tie.Need-enum-known-call-2
+enum-known-call-2 c = search needs
+
+pour-hex-requires : tie.Need-pour-hex-requires
+pour-hex-requires c κs = search needs
+
+hex-count-requires : tie.Need-hex-count-requires
+hex-count-requires c κs = search needs
+
+within-requires-2 : tie.Need-within-requires-2
+within-requires-2 c κs = search needs
+
+enum-told-4 : tie.Need-enum-told-4
+enum-told-4 c = search needs
+
+returns : tie.Need-returns
+returns c = search needs
+
+returns-2 : tie.Need-returns-2
+returns-2 c = search needs
+
+returns-3 : tie.Need-returns-3
+returns-3 c = search needs
+
+same-length : tie.Need-same-length
+same-length c = search needs
+
+returns-4 : tie.Need-returns-4
+returns-4 c =
+    let is = c .before .before .before .call .given .1 in
+    (c .within .ensures .0, (rw is (c .within .ensures .1), rw is))
+
+same-length-2 : tie.Need-same-length-2
+same-length-2 c = search needs
+
+returns-5 : tie.Need-returns-5
+returns-5 c =
+    let p = c .before .before .before .before .before in
+    let is = p .before .before .before .call2 .given .1 in (
+      c .within2 .ensures .0,
+      (rw (is, c .within2 .ensures .1, c .before .before .hex-count .ensures, p .pour-hex .ensures, length-poured), rw is (p .pour-hex .ensures)),
+    )
+
+returns-6 : tie.Need-returns-6
+returns-6 c = search needs
+
+pub lend-spec : {M : Type 1} → statement M
+lend-spec =
+    tie.close
+    (tie.spec
+    enum-told
+    enum-told-2
+    enum-told-3
+    enum-known-call
+    within-requires
+    enum-known-call-2
+    pour-hex-requires
+    hex-count-requires
+    within-requires-2
+    enum-told-4
+    returns
+    returns-2
+    returns-3
+    same-length
+    returns-4
+    same-length-2
+    returns-5
+    returns-6)
