@@ -16,6 +16,22 @@ pub struct GuestAddress(pub u64);
 #[repr(C)]
 pub struct DescriptorNumber(pub u16);
 
+impl GuestAddress {
+    // The address with this number.
+    pub fn of(number: u64) -> GuestAddress
+        ensures { λ r. ⌜ r ≡ record { 0 = number } ⌝ }
+    {
+        GuestAddress(number)
+    }
+
+    // Its number.
+    pub fn number(self) -> u64
+        ensures { λ r. ⌜ r ≡ self .0 ⌝ }
+    {
+        self.0
+    }
+}
+
 impl PageNumber {
     // The address of the page's first byte.
     pub fn address(self) -> GuestAddress

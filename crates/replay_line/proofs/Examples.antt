@@ -6,7 +6,26 @@ use Rattle.decimal.specs.Read.{isDigit, digits, numberAt, fieldAt}
 use Rattle.replay_field.specs.Number.{pairAt, sizeAt}
 use Rattle.replay_field.specs.Hex.{isHexDigit, everyHexDigit, isHex, hexAt, nibble, bytesOfHex}
 use Rattle.replay_field.specs.Word.{bytes, begins}
-use Rattle.replay_line.specs.Line.{jackForm, mapForm, streamForm, powerForm, readForm, writeForm, controlForm, playForm, captureForm, eventForm, storeForm, fillForm, ramForm, dumpForm, guestLine, callLine, partLine, lineOf}
+use Rattle.replay_line.specs.Line.{
+  jackForm,
+  mapForm,
+  streamForm,
+  powerForm,
+  readForm,
+  writeForm,
+  controlForm,
+  playForm,
+  captureForm,
+  eventForm,
+  storeForm,
+  fillForm,
+  ramForm,
+  dumpForm,
+  guestLine,
+  callLine,
+  partLine,
+  lineOf,
+}
 use Rattle.replay_line.specs.declared.Line.{Line}
 use Rattle.replay_line.specs.declared.Line.the-variants.{Skipped, Unreadable, Described, Power, Called, Lent}
 use Rattle.replay_line.specs.declared.Part.the-variants.{Jack, Map, Output, Input}
@@ -34,17 +53,17 @@ pub forms :
     × (reads "capture 0aff" ≡ Called (Capture 8))
     × (reads "capture -" ≡ Called (Capture 8))
     × (reads "event 4352 0" ≡ Called (Event 4352 0))
-    × (reads "m 16 00ff" ≡ Lent (Store 16 5))
-    × (reads "f 18446744073709551615 18446744073709551615 255" ≡ Lent (Fill 18446744073709551615 18446744073709551615 255))
+    × (reads "m 16 00ff" ≡ Lent (Store (record { 0 = 16 }) 5))
+    × (reads "f 18446744073709551615 18446744073709551615 255" ≡ Lent (Fill (record { 0 = 18446744073709551615 }) 18446744073709551615 255))
     × (reads "ram 0" ≡ Lent (Ram 0))
-    × (reads "d 0 65536" ≡ Lent (Dump 0 65536))
+    × (reads "d 0 65536" ≡ Lent (Dump (record { 0 = 0 }) 65536))
 unfolding isDigit digits numberAt fieldAt pairAt isHexDigit everyHexDigit isHex hexAt begins sizeAt
     jackForm mapForm streamForm powerForm readForm writeForm controlForm playForm captureForm eventForm
     storeForm fillForm ramForm dumpForm guestLine callLine partLine lineOf
 forms = (refl, refl, refl, refl, refl, refl, refl, refl, refl, refl, refl, refl, refl, refl, refl, refl, refl, refl)
 
 -- a word too many or too few, spaces, numbers too long or too great, HEX that is none
-pub refused :
+pub unreadable :
     (reads "r 18 1 1" ≡ Unreadable)
     × (reads "w 18 1" ≡ Unreadable)
     × (reads "r 18  1" ≡ Unreadable)
@@ -67,7 +86,7 @@ pub refused :
 unfolding isDigit digits numberAt fieldAt pairAt isHexDigit everyHexDigit isHex hexAt begins sizeAt
     jackForm mapForm streamForm powerForm readForm writeForm controlForm playForm captureForm eventForm
     storeForm fillForm ramForm dumpForm guestLine callLine partLine lineOf
-refused = (refl, refl, refl, refl, refl, refl, refl, refl, refl, refl, refl, refl, refl, refl, refl, refl, refl, refl, refl)
+unreadable = (refl, refl, refl, refl, refl, refl, refl, refl, refl, refl, refl, refl, refl, refl, refl, refl, refl, refl, refl)
 
 pub bytes-of-hex : (bytesOfHex (bytes "00ff1a") ≡ 0 ∷ 255 ∷ 26 ∷ []) × (bytesOfHex (bytes "-") ≡ [])
 unfolding nibble bytesOfHex

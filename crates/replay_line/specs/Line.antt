@@ -40,8 +40,8 @@ abbrev pub hex : List ℕ → ℕ → (ℕ → ℕ → Line) → Line
 hex s at then = byHex (hexAt s at) then Unreadable
 
 -- "a word too many" can't be read
-abbrev pub ended : List ℕ → ℕ → Line → Line
-ended s at line = cond (ltb at (length s)) Unreadable line
+abbrev pub atEnd : List ℕ → ℕ → Line → Line
+atEnd s at line = cond (ltb at (length s)) Unreadable line
 
 abbrev pub bySize : Size → (ℕ → Line) → Line
 bySize (Is n) then = then n
@@ -55,7 +55,7 @@ jackForm s =
     pair s 4 max32 (λ nid features a.
     pair s a max32 (λ defconf caps b.
     field s b max8 (λ connected end.
-    ended s end (Described (Jack (record { nid = nid; features = features; defconf = defconf; caps = caps; connected = connected }))))))
+    atEnd s end (Described (Jack (record { nid = nid; features = features; defconf = defconf; caps = caps; connected = connected }))))))
 
 -- map NID DIRECTION CHANNELS POSITIONS: "POSITIONS is HEX of exactly 18 bytes"
 unfoldable pub mapForm : List ℕ → Line
@@ -72,7 +72,7 @@ streamForm s at input =
     pair s b max8 (λ min max end.
     let info : StreamInfo =
     record { nid = nid; features = features; formats = formats; rates = rates; «channels_min» = min; «channels_max» = max } in
-    ended s end (Described (cond input (Input info) (Output info))))))
+    atEnd s end (Described (cond input (Input info) (Output info))))))
 
 -- power LEN: "at most 1,048,576"
 unfoldable pub powerForm : List ℕ → Line
@@ -80,15 +80,15 @@ powerForm s = bySize (sizeAt s 5 1048576) (λ n. Power n)
 
 -- r OFF W
 unfoldable pub readForm : List ℕ → Line
-readForm s = pair s 1 max32 (λ offset width end. ended s end (Called (Read offset width)))
+readForm s = pair s 1 max32 (λ offset width end. atEnd s end (Called (Read offset width)))
 
 -- w OFF W VAL
 unfoldable pub writeForm : List ℕ → Line
-writeForm s = pair s 1 max32 (λ offset width a. field s a max32 (λ value end. ended s end (Called (Write offset width value))))
+writeForm s = pair s 1 max32 (λ offset width a. field s a max32 (λ value end. atEnd s end (Called (Write offset width value))))
 
 -- control
 unfoldable pub controlForm : List ℕ → Line
-controlForm s = ended s 7 (Called Control)
+controlForm s = atEnd s 7 (Called Control)
 
 -- play N: "at most 65,536"
 unfoldable pub playForm : List ℕ → Line
@@ -100,15 +100,15 @@ captureForm s = hex s 7 (λ place count. cond (ltb 65536 count) Unreadable (Call
 
 -- event CODE DATA
 unfoldable pub eventForm : List ℕ → Line
-eventForm s = pair s 5 max32 (λ code info end. ended s end (Called (Event code info)))
+eventForm s = pair s 5 max32 (λ code info end. atEnd s end (Called (Event code info)))
 
 -- m ADDR HEX
 unfoldable pub storeForm : List ℕ → Line
-storeForm s = field s 1 max64 (λ address a. hex s a (λ place count. Lent (Store address place)))
+storeForm s = field s 1 max64 (λ address a. hex s a (λ place count. Lent (Store (record { 0 = address }) place)))
 
 -- f ADDR LEN BYTE
 unfoldable pub fillForm : List ℕ → Line
-fillForm s = pair s 1 max64 (λ address count a. field s a max8 (λ byte end. ended s end (Lent (Fill address count byte))))
+fillForm s = pair s 1 max64 (λ address count a. field s a max8 (λ byte end. atEnd s end (Lent (Fill (record { 0 = address }) count byte))))
 
 -- ram LEN: "at most 1,048,576"
 unfoldable pub ramForm : List ℕ → Line
@@ -116,7 +116,7 @@ ramForm s = bySize (sizeAt s 3 1048576) (λ n. Lent (Ram n))
 
 -- d ADDR LEN: "at most 65,536"
 unfoldable pub dumpForm : List ℕ → Line
-dumpForm s = field s 1 max64 (λ address a. bySize (sizeAt s a 65536) (λ n. Lent (Dump address n)))
+dumpForm s = field s 1 max64 (λ address a. bySize (sizeAt s a 65536) (λ n. Lent (Dump (record { 0 = address }) n)))
 
 -- ---- the line, by its command word
 

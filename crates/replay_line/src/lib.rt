@@ -1,7 +1,11 @@
 // A line of the replay program's script, read from its bytes without the line feed. A word of HEX
 // stays in the line: the line read says where it starts.
 ghost use mathlib.Core.Path.{_≡_};
-ghost use Rattle.replay_line.specs.Line.{jackForm, mapForm, streamForm, powerForm, readForm, writeForm, controlForm, playForm, captureForm, eventForm, storeForm, fillForm, ramForm, dumpForm, partLine, callLine, guestLine, lineOf};
+ghost use Rattle.replay_line.specs.Line.{jackForm, mapForm, streamForm, powerForm};
+ghost use Rattle.replay_line.specs.Line.{readForm, writeForm, controlForm, playForm, captureForm, eventForm};
+ghost use Rattle.replay_line.specs.Line.{storeForm, fillForm, ramForm, dumpForm};
+ghost use Rattle.replay_line.specs.Line.{partLine, callLine, guestLine, lineOf};
+use counts::GuestAddress;
 use decimal::Number;
 use description::JackInfo;
 use description::StreamInfo;
@@ -44,10 +48,10 @@ pub enum Call {
 // What is done to the memory lent: bytes stored (address, place of the bytes), bytes set (address,
 // length, byte), another length, bytes printed (address, length).
 pub enum Guest {
-    Store(u64, usize),
-    Fill(u64, u64, u8),
+    Store(GuestAddress, usize),
+    Fill(GuestAddress, u64, u8),
     Ram(usize),
-    Dump(u64, usize),
+    Dump(GuestAddress, usize),
 }
 
 pub enum Line {
@@ -228,7 +232,7 @@ fn store_form(s: &[u8]) -> Line
     let Hex::At(place, _) = replay_field::hex_at(s, a) else {
         return Line::Unreadable;
     };
-    Line::Lent(Guest::Store(address, place))
+    Line::Lent(Guest::Store(GuestAddress::of(address), place))
 }
 
 // `f ADDR LEN BYTE`
@@ -244,7 +248,7 @@ fn fill_form(s: &[u8]) -> Line
     if end < s.len() {
         return Line::Unreadable;
     }
-    Line::Lent(Guest::Fill(address, count, byte as u8))
+    Line::Lent(Guest::Fill(GuestAddress::of(address), count, byte as u8))
 }
 
 // `ram LEN`
@@ -267,7 +271,7 @@ fn dump_form(s: &[u8]) -> Line
     let Size::Is(n) = replay_field::size_at(s, a, MAX_BYTES) else {
         return Line::Unreadable;
     };
-    Line::Lent(Guest::Dump(address, n))
+    Line::Lent(Guest::Dump(GuestAddress::of(address), n))
 }
 
 // A line on the memory lent, or none at all.

@@ -19,8 +19,8 @@ filled (suc k) m at b = filled k (set m at b) (at + 1) b
 -- the array after a line s of the guest, of which `lent` bytes were lent: "the guest writes these bytes", "sets LEN
 -- bytes"; "new bytes are zero, bytes cut off are lost"
 abbrev pub touchedRam : Guest → List ℕ → List ℕ → ℕ → List ℕ
-touchedRam (Store address at) s ram lent = poured (bytesOfHex (drop at s)) (take lent ram) address ++ drop lent ram
-touchedRam (Fill address n b) s ram lent = filled n (take lent ram) address b ++ drop lent ram
+touchedRam (Store address at) s ram lent = poured (bytesOfHex (drop at s)) (take lent ram) (address .0) ++ drop lent ram
+touchedRam (Fill address n b) s ram lent = filled n (take lent ram) (address .0) b ++ drop lent ram
 touchedRam (Ram n) s ram lent = filled 1048576 ram n 0
 touchedRam (Dump address n) s ram lent = ram
 
@@ -42,7 +42,7 @@ abbrev pub touchedText : Guest → ℕ → List ℕ → List ℕ
 touchedText (Store address at) line m = []
 touchedText (Fill address n b) line m = []
 touchedText (Ram n) line m = []
-touchedText (Dump address n) line m = dumpBytes line m address n
+touchedText (Dump address n) line m = dumpBytes line m (address .0) n
 
 -- what is promised of a line s of the guest, the line-th: array and buffer before it, after it, and what it hands back
 pub record Touches (g : Guest) (line : ℕ) (s ram : List ℕ) (lent : ℕ) (out ram′ out′ : List ℕ) (r : Touched) : Type 0 where

@@ -84,11 +84,13 @@ pub fn touch(
     let lent = within(len, ram);
     match guest {
         Guest::Store(address, at) => {
-            replay_field::pour_hex(s, at, &mut ram[..lent], address as usize);
+            let to = memory::place(lent, address, 0);
+            replay_field::pour_hex(s, at, &mut ram[..lent], to);
             Touched { len: lent, end: 0 }
         }
         Guest::Fill(address, n, b) => {
-            fill(&mut ram[..lent], address as usize, n as usize, b);
+            let to = memory::place(lent, address, 0);
+            fill(&mut ram[..lent], to, n as usize, b);
             Touched { len: lent, end: 0 }
         }
         Guest::Ram(n) => {
@@ -96,7 +98,8 @@ pub fn touch(
             Touched { len: n, end: 0 }
         }
         Guest::Dump(address, n) => {
-            let end = dump(line, &ram[..lent], address as usize, n, out);
+            let from = memory::place(lent, address, 0);
+            let end = dump(line, &ram[..lent], from, n, out);
             Touched {
                 len: lent,
                 end: end,

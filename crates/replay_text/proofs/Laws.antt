@@ -1,18 +1,29 @@
 -- Laws of printed text: bytes one behind the other, that a text keeps them all, a fold byte by byte, HEX.
-use mathlib.Core.Path.{_≡_, refl, sym, _∙_}
+use mathlib.Core.Path.{_≡_, refl}
 use mathlib.Core.List.{List, [], _∷_, _++_, foldl}
 use mathlib.Core.Bool.{Bool, true, false, cond}
-use Prim.Native.Nat.{ℕ, zero, suc, _+_, _-_, _*_, _/_, _%_, _≤_, _<_}
+use Prim.Native.Nat.{ℕ, zero, suc, _+_, _-_, _/_, _%_, _≤_, _<_}
 use native.Mathlib.Numerals.{add-one}
 use native.Mathlib.Omega.{arith}
 use borrow.Author.Tests.{leb-true}
 use lib.Dec.{eqb, leb}
-use lib.ListN.{length, getD, set, take, drop, drop-of-length-le, length-append, length-replicate, List·getD-eq-default}
+use lib.ListN.{length, getD, set, drop, drop-of-length-le, length-append, length-replicate, List·getD-eq-default}
 use lib.Seq.{drop-cons}
 use Rattle.decimal.specs.Write.{fieldOf, Put}
 use Rattle.decimal.proofs.Writing.{Rest, put-then, put-byte, put-back, rest-more, field-short}
-use Rattle.replay_text.specs.Text.{answerBytes, startBytes, callBytes, playBytes, rungBytes, registerBytes, noText, withBytes, textOf, kept}
-use Rattle.replay_text.specs.Hex.{glyphOf, behindOf, hexBytes}
+use Rattle.replay_text.specs.Text.{
+  answerBytes,
+  startBytes,
+  callBytes,
+  playBytes,
+  rungBytes,
+  registerBytes,
+  noText,
+  withBytes,
+  textOf,
+  kept,
+}
+use Rattle.replay_text.specs.Hex.{glyphOf, behindOf, hexBytes, hexWord}
 use Rattle.replay_text.specs.declared.Text.{Text}
 
 -- ---- bytes one behind the other
@@ -91,6 +102,10 @@ unfolding hexBytes
 hex-past zero m a b h g = refl
 hex-past (suc k) m a b h g =
     rw (List·getD-eq-default m 0 h, List·getD-eq-default m 0 g, hex-past k m (a + 1) (b + 1) (omega arith) (omega arith))
+
+pub word-past : (n : ℕ) (m : List ℕ) (a b : ℕ) → length m ≤ a → length m ≤ b → hexWord n m a ≡ hexWord n m b
+unfolding hexWord
+word-past n m a b h g = rw (hex-past n m a b h g)
 
 pub hex-behind : (k : ℕ) (m : List ℕ) (at : ℕ) → hexBytes k m (behindOf (length m) at) ≡ hexBytes k m (at + 1)
 hex-behind k m at = by (leb (length m) at) refl where

@@ -5,7 +5,7 @@ use mathlib.Core.List.{List}
 use mathlib.Core.Bool.{cond}
 use Prim.Native.Nat.{ℕ}
 use Rattle.replay_field.specs.Word.{bytes, begins}
-use Rattle.replay_line.specs.Line.{callLine, captureForm, controlForm, eventForm, guestLine, playForm, readForm, writeForm}
+use Rattle.replay_line.specs.Line.{callLine, captureForm, controlForm, eventForm, guestLine, playForm, writeForm}
 use Rattle.replay_line.specs.declared.Line.{Line}
 use Rattle.replay_line.proofs.call_line.Statement.{statement}
 use Rattle.replay_line.proofs.call_line.Tie as tie

@@ -53,10 +53,13 @@ unfolding dumpForm
 returns-2 c =
     rw (found1 (c .before .before .before), sym (c .before .before .size-at .ensures) ∙ c .enum-told2 .given .1)
 
+of-requires : tie.Need-of-requires
+of-requires c κs = tt
+
 returns-3 : tie.Need-returns-3
 unfolding dumpForm
 returns-3 c =
-    rw (found1 (back2 c), found2 c)
+    rw (found1 (back2 (c .before)), found2 (c .before), c .of .ensures)
 
 pub dump-form-spec : {M : Type 1} → statement M
 dump-form-spec =
@@ -70,4 +73,5 @@ dump-form-spec =
     enum-known-n
     enum-told-2
     returns-2
+    of-requires
     returns-3)

@@ -61,13 +61,17 @@ unfolding fillForm
 returns-3 c =
     rw (found1 (back2 (c .before)), found2 (c .before), lt-ltb _ _ (c .if1 .taken))
 
-cast-t11 : tie.Need-cast-t11
-cast-t11 c = omega (arith, field-most _ _ _ _ _ (found2 (c .before)))
+of-requires : tie.Need-of-requires
+of-requires c κs = tt
+
+cast-t12 : tie.Need-cast-t12
+cast-t12 c = omega (arith, field-most _ _ _ _ _ (found2 (c .before .before)))
 
 returns-4 : tie.Need-returns-4
 unfolding fillForm
 returns-4 c =
-    rw (found1 (back2 (c .before)), found2 (c .before), le-ltb _ _ (c .if1 .left))
+    let f = c .before .before in
+    rw (found1 (back2 f), found2 f, le-ltb _ _ (c .before .if1 .left), c .of .ensures)
 
 pub fill-form-spec : {M : Type 1} → statement M
 fill-form-spec =
@@ -82,5 +86,6 @@ fill-form-spec =
     enum-told-2
     returns-2
     returns-3
-    cast-t11
+    of-requires
+    cast-t12
     returns-4)

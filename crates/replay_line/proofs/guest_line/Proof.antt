@@ -5,7 +5,7 @@ use mathlib.Core.List.{List}
 use mathlib.Core.Bool.{cond}
 use Prim.Native.Nat.{ℕ}
 use Rattle.replay_field.specs.Word.{bytes, begins}
-use Rattle.replay_line.specs.Line.{dumpForm, fillForm, guestLine, ramForm, storeForm}
+use Rattle.replay_line.specs.Line.{dumpForm, fillForm, guestLine, ramForm}
 use Rattle.replay_line.specs.declared.Line.{Line}
 use Rattle.replay_line.specs.declared.Line.the-variants.{Unreadable}
 use Rattle.replay_line.proofs.guest_line.Statement.{statement}

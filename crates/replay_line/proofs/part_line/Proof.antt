@@ -5,7 +5,7 @@ use mathlib.Core.List.{List}
 use mathlib.Core.Bool.{true, false, cond}
 use Prim.Native.Nat.{ℕ}
 use Rattle.replay_field.specs.Word.{bytes, begins}
-use Rattle.replay_line.specs.Line.{callLine, jackForm, mapForm, partLine, powerForm, streamForm}
+use Rattle.replay_line.specs.Line.{callLine, mapForm, partLine, powerForm, streamForm}
 use Rattle.replay_line.specs.declared.Line.{Line}
 use Rattle.replay_line.proofs.part_line.Statement.{statement}
 use Rattle.replay_line.proofs.part_line.Tie as tie

@@ -54,10 +54,13 @@ unfolding storeForm
 returns-2 c =
     rw (found1 (c .before .before .before), sym (c .before .before .hex-at .ensures) ∙ c .enum-told2 .given .1)
 
+of-requires : tie.Need-of-requires
+of-requires c κs = tt
+
 returns-3 : tie.Need-returns-3
 unfolding storeForm
 returns-3 c =
-    rw (found1 (back2 c), found2 c)
+    rw (found1 (back2 (c .before)), found2 (c .before), c .of .ensures)
 
 pub store-form-spec : {M : Type 1} → statement M
 store-form-spec =
@@ -71,4 +74,5 @@ store-form-spec =
     enum-known-place
     enum-told-2
     returns-2
+    of-requires
     returns-3)
