@@ -1,6 +1,6 @@
 -- Laws of the access program: bytes from a place on, and the card's description.
 use mathlib.Core.Path.{_≡_, refl}
-use mathlib.Core.List.{List, [], _∷_, _++_, foldl}
+use mathlib.Core.List.{List, [], _++_, foldl}
 use mathlib.Core.Bool.{true}
 use Prim.Native.Nat.{ℕ, _+_, _≤_, _<_}
 use native.Mathlib.Numerals.{add-one}
@@ -12,7 +12,7 @@ use Rattle.access_line.specs.Collect.{emptyLine, kept}
 use Rattle.access_line.specs.declared.Collected.{Collected}
 use Rattle.access_line.specs.declared.Line.{Line}
 use Rattle.access_run.specs.Answers.{panel, actOf, answerText, next}
-use Rattle.access_run.specs.Session.{ended, lineText, fed, fedText, blockText}
+use Rattle.access_run.specs.Session.{lineEnded, lineText, fed, fedText, blockText}
 use Rattle.access_run.specs.declared.Acted.{Acted}
 use Rattle.access_run.specs.declared.Session.{Session}
 
@@ -41,8 +41,8 @@ module _ (s : Session) (number : ℕ) (a : Acted) (l : Line) (n : number ≡ nex
   unfolding lineText
   line-answer = rw (d, e, n)
 
-  pub line-session : (c : Collected) → c ≡ emptyLine → record { card = a .card; line = c; lines = number } ≡ ended s
-  unfolding ended
+  pub line-session : (c : Collected) → c ≡ emptyLine → record { card = a .card; line = c; lines = number } ≡ lineEnded s
+  unfolding lineEnded
   line-session c k = rw (d, e, n, k)
 
 -- ---- the card

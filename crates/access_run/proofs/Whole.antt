@@ -1,20 +1,17 @@
 -- However the input is cut into blocks, the texts that they leave, joined, are the answers to its lines, in order.
-use mathlib.Core.Path.{_≡_, refl, sym, _∙_, ap}
+use mathlib.Core.Path.{_≡_, refl, _∙_, ap}
 use mathlib.Core.List.{List, [], _∷_, _++_, foldl, foldl-append, append-nil, append-assoc}
-use mathlib.Core.Bool.{Bool, true, false, cond}
-use Prim.Native.Nat.{ℕ, _≤_, _<_}
-use native.Mathlib.Omega.{arith}
-use borrow.Author.Tests.{eqb-true, lt-ltb}
-use lib.Dec.{eqb, ltb}
-use lib.ListN.{length}
+use mathlib.Core.Bool.{Bool, true, false}
+use Prim.Native.Nat.{ℕ}
+use lib.Dec.{eqb}
 use Rattle.access_line.specs.Line.{lineOf}
-use Rattle.access_line.specs.Collect.{emptyLine, withByte, collected}
+use Rattle.access_line.specs.Collect.{collected}
 use Rattle.access_line.proofs.Laws.{collected-reads, collected-more, collected-some}
 use Rattle.card.specs.declared.Card.{Card}
 use Rattle.lines.specs.Lines.{linesOf, joined}
 use Rattle.lines.proofs.Laws.{behindPart, part-none, part-ended, part-more}
 use Rattle.access_run.specs.Answers.{answers, answerText, actOf, next, firstCard, printed}
-use Rattle.access_run.specs.Session.{firstSession, ended, lineText, fed, fedText, blockText, restText, handed}
+use Rattle.access_run.specs.Session.{firstSession, lineEnded, lineText, fed, fedText, blockText, restText, blocksText}
 use Rattle.access_run.specs.declared.Session.{Session}
 
 -- ---- a session within a line
@@ -29,8 +26,8 @@ line-read : (c : Card) (p : List ℕ) (n : ℕ)
 unfolding lineText
 line-read c p n = rw (collected-reads p)
 
-line-ended : (c : Card) (p : List ℕ) (n : ℕ) → ended (within c p n) ≡ within (actOf c (lineOf p) .card) [] (next n)
-unfolding ended
+line-ended : (c : Card) (p : List ℕ) (n : ℕ) → lineEnded (within c p n) ≡ within (actOf c (lineOf p) .card) [] (next n)
+unfolding lineEnded
 line-ended c p n = rw (collected-reads p)
 
 -- ---- all that the rest of the input leaves
@@ -81,12 +78,12 @@ unfolding blockText
 block-append [] b s = refl
 block-append (x ∷ a) b s = rw (block-append a b (fed s x), append-assoc)
 
-handed-told : (bs : List (List ℕ)) (s : Session) → handed s bs ≡ told s (joined bs)
-unfolding handed joined blockText
-handed-told [] s = refl
-handed-told (b ∷ bs) s = rw (handed-told bs (foldl fed s b), block-append b (joined bs) s, foldl-append fed s b (joined bs), append-assoc)
+blocks-told : (bs : List (List ℕ)) (s : Session) → blocksText s bs ≡ told s (joined bs)
+unfolding blocksText joined blockText
+blocks-told [] s = refl
+blocks-told (b ∷ bs) s = rw (blocks-told bs (foldl fed s b), block-append b (joined bs) s, foldl-append fed s b (joined bs), append-assoc)
 
 -- what is left in the buffer block by block is what is printed for the whole input
-pub session-text : (blocks : List (List ℕ)) → handed firstSession blocks ≡ printed (joined blocks)
+pub session-text : (blocks : List (List ℕ)) → blocksText firstSession blocks ≡ printed (joined blocks)
 session-text bs =
-    handed-told bs firstSession ∙ told-lines (joined bs) [] firstCard 0 ∙ ap (answers firstCard 0) (part-none (linesOf (joined bs)))
+    blocks-told bs firstSession ∙ told-lines (joined bs) [] firstCard 0 ∙ ap (answers firstCard 0) (part-none (linesOf (joined bs)))

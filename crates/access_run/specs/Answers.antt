@@ -1,16 +1,17 @@
 -- 01, The access program: what is printed for an input, on a card with stream 0 only and 65,536 bytes of RAM.
 use mathlib.Core.List.{List, [], _∷_, _++_}
 use Prim.Native.Nat.{ℕ, _+_, _%_, _^_}
-use lib.ListN.{replicate}
+use lib.ListN.{set}
 use Rattle.access_line.specs.Line.{lineOf}
 use Rattle.access_line.specs.declared.Line.{Line}
 use Rattle.access_line.specs.declared.Line.the-variants.{Read, Write, Unreadable}
-use Rattle.card.specs.Card.{cardOf, partsAtPower, noJackInfo, noMapInfo}
+use Rattle.card.specs.Card.{cardOf, partsAtPower}
 use Rattle.card.specs.Rules.{readCard, writeCard}
 use Rattle.card.specs.declared.Card.{Card}
 use Rattle.card.specs.declared.ReadAnswer.{ReadAnswer}
 use Rattle.card.specs.declared.WriteAnswer.{WriteAnswer}
 use Rattle.decimal.specs.Write.{fieldOf}
+use Rattle.description.specs.Nothing.{nothingDescribed}
 use Rattle.description.specs.declared.Description.{Description}
 use Rattle.description.specs.declared.StreamInfo.{StreamInfo}
 use Rattle.lines.specs.Lines.{linesOf}
@@ -22,7 +23,7 @@ use Rattle.access_run.specs.declared.Acted.{Acted}
 abbrev pub output : StreamInfo
 output = record { nid = 0; features = 0; formats = 32; rates = 128; «channels_min» = 1; «channels_max» = 2 }
 
--- the second place is that of an input stream, of which there is none
+-- stream 0, and nothing else described
 abbrev pub panel : Description
 panel =
     record {
@@ -30,9 +31,9 @@ panel =
       «map_count» = 0;
       «output_count» = 1;
       «input_count» = 0;
-      jacks = replicate 4 noJackInfo;
-      maps = replicate 4 noMapInfo;
-      streams = replicate 2 output;
+      jacks = nothingDescribed .jacks;
+      maps = nothingDescribed .maps;
+      streams = set (nothingDescribed .streams) 0 output;
     }
 
 abbrev pub firstCard : Card

@@ -21,15 +21,15 @@ firstSession = record { card = firstCard; line = emptyLine; lines = 0 }
 abbrev pub acted : Session → Acted
 acted s = actOf (s .card) (lineOf (kept (s .line)))
 
-unfoldable pub ended : Session → Session
-ended s = record { card = acted s .card; line = emptyLine; lines = next (s .lines) }
+unfoldable pub lineEnded : Session → Session
+lineEnded s = record { card = acted s .card; line = emptyLine; lines = next (s .lines) }
 
 unfoldable pub lineText : Session → List ℕ
 lineText s = answerText (next (s .lines)) (acted s .answer) (acted s .value)
 
 -- one byte more: a line feed, 10, ends the line
 unfoldable pub fed : Session → ℕ → Session
-fed s b = cond (eqb b 10) (ended s) (record { card = s .card; line = withByte (s .line) b; lines = s .lines })
+fed s b = cond (eqb b 10) (lineEnded s) (record { card = s .card; line = withByte (s .line) b; lines = s .lines })
 
 unfoldable pub fedText : Session → ℕ → List ℕ
 fedText s b = cond (eqb b 10) (lineText s) []
@@ -50,9 +50,9 @@ takenText s count block = cond (eqb count 0) (restText s) (blockText s (take cou
 -- ---- blocks one after the other
 
 -- the text that they leave, and the end of the input
-unfoldable pub handed : Session → List (List ℕ) → List ℕ
-handed s [] = restText s
-handed s (b ∷ bs) = blockText s b ++ handed (foldl fed s b) bs
+unfoldable pub blocksText : Session → List (List ℕ) → List ℕ
+blocksText s [] = restText s
+blocksText s (b ∷ bs) = blockText s b ++ blocksText (foldl fed s b) bs
 
 -- ---- what is promised of a part of the input
 

@@ -8,13 +8,11 @@ ghost use lib.ListN.{length, take};
 ghost use Rattle.card.specs.Fit.{Fit};
 ghost use Rattle.decimal.specs.Write.{Put};
 ghost use Rattle.access_run.specs.Answers.{panel, actOf, answerText};
-ghost use Rattle.access_run.specs.Session.{firstSession, ended, lineText, fed, fedText, blockText, restText, takenText, Takes};
+ghost use Rattle.access_run.specs.Session.{firstSession, lineEnded, lineText, fed, fedText, blockText, restText, takenText, Takes};
 use access_line::Collected;
 use access_line::Line;
 use card::Card;
 use description::Description;
-use description::JackInfo;
-use description::MapInfo;
 use description::StreamInfo;
 use libc::STDIN_FILENO;
 use libc::STDOUT_FILENO;
@@ -67,20 +65,7 @@ fn text_buffer() -> [u8; 262144]
 fn description() -> Description
     ensures { λ r. ⌜ r ≡ panel ⌝ }
 {
-    let jack = JackInfo {
-        nid: 0,
-        features: 0,
-        defconf: 0,
-        caps: 0,
-        connected: 0,
-    };
-    let map = MapInfo {
-        nid: 0,
-        direction: 0,
-        channels: 0,
-        positions: [0; 18],
-    };
-    let stream = StreamInfo {
+    let output = StreamInfo {
         nid: 0,
         features: 0,
         formats: 32,
@@ -88,15 +73,10 @@ fn description() -> Description
         channels_min: 1,
         channels_max: 2,
     };
-    Description {
-        jack_count: 0,
-        map_count: 0,
-        output_count: 1,
-        input_count: 0,
-        jacks: [jack; 4],
-        maps: [map; 4],
-        streams: [stream; 2],
-    }
+    let mut panel = description::nothing();
+    panel.output_count = 1;
+    panel.streams[0] = output;
+    panel
 }
 
 // The card at power-up, and no line yet.
@@ -158,7 +138,7 @@ fn put_answer(out: &mut [u8], at: usize, number: u64, answer: u8, value: u32) ->
 // The line collected is whole: it is done and answered.
 fn end_line(session: Session, out: &mut [u8], at: usize) -> Turn
     requires { ⌜ Fit (session .card) × (at + 63 ≤ length (now out)) ⌝ }
-    ensures { λ r. ⌜ Takes (ended session) (lineText session) (now (out .entry)) at (now (out .exit)) (r .session) (r .end)
+    ensures { λ r. ⌜ Takes (lineEnded session) (lineText session) (now (out .entry)) at (now (out .exit)) (r .session) (r .end)
         × (r .end ≤ at + 63) ⌝ }
 {
     let card = session.card;

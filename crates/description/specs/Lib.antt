@@ -1,2 +1,3 @@
--- What a lawful description is.
+-- What a lawful description is, and the description of nothing.
 pub mod Lawful
+pub mod Nothing

@@ -2,6 +2,7 @@
 ghost use mathlib.Core.Path.{_≡_};
 ghost use Prim.Native.Nat.{_+_, _≤_, _<_};
 ghost use lib.ListN.{take};
+ghost use Rattle.description.specs.Nothing.{nothingDescribed};
 ghost use Rattle.description.specs.Lawful.{every, lawful, lawfulJack, lawfulMap, lawfulStream, lawfulChannels, lawfulPositions, lawfulPosition, inBits};
 
 #[repr(C)]
@@ -42,6 +43,42 @@ pub struct Description {
     pub jacks: [JackInfo; 4],
     pub maps: [MapInfo; 4],
     pub streams: [StreamInfo; 2],
+}
+
+// Nothing described: no part of any kind.
+pub fn nothing() -> Description
+    ensures { λ r. ⌜ r ≡ nothingDescribed ⌝ }
+{
+    let jack = JackInfo {
+        nid: 0,
+        features: 0,
+        defconf: 0,
+        caps: 0,
+        connected: 0,
+    };
+    let map = MapInfo {
+        nid: 0,
+        direction: 0,
+        channels: 0,
+        positions: [0; 18],
+    };
+    let stream = StreamInfo {
+        nid: 0,
+        features: 0,
+        formats: 0,
+        rates: 0,
+        channels_min: 0,
+        channels_max: 0,
+    };
+    Description {
+        jack_count: 0,
+        map_count: 0,
+        output_count: 0,
+        input_count: 0,
+        jacks: [jack; 4],
+        maps: [map; 4],
+        streams: [stream; 2],
+    }
 }
 
 // Whether a mask has a bit, and none at `n` or above.

@@ -18,26 +18,19 @@ abbrev pub describes : ℕ → ℕ → ℕ → ℕ → List JackInfo → List Ma
 describes j m o i js ms ss =
     record { «jack_count» = j; «map_count» = m; «output_count» = o; «input_count» = i; jacks = js; maps = ms; streams = ss }
 
-abbrev pub noDescription : Description
-noDescription =
-    describes 0 0 0 0
-    (replicate 4 (record { nid = 0; features = 0; defconf = 0; caps = 0; connected = 0 }))
-    (replicate 4 (record { nid = 0; direction = 0; channels = 0; positions = replicate 18 0 }))
-    (replicate 2 (record { nid = 0; features = 0; formats = 0; rates = 0; «channels_min» = 0; «channels_max» = 0 }))
-
 -- one more, as far as 32 bits count
-abbrev pub oneMore : ℕ → ℕ
-oneMore n = cond (ltb n 4294967295) (n + 1) n
+abbrev pub nextCount : ℕ → ℕ
+nextCount n = cond (ltb n 4294967295) (n + 1) n
 
 -- the first four are kept
 unfoldable pub withJack : Description → JackInfo → Description
 withJack d info =
-    describes (oneMore (d .«jack_count»)) (d .«map_count») (d .«output_count») (d .«input_count»)
+    describes (nextCount (d .«jack_count»)) (d .«map_count») (d .«output_count») (d .«input_count»)
     (cond (ltb (d .«jack_count») 4) (set (d .jacks) (d .«jack_count») info) (d .jacks)) (d .maps) (d .streams)
 
 unfoldable pub withMap : Description → MapInfo → Description
 withMap d map =
-    describes (d .«jack_count») (oneMore (d .«map_count»)) (d .«output_count») (d .«input_count»)
+    describes (d .«jack_count») (nextCount (d .«map_count»)) (d .«output_count») (d .«input_count»)
     (d .jacks) (cond (ltb (d .«map_count») 4) (set (d .maps) (d .«map_count») map) (d .maps)) (d .streams)
 
 -- "POSITIONS is HEX of exactly 18 bytes", which stands at `at` in the line
@@ -48,11 +41,13 @@ mapAt s nid direction channels at =
 -- of several the last is kept
 unfoldable pub withOutput : Description → StreamInfo → Description
 withOutput d info =
-    describes (d .«jack_count») (d .«map_count») (oneMore (d .«output_count»)) (d .«input_count») (d .jacks) (d .maps) (set (d .streams) 0 info)
+    describes (d .«jack_count») (d .«map_count») (nextCount (d .«output_count»)) (d .«input_count»)
+    (d .jacks) (d .maps) (set (d .streams) 0 info)
 
 unfoldable pub withInput : Description → StreamInfo → Description
 withInput d info =
-    describes (d .«jack_count») (d .«map_count») (d .«output_count») (oneMore (d .«input_count»)) (d .jacks) (d .maps) (set (d .streams) 1 info)
+    describes (d .«jack_count») (d .«map_count») (d .«output_count») (nextCount (d .«input_count»))
+    (d .jacks) (d .maps) (set (d .streams) 1 info)
 
 -- one more part, described by the line s
 abbrev pub withPart : Description → Part → List ℕ → Description

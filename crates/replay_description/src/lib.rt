@@ -1,51 +1,15 @@
 // The description that the lines of a script collect for the next power-up.
 ghost use mathlib.Core.Path.{_≡_};
-ghost use Rattle.replay_description.specs.Parts.{noDescription, oneMore, withJack, withMap, mapAt, withOutput, withInput, withPart};
+ghost use Rattle.replay_description.specs.Parts.{nextCount, withJack, withMap, mapAt, withOutput, withInput, withPart};
 use description::Description;
 use description::JackInfo;
 use description::MapInfo;
 use description::StreamInfo;
 use replay_line::Part;
 
-// Nothing described yet.
-pub fn no_description() -> Description
-    ensures { λ r. ⌜ r ≡ noDescription ⌝ }
-{
-    let jack = JackInfo {
-        nid: 0,
-        features: 0,
-        defconf: 0,
-        caps: 0,
-        connected: 0,
-    };
-    let map = MapInfo {
-        nid: 0,
-        direction: 0,
-        channels: 0,
-        positions: [0; 18],
-    };
-    let stream = StreamInfo {
-        nid: 0,
-        features: 0,
-        formats: 0,
-        rates: 0,
-        channels_min: 0,
-        channels_max: 0,
-    };
-    Description {
-        jack_count: 0,
-        map_count: 0,
-        output_count: 0,
-        input_count: 0,
-        jacks: [jack; 4],
-        maps: [map; 4],
-        streams: [stream; 2],
-    }
-}
-
 // One more of a kind of part; no script has so many that the count is full.
-fn one_more(count: u32) -> u32
-    ensures { λ r. ⌜ r ≡ oneMore count ⌝ }
+fn next_count(count: u32) -> u32
+    ensures { λ r. ⌜ r ≡ nextCount count ⌝ }
 {
     if count < 4294967295 {
         return count + 1;
@@ -58,7 +22,7 @@ fn with_jack(d: Description, info: JackInfo) -> Description
     ensures { λ r. ⌜ r ≡ withJack d info ⌝ }
 {
     let mut next = d;
-    next.jack_count = one_more(d.jack_count);
+    next.jack_count = next_count(d.jack_count);
     let i = d.jack_count as usize;
     if 4 <= i {
         return next;
@@ -72,7 +36,7 @@ fn with_map(d: Description, map: MapInfo) -> Description
     ensures { λ r. ⌜ r ≡ withMap d map ⌝ }
 {
     let mut next = d;
-    next.map_count = one_more(d.map_count);
+    next.map_count = next_count(d.map_count);
     let i = d.map_count as usize;
     if 4 <= i {
         return next;
@@ -101,7 +65,7 @@ fn with_output(d: Description, info: StreamInfo) -> Description
 {
     let mut next = d;
     next.streams[0] = info;
-    next.output_count = one_more(d.output_count);
+    next.output_count = next_count(d.output_count);
     next
 }
 
@@ -110,7 +74,7 @@ fn with_input(d: Description, info: StreamInfo) -> Description
 {
     let mut next = d;
     next.streams[1] = info;
-    next.input_count = one_more(d.input_count);
+    next.input_count = next_count(d.input_count);
     next
 }
 

@@ -9,12 +9,12 @@ use Rattle.card.specs.Rules.{poweredOf}
 use Rattle.card.specs.declared.Card.{Card}
 use Rattle.card.specs.declared.Powered.{Powered}
 use Rattle.decimal.proofs.Writing.{put-as}
+use Rattle.description.specs.Nothing.{nothingDescribed}
 use Rattle.description.specs.declared.Description.{Description}
 use Rattle.lines.specs.Lines.{linesOf, joined, spanOf, behindOf}
 use Rattle.lines.proofs.Laws.{lines-next}
 use Rattle.message.specs.Card.{stepOf}
 use Rattle.replay_call.specs.Shown.{shownFor, Left, leftBy, left}
-use Rattle.replay_description.specs.Parts.{noDescription}
 use Rattle.replay_host.specs.Host.{askedBy}
 use Rattle.replay_line.specs.Line.{lineOf}
 use Rattle.replay_line.specs.declared.Call.{Call}
@@ -63,32 +63,32 @@ called-text (Event code info) line s = kept-call line _ _ _ _
 
 -- a line's call, on the first `lent` bytes of the array
 module _ (st : State) (call : Call) (s ram : List ℕ) (lent : ℕ) (p : st .powered ≡ true) (e : lent ≡ min (st .len) (length ram)) where
-  abbrev done : Step (Device Queue)
-  done = stepOf (st .card) (askedBy call s) (take lent ram)
+  abbrev made-step : Step (Device Queue)
+  made-step = stepOf (st .card) (askedBy call s) (take lent ram)
 
-  pub made-text : kept (shownFor (askedBy call s) (st .line) done) ≡ calledText call s (worldOf st ram)
+  pub made-text : kept (shownFor (askedBy call s) (st .line) made-step) ≡ calledText call s (worldOf st ram)
   unfolding calledText
-  made-text = rw (p, ← e) (called-text (askedBy call s) (st .line) done)
+  made-text = rw (p, ← e) (called-text (askedBy call s) (st .line) made-step)
 
   abbrev after : Left → World
   after l = record { desk = deskOf st; device = l .device; ram = l .memory ++ drop lent ram }
 
-  made : after (leftBy done) ≡ calledWorld call s (worldOf st ram)
+  made : after (leftBy made-step) ≡ calledWorld call s (worldOf st ram)
   unfolding calledWorld
   made = rw (p, ← e)
 
-  pub made-world : (c : Card) (m : List ℕ) → leftBy done ≡ left c m → after (left c m) ≡ calledWorld call s (worldOf st ram)
+  pub made-world : (c : Card) (m : List ℕ) → leftBy made-step ≡ left c m → after (left c m) ≡ calledWorld call s (worldOf st ram)
   made-world c m h = ap after (sym h) ∙ made
 
--- with no card it is refused
+-- with no card nothing is done
 module _ (st : State) (call : Call) (s ram : List ℕ) (p : st .powered ≡ false) where
-  pub refused-text : answerBytes (st .line) 99 ≡ calledText call s (worldOf st ram)
+  pub unpowered-text : answerBytes (st .line) 99 ≡ calledText call s (worldOf st ram)
   unfolding calledText
-  refused-text = rw p
+  unpowered-text = rw p
 
-  pub refused-world : worldOf st ram ≡ calledWorld call s (worldOf st ram)
+  pub unpowered-world : worldOf st ram ≡ calledWorld call s (worldOf st ram)
   unfolding calledWorld
-  refused-world = rw p
+  unpowered-world = rw p
 
 -- ---- power-up, with `lent` bytes
 
@@ -97,7 +97,7 @@ module _ (st : State) (n lent : ℕ) (ram : List ℕ) (p : Powered) (e : lent �
   pub powered-text : answerBytes (st .line) (p .answer) ≡ answerBytes (st .line) (poweredOf (st .described) (min n (length ram)) .answer)
   powered-text = rw (h, e)
 
-  pub powered-world : (ram′ : List ℕ) (d : Description) → ram′ ≡ filled 1048576 ram 0 0 → d ≡ noDescription
+  pub powered-world : (ram′ : List ℕ) (d : Description) → ram′ ≡ filled 1048576 ram 0 0 → d ≡ nothingDescribed
       → worldOf (record { line = st .line; len = lent; powered = eqb (p .answer) 0; described = d; card = p .card }) ram′
       ≡ poweredWorld (min n (length ram)) (worldOf st ram)
   powered-world ram′ d f g = rw (h, e, f, g)

@@ -9,11 +9,12 @@ use lib.ListN.{length, take, drop}
 use Rattle.card.specs.Fit.{Fit}
 use Rattle.card.specs.Rules.{poweredOf}
 use Rattle.decimal.specs.Write.{Put}
+use Rattle.description.specs.Nothing.{nothingDescribed}
 use Rattle.description.specs.declared.Description.{Description}
 use Rattle.lines.specs.Lines.{spanOf, behindOf}
 use Rattle.message.specs.Card.{deviceOf}
 use Rattle.replay_call.specs.Shown.{Left, leftBy}
-use Rattle.replay_description.specs.Parts.{noDescription, withPart}
+use Rattle.replay_description.specs.Parts.{withPart}
 use Rattle.replay_host.specs.Host.{askedBy}
 use Rattle.replay_line.specs.Line.{lineOf}
 use Rattle.replay_line.specs.declared.Call.{Call}
@@ -50,10 +51,10 @@ worldOf s ram = record { desk = deskOf s; device = deviceOf (s .card); ram = ram
 
 -- no line yet, no memory lent, no card: that of a power-up that was refused stands in its place
 abbrev pub firstDesk : Desk
-firstDesk = record { line = 0; len = 0; powered = false; described = noDescription }
+firstDesk = record { line = 0; len = 0; powered = false; described = nothingDescribed }
 
 abbrev pub firstWorld : List ℕ → World
-firstWorld ram = record { desk = firstDesk; device = deviceOf (poweredOf noDescription 0 .card); ram = ram }
+firstWorld ram = record { desk = firstDesk; device = deviceOf (poweredOf nothingDescribed 0 .card); ram = ram }
 
 -- ---- the parts of a line
 
@@ -78,7 +79,7 @@ abbrev pub poweredWorld : ℕ → World → World
 poweredWorld n w =
     let d : Desk = w .desk in
     record {
-      desk = record { line = d .line; len = n; powered = eqb (poweredOf (d .described) n .answer) 0; described = noDescription };
+      desk = record { line = d .line; len = n; powered = eqb (poweredOf (d .described) n .answer) 0; described = nothingDescribed };
       device = deviceOf (poweredOf (d .described) n .card);
       ram = filled 1048576 (w .ram) 0 0;
     }
@@ -88,12 +89,12 @@ abbrev pub lentIn : World → ℕ
 lentIn w = min (w .desk .len) (length (w .ram))
 
 -- "a call before a successful power" does nothing and is answered 99; a call changes the memory lent to it, and not the array past it
-abbrev pub left : Left → World → World
-left l w = record { desk = w .desk; device = l .device; ram = l .memory ++ drop (lentIn w) (w .ram) }
+abbrev pub afterCall : Left → World → World
+afterCall l w = record { desk = w .desk; device = l .device; ram = l .memory ++ drop (lentIn w) (w .ram) }
 
 unfoldable pub calledWorld : Call → List ℕ → World → World
 calledWorld call s w =
-    cond (w .desk .powered) (left (leftBy (stepIn (w .device) (askedBy call s) (take (lentIn w) (w .ram)))) w) w
+    cond (w .desk .powered) (afterCall (leftBy (stepIn (w .device) (askedBy call s) (take (lentIn w) (w .ram)))) w) w
 
 unfoldable pub calledText : Call → List ℕ → World → List ℕ
 calledText call s w =

@@ -9,7 +9,8 @@ ghost use Rattle.card.specs.Rules.{poweredOf};
 ghost use Rattle.decimal.specs.Write.{Put};
 ghost use Rattle.lines.specs.Lines.{linesOf};
 ghost use Rattle.replay_text.specs.Text.{answerBytes};
-ghost use Rattle.replay_run.specs.Session.{worldOf, firstWorld, poweredWorld, calledWorld, calledText, stepWorld, stepText, sessionWorld, Steps};
+ghost use Rattle.replay_run.specs.Session.{worldOf, firstWorld, poweredWorld, calledWorld, calledText};
+ghost use Rattle.replay_run.specs.Session.{stepWorld, stepText, sessionWorld, Steps};
 use card::Card;
 use description::Description;
 use libc::STDIN_FILENO;
@@ -20,8 +21,10 @@ use replay_line::Line;
 // The answer to a line that can't be read, and to a call with no card.
 const UNREADABLE: u8 = 99;
 
-// The longest script.
+// The longest script, and the greatest length of RAM.
 const MAX_SCRIPT: usize = 1048576;
+
+const MAX_RAM: usize = 1048576;
 
 // Lines so far, bytes lent, whether the last power-up was answered 0, what is described for the next
 // one, and the card.
@@ -70,7 +73,7 @@ fn power(state: State, n: usize, ram: &mut [u8], out: &mut [u8]) -> Turn
         (now (out .entry)) (now (ram .exit)) (now (out .exit)) r ⌝ }
 {
     let len = replay_memory::within(n, ram);
-    replay_memory::fill(ram, 0, MAX_SCRIPT, 0);
+    replay_memory::fill(ram, 0, MAX_RAM, 0);
     let d = state.described;
     let powered = card::power_up(d, len);
     let end = answer(state.line, powered.answer, out);
@@ -79,7 +82,7 @@ fn power(state: State, n: usize, ram: &mut [u8], out: &mut [u8]) -> Turn
         line: state.line,
         len: len,
         powered: powered.answer == 0,
-        described: replay_description::no_description(),
+        described: description::nothing(),
         card: card,
     };
     Turn {
@@ -96,10 +99,10 @@ fn call_line(state: State, call: Call, s: &[u8], ram: &mut [u8], out: &mut [u8])
         (now (out .entry)) (now (ram .exit)) (now (out .exit)) r ⌝ }
 {
     if !state.powered {
-        let refused = answer(state.line, UNREADABLE, out);
+        let end = answer(state.line, UNREADABLE, out);
         return Turn {
             state: state,
-            end: refused,
+            end: end,
         };
     }
     let lent = replay_memory::within(state.len, ram);
@@ -163,13 +166,13 @@ fn step(state: State, s: &[u8], ram: &mut [u8], out: &mut [u8]) -> Turn
 fn first_state(ram: &[u8]) -> State
     ensures { λ r. ⌜ (worldOf r (now (ram .entry)) ≡ firstWorld (now (ram .entry))) × Fit (r .card) ⌝ }
 {
-    let powered = card::power_up(replay_description::no_description(), 0);
+    let powered = card::power_up(description::nothing(), 0);
     let card = powered.card;
     State {
         line: 0,
         len: 0,
         powered: false,
-        described: replay_description::no_description(),
+        described: description::nothing(),
         card: card,
     }
 }

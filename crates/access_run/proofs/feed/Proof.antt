@@ -1,5 +1,4 @@
 -- A line feed ends the line; any other byte is one more of it, and leaves no text.
-use mathlib.Core.Path.{refl}
 use native.Mathlib.Omega.{arith}
 use borrow.Author.Tests.{eq-eqb, ne-eqb}
 use Rattle.decimal.proofs.Writing.{put-none}

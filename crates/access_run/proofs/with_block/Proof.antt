@@ -2,9 +2,9 @@
 -- written the whole block's is. A byte leaves at most 63 bytes of text, so that there is room for the next.
 use mathlib.Core.Path.{_≡_, _∙_, sym, refl}
 use mathlib.Core.List.{List, foldl}
-use Prim.Native.Nat.{ℕ, _+_, _-_, _*_, _≤_, _<_}
+use Prim.Native.Nat.{ℕ, _-_, _*_, _≤_, _<_}
 use native.Mathlib.Omega.{arith}
-use lib.ListN.{length, getD, drop}
+use lib.ListN.{length, drop}
 use Rattle.card.specs.Fit.{Fit}
 use Rattle.decimal.proofs.Writing.{Rest, rest-first, rest-more, rest-none}
 use Rattle.access_run.specs.Session.{fed, blockText}

@@ -5,15 +5,15 @@ use borrow.Author.Tests.{le-ltb, lt-ltb}
 use Rattle.replay_description.proofs.with_jack.Statement.{statement}
 use Rattle.replay_description.proofs.with_jack.Tie as tie
 
-one-more-requires : tie.Need-one-more-requires
-one-more-requires c κs = search needs
+next-count-requires : tie.Need-next-count-requires
+next-count-requires c κs = search needs
 
 cast-i : tie.Need-cast-i
 cast-i c = search needs
 
 returns : tie.Need-returns
 unfolding withJack
-returns c = rw (c .before .before .one-more .ensures, le-ltb _ 4 (c .if1 .taken))
+returns c = rw (c .before .before .next-count .ensures, le-ltb _ 4 (c .if1 .taken))
 
 mul-info : tie.Need-mul-info
 mul-info c = search needs
@@ -23,8 +23,8 @@ element-set-from-info c = search needs
 
 returns-2 : tie.Need-returns-2
 unfolding withJack
-returns-2 c = rw (c .before .before .one-more .ensures, lt-ltb _ 4 (c .if1 .left))
+returns-2 c = rw (c .before .before .next-count .ensures, lt-ltb _ 4 (c .if1 .left))
 
 pub with-jack-spec : {M : Type 1} → statement M
 with-jack-spec =
-    tie.close (tie.spec one-more-requires cast-i returns mul-info element-set-from-info returns-2)
+    tie.close (tie.spec next-count-requires cast-i returns mul-info element-set-from-info returns-2)

@@ -7,12 +7,12 @@ use Rattle.replay_description.proofs.with_output.Tie as tie
 element-set-from-info : tie.Need-element-set-from-info
 element-set-from-info c = search needs
 
-one-more-requires : tie.Need-one-more-requires
-one-more-requires c κs = search needs
+next-count-requires : tie.Need-next-count-requires
+next-count-requires c κs = search needs
 
 returns : tie.Need-returns
 unfolding withOutput
-returns c = rw (c .one-more .ensures)
+returns c = rw (c .next-count .ensures)
 
 pub with-output-spec : {M : Type 1} → statement M
-with-output-spec = tie.close (tie.spec element-set-from-info one-more-requires returns)
+with-output-spec = tie.close (tie.spec element-set-from-info next-count-requires returns)

@@ -4,7 +4,7 @@ use native.Mathlib.Omega.{arith}
 use borrow.Author.Tests.{not-true, not-false}
 use Rattle.decimal.proofs.Writing.{put-as}
 use Rattle.replay_text.specs.Text.{kept}
-use Rattle.replay_run.proofs.Laws.{made-text, made-world, refused-text, refused-world}
+use Rattle.replay_run.proofs.Laws.{made-text, made-world, unpowered-text, unpowered-world}
 use borrow.Author.Needs.{needs}
 use Rattle.replay_run.proofs.call_line.Statement.{statement}
 use Rattle.replay_run.proofs.call_line.Tie as tie
@@ -32,8 +32,8 @@ returns c =
     let given = start (test .before) in
     let none = not-true (given .args .state .powered) (test .if1 .taken) in
     record {
-      world = refused-world _ _ _ _ none;
-      text = put-as (refused-text _ _ _ (given .args .ram .now) none) (put .ensures .0);
+      world = unpowered-world _ _ _ _ none;
+      text = put-as (unpowered-text _ _ _ (given .args .ram .now) none) (put .ensures .0);
       room = omega (arith, put .ensures .1, put .kept .1 .1 .0, given .pre .1);
       fit = given .pre .0;
     }

@@ -28,8 +28,8 @@ power-up-requires c κs = search needs
 answer-requires : tie.Need-answer-requires
 answer-requires c κs = search needs
 
-no-description-requires : tie.Need-no-description-requires
-no-description-requires c κs = search needs
+nothing-requires : tie.Need-nothing-requires
+nothing-requires c κs = search needs
 
 same-length : tie.Need-same-length
 same-length c = search needs
@@ -49,7 +49,7 @@ returns c =
     let n = start within .args .n in
     let ram = start within .args .ram .now in
     record {
-      world = powered-world st n _ ram _ lent (p .0) _ _ (fill .fill .ensures) (c .no-description .ensures);
+      world = powered-world st n _ ram _ lent (p .0) _ _ (fill .fill .ensures) (c .nothing .ensures);
       text = put-as (powered-text st n _ ram _ lent (p .0)) (put .answer .ensures .0);
       room = omega (arith, put .answer .ensures .1, put .answer .kept .1 .1 .0, start within .pre);
       fit = p .1;
@@ -63,7 +63,7 @@ power-spec =
     fill-requires
     power-up-requires
     answer-requires
-    no-description-requires
+    nothing-requires
     same-length
     same-length-2
     returns)

@@ -1,8 +1,8 @@
 -- Each answer is the comparison that led to it.
 use borrow.Author.Needs.{needs}
 use borrow.Author.Tests.{le-ltb, lt-ltb}
-use Rattle.replay_description.proofs.one_more.Statement.{statement}
-use Rattle.replay_description.proofs.one_more.Tie as tie
+use Rattle.replay_description.proofs.next_count.Statement.{statement}
+use Rattle.replay_description.proofs.next_count.Tie as tie
 
 add-result : tie.Need-add-result
 add-result c = search needs
@@ -13,5 +13,5 @@ returns c = rw (lt-ltb _ 4294967295 (c .if1 .taken))
 returns-2 : tie.Need-returns-2
 returns-2 c = rw (le-ltb _ 4294967295 (c .if1 .left))
 
-pub one-more-spec : {M : Type 1} → statement M
-one-more-spec = tie.close (tie.spec add-result returns returns-2)
+pub next-count-spec : {M : Type 1} → statement M
+next-count-spec = tie.close (tie.spec add-result returns returns-2)
