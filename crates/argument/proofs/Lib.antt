@@ -1,2 +1,2 @@
--- Laws of the digits of an argument.
-pub mod Digits
+-- Laws of an argument's digits.
+pub mod Laws

@@ -1,34 +1,27 @@
 // A program's argument that is a number: 1 to 10 decimal digits and nothing else.
 ghost use mathlib.Core.Path.{_≡_};
 ghost use Rattle.argument.specs.Number.{numberOf};
+use decimal::Number;
 
-pub enum Number {
-    Is(u64),
-    None,
+// The most digits, and the greatest number that they write.
+const DIGITS: usize = 10;
+
+const GREATEST: u64 = 9999999999;
+
+pub enum Argument {
+    Number(u64),
+    Other,
 }
 
 // The number that an argument is.
-pub fn read_number(s: &[u8]) -> Number
+pub fn read_number(s: &[u8]) -> Argument
     ensures { λ r. ⌜ r ≡ numberOf (now (s .entry)) ⌝ }
 {
-    if s.len() == 0 {
-        return Number::None;
+    let Number::Is(v, end) = decimal::number_at(s, 0, DIGITS, GREATEST) else {
+        return Argument::Other;
+    };
+    if end < s.len() {
+        return Argument::Other;
     }
-    if 10 < s.len() {
-        return Number::None;
-    }
-    let mut i = 0;
-    let mut v: u64 = 0;
-    while i < s.len() {
-        let b = s[i];
-        if b < b'0' {
-            return Number::None;
-        }
-        if b'9' < b {
-            return Number::None;
-        }
-        v = 10 * v + (b - b'0') as u64;
-        i += 1;
-    }
-    Number::Is(v)
+    Argument::Number(v)
 }

@@ -6,7 +6,7 @@ ghost use Rattle.io.specs.Counts.{Counts};
 ghost use Rattle.samples.specs.Formats.{codingOf};
 ghost use Rattle.convert_run.specs.Blocks.{MadeBy};
 ghost use Rattle.convert_run.specs.Reports.{refusal, lengthAnswer, FormatFirst};
-use argument::Number;
+use argument::Argument;
 use libc::SEEK_END;
 use libc::SEEK_SET;
 use libc::STDOUT_FILENO;
@@ -298,7 +298,7 @@ fn from_arguments() -> Report {
     }
     let mut word = io::buffer();
     let n = os::arg(1, &mut word);
-    let Number::Is(format) = argument::read_number(&word[..n]) else {
+    let Argument::Number(format) = argument::read_number(&word[..n]) else {
         return refused(USAGE);
     };
     if 4294967295 < format {

@@ -1,6 +1,6 @@
 -- Laws of numbers written: how many digits, that a number is read back, and stores one behind the other.
-use mathlib.Core.Path.{_≡_, refl, sym, _∙_, ap}
-use mathlib.Core.List.{List, [], _∷_, _++_, foldl, foldl-append, append-nil}
+use mathlib.Core.Path.{_≡_, refl, sym, _∙_}
+use mathlib.Core.List.{List, [], _∷_, _++_, foldl-append}
 use mathlib.Core.Bool.{Bool, true, false, cond}
 use Prim.Native.Nat.{ℕ, zero, suc, _+_, _-_, _*_, _/_, _%_, _^_, _≤_, _<_}
 use native.Mathlib.Nat.{pow-suc, pow-le-pow-right}
@@ -10,7 +10,7 @@ use borrow.Author.Tests.{leb-true, leb-false, ltb-true, ltb-false, lt-ltb}
 use lib.Dec.{leb, ltb}
 use lib.ListN.{length, getD, set, take, drop, drop-of-length-le, length-append}
 use lib.Seq.{sets, sets-eq, drop-cons, take-append-seam}
-use Rattle.io.specs.Digits.{Fewest, digits as lastDigits, glyph}
+use Rattle.io.specs.Digits.{Fewest, digits as lastDigits}
 use Rattle.decimal.specs.Read.{value, oneMore}
 use Rattle.decimal.specs.Write.{places, decimalOf, fieldOf, Put}
 

@@ -44,7 +44,7 @@ fn wide(x: u8) -> u64
 }
 
 // The number of at most `most` digits and at most `max` whose first digit stands at `at`.
-fn number_at(s: &[u8], at: usize, most: usize, max: u64) -> Number
+pub fn number_at(s: &[u8], at: usize, most: usize, max: u64) -> Number
     ensures { λ r. ⌜ r ≡ numberAt (now (s .entry)) at most max ⌝ }
 {
     if s.len() <= at {

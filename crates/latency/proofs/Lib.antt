@@ -1,6 +1,5 @@
 -- Laws of texts and of the report.
 pub mod Texts
-pub mod Decimals
 pub mod Lengths
 pub mod Reports
 pub mod Readings

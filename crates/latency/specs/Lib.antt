@@ -1,5 +1,4 @@
 -- The latency report as text, and what is read for it.
-pub mod Decimal
 pub mod Text
 pub mod Report
 pub mod Reading

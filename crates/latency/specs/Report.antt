@@ -11,20 +11,20 @@ use Rattle.latency_tally.specs.Records.{recordsOf}
 use Rattle.latency_tally.specs.Tally.{tallyOf}
 use Rattle.latency_tally.specs.declared.Input.{Input}
 use Rattle.latency_tally.specs.declared.Tally.{Tally}
-use Rattle.latency.specs.Decimal.{field}
+use Rattle.decimal.specs.Write.{fieldOf}
 
 -- ---- the lines
 
 unfoldable pub threeText : ℕ → ℕ → ℕ → List ℕ
-threeText a b c = field a 32 ++ field b 32 ++ field c 32
+threeText a b c = fieldOf a 32 ++ fieldOf b 32 ++ fieldOf c 32
 
 -- "records, OK records, IO_ERR records, others"
 unfoldable pub countsText : ℕ → Tally → List ℕ
-countsText n t = field n 32 ++ threeText (t .ok) (t .«io_err») (t .others)
+countsText n t = fieldOf n 32 ++ threeText (t .ok) (t .«io_err») (t .others)
 
 -- "mean as a fraction in lowest terms (0/1 for sum 0)"
 unfoldable pub meanText : ℕ → ℕ → List ℕ
-meanText sum n = field (lowestTerms sum n .above) 47 ++ field (lowestTerms sum n .below) 10
+meanText sum n = fieldOf (lowestTerms sum n .above) 47 ++ fieldOf (lowestTerms sum n .below) 10
 
 -- "smallest, largest and summed latency of the OK records", the mean; "No OK records: the last four are a dash each"
 unfoldable pub latenciesText : Tally → List ℕ
@@ -34,14 +34,14 @@ latenciesText t =
 
 -- "the lowest bit set and how many are set; mask 0 prints a dash and 0"
 unfoldable pub maskText : ℕ → List ℕ
-maskText m = cond (eqb m 0) (45 ∷ 32 ∷ 48 ∷ 10 ∷ []) (field (lowestBit m) 32 ++ field (bitsSet m) 10)
+maskText m = cond (eqb m 0) (45 ∷ 32 ∷ 48 ∷ 10 ∷ []) (fieldOf (lowestBit m) 32 ++ fieldOf (bitsSet m) 10)
 
 unfoldable pub linesText : ℕ → Tally → ℕ → List ℕ
 linesText n t mask = countsText n t ++ latenciesText t ++ maskText mask
 
 -- "one line with the number, nothing else"
 unfoldable pub refusalText : ℕ → List ℕ
-refusalText n = field n 10
+refusalText n = fieldOf n 10
 
 -- "Refusals, in order: 50 mask missing, 51 too many (any byte past the millionth record), 52 last record cut": of an input of so many
 -- bytes, 8 of the mask and 8 of each record

@@ -4,17 +4,16 @@ ghost use mathlib.Core.List.{foldl};
 ghost use Rattle.latency.specs.Text.{withByte, collected};
 ghost use Rattle.latency.specs.Report.{threeText, countsText, meanText, latenciesText, maskText, linesText, refusalText, inputText};
 
-mod decimal;
 mod input;
 mod text;
 
-use decimal::with_field;
 pub use input::print;
 pub use input::run;
 use latency_tally::Input;
 use latency_tally::Tally;
 pub use text::Text;
 use text::with_bytes;
+use text::with_field;
 
 // The bytes of a mask, and of an input of 1,000,000 records.
 const MASK: u64 = 8;

@@ -1,6 +1,7 @@
 // A short text that is put together byte by byte.
 ghost use mathlib.Core.Path.{_≡_};
 ghost use mathlib.Core.List.{foldl};
+ghost use Rattle.decimal.specs.Write.{fieldOf};
 ghost use Rattle.latency.specs.Text.{noText, withByte};
 
 // The first `count` bytes. No report is longer than 231.
@@ -46,4 +47,13 @@ pub fn with_bytes(text: Text, bytes: &[u8]) -> Text
         i += 1;
     }
     longer
+}
+
+// A text with a number in decimal and the byte `end` behind it.
+pub fn with_field(text: Text, n: u64, end: u8) -> Text
+    ensures { λ r. ⌜ r ≡ foldl withByte text (fieldOf n end) ⌝ }
+{
+    let mut field = [0u8; 21];
+    let count = decimal::put(&mut field, 0, n, end);
+    with_bytes(text, &field[..count])
 }

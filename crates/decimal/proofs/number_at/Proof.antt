@@ -6,7 +6,18 @@ use lib.ListN.{length, getD, drop}
 use mathlib.Core.List.{[]}
 use Rattle.decimal.specs.Read.{isDigit, digits, oneMore, numberAt}
 use Rattle.decimal.specs.declared.Number.the-variants.{Is}
-use Rattle.decimal.proofs.Reading.{Reading, digits-stop, digits-past, number-absent, digit-bounds, reading-none, reading-more, reading-done, reading-long, reading-great}
+use Rattle.decimal.proofs.Reading.{
+  Reading,
+  digits-stop,
+  digits-past,
+  number-absent,
+  digit-bounds,
+  reading-none,
+  reading-more,
+  reading-done,
+  reading-long,
+  reading-great,
+}
 use native.Mathlib.Omega.{arith}
 use borrow.Author.Tests.{leb-false, leb-true, not-false, not-true}
 use Rattle.decimal.proofs.number_at.Statement.{statement}

@@ -1,22 +1,24 @@
 -- The digits are those that `io::decimal` made, the fewest that hold the number; the byte stands behind them.
-use mathlib.Core.Path.{_≡_, _∙_}
+use mathlib.Core.Path.{_∙_}
 use Prim.Native.Nat.{_+_, _≤_}
 use native.Mathlib.Omega.{arith}
-use lib.ListN.{length, take}
-use Rattle.decimal.specs.Write.{fieldOf}
 use Rattle.decimal.proofs.Writing.{fewest-below, digits-of-fewest, put-field}
 use borrow.Author.Needs.{needs}
 use Rattle.decimal.proofs.put.Statement.{statement}
 use Rattle.decimal.proofs.put.Tie as tie
+
+-- from behind the digits written to those made
+abbrev made : tie.After-out → tie.After-decimal
+made c = c .before .before .before .before
 
 -- at most 20 digits
 few : (c : tie.After-decimal) → c .decimal .result ≤ 20
 few c = fewest-below 20 (c .before .before .before .args .n) _ (c .decimal .ensures .1 .0) (omega arith) (omega arith)
 
 -- what is behind them is at most 20 further on
-behind : (c : tie.After-out) → c .before .put-bytes .result ≤ c .before .before .before .before .before .before .before .args .at + 20
+behind : (c : tie.After-out) → c .before .put-bytes .result ≤ made c .before .before .before .args .at + 20
 behind c =
-    let d = c .before .before .before .before in
+    let d = made c in
     omega (arith, few d, d .decimal .ensures .0, c .before .put-bytes .ensures .behind)
 
 decimal-requires : tie.Need-decimal-requires
