@@ -1,6 +1,5 @@
 // What the replay program prints: the text of a line, bytes as HEX, and the Adler-32 checksum.
 ghost use mathlib.Core.Path.{_≡_};
-ghost use mathlib.Core.List.{[], _∷_};
 ghost use Prim.Native.Nat.{_<_, _≤_, _+_, _*_};
 ghost use lib.ListN.{length, getD, take};
 ghost use Rattle.decimal.specs.Write.{fieldOf, Put};

@@ -24,7 +24,8 @@ asked c =
     let l = lent c in
     let a = start (l .before .before) .args in
     let d = l .lend .ensures .1 in
-    asked-from (a .call) (a .s .now) (c .before .before .before .request .ensures) (d .0) (d .1) (l .before .before .host-buffer .ensures .1)
+    let made = c .before .before .before .request .ensures in
+    asked-from (a .call) (a .s .now) made (d .0) (d .1) (l .before .before .host-buffer .ensures .1)
 
 host-buffer-requires : tie.Need-host-buffer-requires
 host-buffer-requires c κs = search needs

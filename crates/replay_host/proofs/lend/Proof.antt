@@ -57,9 +57,10 @@ same-length-2 c = search needs
 returns-5 : tie.Need-returns-5
 returns-5 c =
     let p = c .before .before .before .before .before in
-    let is = p .before .before .before .call2 .given .1 in (
-      c .within2 .ensures .0,
-      (rw (is, c .within2 .ensures .1, c .before .before .hex-count .ensures, p .pour-hex .ensures, length-poured), rw is (p .pour-hex .ensures)),
+    let is = p .before .before .before .call2 .given .1 in
+    let w = c .within2 .ensures in (
+      w .0,
+      (rw (is, w .1, c .before .before .hex-count .ensures, p .pour-hex .ensures, length-poured), rw is (p .pour-hex .ensures)),
     )
 
 returns-6 : tie.Need-returns-6

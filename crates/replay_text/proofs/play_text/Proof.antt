@@ -1,5 +1,4 @@
 -- Its numbers, one behind the other.
-use native.Mathlib.Omega.{arith}
 use Rattle.replay_text.proofs.Laws.{with-then}
 use borrow.Author.Needs.{needs}
 use Rattle.replay_text.proofs.play_text.Statement.{statement}
