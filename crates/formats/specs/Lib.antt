@@ -1,0 +1,2 @@
+-- The sample formats and their widths.
+pub mod Widths
