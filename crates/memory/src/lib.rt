@@ -90,7 +90,7 @@ fn store(m: &mut [u8], at: usize, n: usize, v: u64)
     }
 }
 
-// The number of 1, 2 or 4 bytes at `at` in a buffer, and one of 4 stored there.
+// The number of 1, 2 or 4 bytes at `at` in a buffer, and one of 2 or 4 stored there.
 pub fn number8(s: &[u8], at: usize) -> u8
     ensures { λ r. ⌜ r ≡ le 1 (now (s .entry)) at ⌝ }
 {
@@ -107,6 +107,12 @@ pub fn number32(s: &[u8], at: usize) -> u32
     ensures { λ r. ⌜ r ≡ le 4 (now (s .entry)) at ⌝ }
 {
     get(s, at, 4) as u32
+}
+
+pub fn set16(s: &mut [u8], at: usize, v: u16)
+    ensures { λ r. ⌜ now (s .exit) ≡ put 2 (now (s .entry)) at v ⌝ }
+{
+    store(s, at, 2, v as u64);
 }
 
 pub fn set32(s: &mut [u8], at: usize, v: u32)
