@@ -2,13 +2,10 @@
 ghost use mathlib.Core.Path.{_≡_};
 ghost use Prim.Native.Nat.{_≤_, _<_};
 ghost use lib.ListN.{length};
-ghost use Rattle.io.specs.Counts.{Counts};
 ghost use Rattle.samples.specs.Formats.{codingOf};
 ghost use Rattle.convert_run.specs.Blocks.{MadeBy};
 ghost use Rattle.convert_run.specs.Reports.{refusal, lengthAnswer, FormatFirst};
 use argument::Argument;
-use libc::SEEK_END;
-use libc::SEEK_SET;
 use libc::STDOUT_FILENO;
 
 // No file to write to: a pass without one only counts what it reads.
@@ -64,25 +61,6 @@ fn refused(answer: u32) -> Report
     }
 }
 
-// The next block of a file. A short one is the last, unless reading failed.
-fn read_block(file: i32, block: &mut [u8]) -> Piece
-    ensures { λ r. ⌜ r .count ≤ length (now (block .exit)) ⌝ }
-{
-    let count = io::read_full(file, block);
-    if count == block.len() {
-        return Piece {
-            count: count,
-            sound: true,
-        };
-    }
-    let mut more = [0u8; 1];
-    let got = libc::read(file, &mut more);
-    Piece {
-        count: count,
-        sound: got == 0,
-    }
-}
-
 // A block of samples, converted: the bytes to write stand in `out`.
 fn convert_block(format: u32, block: &[u8], out: &mut [u8]) -> Piece
     ensures { λ r. ⌜ MadeBy (codingOf format) (now (block .entry)) (now (out .entry)) r (now (out .exit)) ⌝ }
@@ -105,11 +83,14 @@ fn convert_block(format: u32, block: &[u8], out: &mut [u8]) -> Piece
 fn pass_block(source: i32, sink: i32, format: u32, block: &mut [u8], out: &mut [u8]) -> Piece
     ensures { λ r. ⌜ r .count ≤ length (now (block .exit)) ⌝ }
 {
-    let read = read_block(source, block);
-    if sink < 0 {
-        return read;
-    }
+    let read = files::read_block(source, block);
     let count = read.count;
+    if sink < 0 {
+        return Piece {
+            count: count,
+            sound: read.sound,
+        };
+    }
     let made = convert_block(format, &block[..count], out);
     let bytes = made.count;
     let wrote = io::write_all(sink, &out[..bytes]);
@@ -150,95 +131,22 @@ fn pass(source: i32, sink: i32, format: u32) -> Passed {
 
 // All of `source`, which had so many bytes, converted into `sink`.
 fn write_samples(source: i32, sink: i32, format: u32, bytes: u64) -> bool {
-    if libc::lseek(source, 0, SEEK_SET) != 0 {
+    if !files::rewind(source, 0) {
         return false;
     }
     let passed = pass(source, sink, format);
     passed.sound && passed.bytes == bytes
 }
 
-fn process_number() -> u64 {
-    let number = libc::getpid();
-    if number < 0 {
-        return 0;
-    }
-    number as u64
-}
-
-// `s` put into `name` at `at`, as far as it goes; answers the place behind it.
-fn put_at(s: &[u8], at: usize, name: &mut [u8]) -> usize
-    requires { ⌜ at ≤ length (now name) ⌝ }
-    ensures { λ r. ⌜ Counts r (now (name .exit)) ⌝ }
-{
-    let mut i = 0;
-    let mut d = at;
-    while i < s.len() {
-        if name.len() <= d {
-            return d;
-        }
-        name[d] = s[i];
-        i += 1;
-        d += 1;
-    }
-    d
-}
-
-// The name of the file that is written before it takes TO's place: TO, a dot and the process's number. One that does not fit fills the
-// 4,096 bytes, which is too long for a path.
-fn part_name(to: &[u8], name: &mut [u8]) -> usize
-    ensures { λ r. ⌜ Counts r (now (name .exit)) ⌝ }
-{
-    let mut digits = [0u8; 20];
-    let count = io::decimal(process_number(), &mut digits);
-    let named = put_at(to, 0, name);
-    let dotted = put_at(b".", named, name);
-    put_at(&digits[..count], dotted, name)
-}
-
-// A new file takes TO's place once it is whole; until then, and where it can't be, TO is as it was.
-fn replace(to: &[u8], source: i32, format: u32, bytes: u64) -> bool {
-    let mut name = io::buffer();
-    let n = part_name(to, &mut name);
-    let part = os::create(&name[..n]);
-    if part < 0 {
-        return false;
-    }
-    let wrote = write_samples(source, part, format, bytes);
-    let closed = libc::close(part);
-    if wrote && closed == 0 {
-        if os::rename(&name[..n], to) == 0 {
-            return true;
-        }
-    }
-    os::unlink(&name[..n]);
-    false
-}
-
-// Whether what is open is a device, a pipe or the like, which can't be cut to a length and is not to be replaced.
-fn is_special(file: i32) -> bool {
-    let size = libc::lseek(file, 0, SEEK_END);
-    if size < 0 {
-        return true;
-    }
-    libc::ftruncate(file, size) != 0
-}
-
 // TO made to hold the samples of `source`.
 fn write_to(to: &[u8], source: i32, format: u32, bytes: u64) -> bool {
-    let old = os::open_append(to);
-    if old < 0 {
-        if os::errno() != libc::ENOENT {
-            return false;
-        }
-        return replace(to, source, format, bytes);
+    let mut name = io::buffer();
+    let sink = files::open_sink(to, &mut name);
+    if sink.file < 0 {
+        return false;
     }
-    if is_special(old) {
-        let wrote = write_samples(source, old, format, bytes);
-        let closed = libc::close(old);
-        return wrote && closed == 0;
-    }
-    libc::close(old);
-    replace(to, source, format, bytes)
+    let wrote = write_samples(source, sink.file, format, bytes);
+    files::close_sink(sink, &name, to, wrote)
 }
 
 // FROM's length judged: 98 unless it was read to its end, 31 unless it is whole samples.
@@ -296,9 +204,7 @@ fn from_arguments() -> Report {
     if os::arg_count() != 4 {
         return refused(USAGE);
     }
-    let mut word = io::buffer();
-    let n = os::arg(1, &mut word);
-    let Argument::Number(format) = argument::read_number(&word[..n]) else {
+    let Argument::Number(format) = files::number_argument(1) else {
         return refused(USAGE);
     };
     if 4294967295 < format {

@@ -1,4 +1,4 @@
--- `convert_run::process_number` is safe: past its test the number is not negative.
+-- `files::process_number` is safe: past its test the number is not negative.
 use mathlib.Core.Path.{_≡_, subst}
 use mathlib.Core.Bool.{false}
 use lib.Dec.{T}
@@ -8,8 +8,8 @@ use mir.Syntax.{w32, w64}
 use mir.Val.{SFits}
 use mir.Facts.{toZ-ofZ, fits-natAbs}
 use borrow.Author.Needs.{needs}
-use Rattle.convert_run.proofs.process_number.Statement.{statement}
-use Rattle.convert_run.proofs.process_number.Tie as tie
+use Rattle.files.proofs.process_number.Statement.{statement}
+use Rattle.files.proofs.process_number.Tie as tie
 
 getpid-requires : tie.Need-getpid-requires
 getpid-requires c κs = search needs

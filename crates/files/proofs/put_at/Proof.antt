@@ -1,4 +1,4 @@
--- `convert_run::put_at` stays within the name: the place behind what was put is at most its length.
+-- `files::put_at` stays within the name: the place behind what was put is at most its length.
 use mathlib.Core.List.{List}
 use mathlib.Core.Path.{_≡_, sym}
 use Prim.Native.Nat.{ℕ, _-_, _≤_}
@@ -6,8 +6,8 @@ use native.Mathlib.Omega.{arith}
 use lib.ListN.{length, length-set}
 use lib.Seq.{length-take-le}
 use Rattle.io.specs.Counts.{Counts}
-use Rattle.convert_run.proofs.put_at.Statement.{statement}
-use Rattle.convert_run.proofs.put_at.Tie as tie
+use Rattle.files.proofs.put_at.Statement.{statement}
+use Rattle.files.proofs.put_at.Tie as tie
 
 counted : (n : ℕ) (s : List ℕ) → n ≤ length s → Counts n s
 counted n s h = (h, sym (length-take-le n s h))
