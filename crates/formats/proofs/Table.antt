@@ -1,4 +1,4 @@
--- The table of widths holds what is said of it: the widths are tested one after the other, and the test is turned into the fact at any place.
+-- The table of widths holds what is said of it: each width is tested, and the test is turned into the fact at any place.
 use mathlib.Core.Path.{_≡_, refl}
 use mathlib.Core.Bool.{Bool, true, false, _||_, _&&_, false≢true}
 use mathlib.Core.List.{List, [], _∷_}

@@ -65,7 +65,8 @@ module _ (f c r n : ℕ) where
   unfolding judged
   judged-fine = by-known (known f c r) refl (leb n maxData) refl
     where
-      by-known : (t : Bool) → known f c r ≡ t → (u : Bool) → leb n maxData ≡ u → _≡_ {A = ℕ} (cond t (cond u 0 21) 20) 0 → Known f c r × (n ≤ maxData)
+      by-known : (t : Bool) → known f c r ≡ t → (u : Bool) → leb n maxData ≡ u
+          → _≡_ {A = ℕ} (cond t (cond u 0 21) 20) 0 → Known f c r × (n ≤ maxData)
       by-known true e true l h = (known-facts e, leb-true n maxData l)
       by-known true e false l h = absurd (omega arith)
       by-known false e u l h = absurd (omega arith)

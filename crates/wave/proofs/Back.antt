@@ -51,7 +51,8 @@ rate-back r h = eqb→eq (rateWith (hzOf r)) r (below-at 14 (λ k. eqb (rateWith
 two : (v : ℕ) → v < 65536 → v % 256 + 256 * (v / 256 % 256 + 256 * 0) ≡ v
 two v h = omega arith
 
-four : (v : ℕ) → v < 4294967296 → v % 256 + 256 * (v / 256 % 256 + 256 * (v / 256 / 256 % 256 + 256 * (v / 256 / 256 / 256 % 256 + 256 * 0))) ≡ v
+four : (v : ℕ) → v < 4294967296
+    → v % 256 + 256 * (v / 256 % 256 + 256 * (v / 256 / 256 % 256 + 256 * (v / 256 / 256 / 256 % 256 + 256 * 0))) ≡ v
 four v h = omega arith
 
 -- ---- the header

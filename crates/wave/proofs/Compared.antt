@@ -2,7 +2,7 @@
 use mathlib.Core.Path.{_≡_, _∙_, refl, sym, ap}
 use mathlib.Core.Bool.{Bool, true, false, _&&_}
 use mathlib.Core.List.{List, [], _∷_, _++_, append-assoc}
-use Prim.Native.Nat.{ℕ, _+_, _≤_, _<_}
+use Prim.Native.Nat.{ℕ, suc, _+_, _≤_, _<_}
 use native.Mathlib.Nat.{add-zero}
 use native.Mathlib.Numerals.{add-one}
 use native.Mathlib.Omega.{arith}
@@ -54,3 +54,13 @@ holds-there file at (x ∷ s) h t =
     let e = eqb-true (getD file at 0) x (first (eqb (getD file at 0) x) (holds file (at + 1) s) t) in
     let i = holds-there file (at + 1) s (omega arith) (second (eqb (getD file at 0) x) (holds file (at + 1) s) t) in
     rw (drop-cons file at 0 (omega arith), e, ← (add-one at), i)
+
+pub holds-of : (file : List ℕ) (at : ℕ) (s : List ℕ) → at + length s ≤ length file → take (length s) (drop at file) ≡ s
+    → holds file at s ≡ true
+unfolding holds
+holds-of file at [] h e = refl
+holds-of file at (x ∷ s) h e =
+    let g : getD file at 0 ∷ take (length s) (drop (suc at) file) ≡ x ∷ s = rw (drop-cons file at 0 (omega arith)) at e in
+    let a : getD file at 0 ≡ x = ap (λ (l : List ℕ). getD l 0 0) g in
+    let b : take (length s) (drop (at + 1) file) ≡ s = rw (add-one at) (ap (λ (l : List ℕ). drop 1 l) g) in
+    rw (eq-eqb (getD file at 0) x a, holds-of file (at + 1) s (omega arith) b)

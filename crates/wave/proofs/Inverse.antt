@@ -1,5 +1,5 @@
--- Writing and reading are inverse: the header reads back, the rest of a file is its data and pad, and the tests that a file passed say that it
--- is the one that the writer would write.
+-- Writing and reading are inverse: the header reads back, the rest of a file is its data and pad, and the tests that a file passed say
+-- that it is the one that the writer would write.
 use mathlib.Core.Path.{_≡_, _∙_, refl, sym, ap}
 use mathlib.Core.Bool.{Bool, true, false, cond, _||_}
 use mathlib.Core.Logic.{_⊎_, inl, inr, ⊎-elim}
@@ -110,13 +110,21 @@ record Passed (f c r n : ℕ) (head : List ℕ) (len last : ℕ) : Type 0 where
   so : readWith f c r n head len last ≡ accepted f c r n
 
 module _ (f c r n : ℕ) (head : List ℕ) (len last : ℕ) where
+  -- the answer by the five tests
+  abbrev answered : Bool → Bool → Bool → Bool → Bool → Found
+  answered a b g h i =
+      cond a (refusal 23)
+      (cond b (cond g (cond h (cond i (accepted f c r n) (refusal 27)) (refusal 26)) (refusal 25)) (refusal 24))
+
   passed : readWith f c r n head len last .answer ≡ 0 → Passed f c r n head len last
   unfolding readWith
-  passed = by23 (ltb (length head) 44) refl (hasWords head) refl (hasNumbers f c r n head) refl (eqb len (fileLen n)) refl (hasPad n last) refl
+  passed =
+      by23 (ltb (length head) 44) refl (hasWords head) refl (hasNumbers f c r n head) refl (eqb len (fileLen n)) refl
+      (hasPad n last) refl
     where
       by23 : (a : Bool) → ltb (length head) 44 ≡ a → (b : Bool) → hasWords head ≡ b → (g : Bool) → hasNumbers f c r n head ≡ g
           → (h : Bool) → eqb len (fileLen n) ≡ h → (i : Bool) → hasPad n last ≡ i
-          → cond a (refusal 23) (cond b (cond g (cond h (cond i (accepted f c r n) (refusal 27)) (refusal 26)) (refusal 25)) (refusal 24)) .answer ≡ 0
+          → answered a b g h i .answer ≡ 0
           → Passed f c r n head len last
       by23 true ea b eb g eg h eh i ei z = absurd (omega arith)
       by23 false ea false eb g eg h eh i ei z = absurd (omega arith)

@@ -24,7 +24,9 @@ laid-of d at s = refl
 
 module _ (d : List ℕ) (at : ℕ) (s : List ℕ) where
   take-laid : at ≤ length d → take (at + length s) (laid d at s) ≡ take at d ++ s
-  take-laid h = rw (← (laid-pasted d at s)) (take-paste d at s (length s) h (omega arith) ∙ ap (λ (l : List ℕ). take at d ++ l) (take-length s))
+  take-laid h =
+      let whole = ap (λ (l : List ℕ). take at d ++ l) (take-length s) in
+      rw (← (laid-pasted d at s)) (take-paste d at s (length s) h (omega arith) ∙ whole)
 
   drop-laid : at ≤ length d → drop (at + length s) (laid d at s) ≡ drop (at + length s) d
   drop-laid h = rw (← (laid-pasted d at s)) (drop-paste d at s (length s) h (omega arith))

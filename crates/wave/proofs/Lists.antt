@@ -1,4 +1,4 @@
--- Laws of the lists: a format is one of the four or none, the numbers of each list are bounded, and each is found again by what stands in a file.
+-- Laws of the lists: a format is one of the four or none, the numbers of each list are bounded, and the search for a rate finds its place.
 use mathlib.Core.Path.{_≡_, _∙_, refl, sym, ap}
 use mathlib.Core.Bool.{Bool, true, false, cond, _&&_, false≢true}
 use mathlib.Core.List.{List, [], _∷_}
@@ -84,7 +84,8 @@ module _ (hz i : ℕ) where
       let m : i + 0 ≡ rateWith hz = rw (place-more hz i l, eq-eqb hz (hzOf i) e) at h in
       omega (arith, m)
 
-  pub place-next : i < 14 → (hz ≡ hzOf i → ⊥) → i + place hz (drop i rates) ≡ rateWith hz → i + 1 + place hz (drop (i + 1) rates) ≡ rateWith hz
+  pub place-next : i < 14 → (hz ≡ hzOf i → ⊥) → i + place hz (drop i rates) ≡ rateWith hz
+      → i + 1 + place hz (drop (i + 1) rates) ≡ rateWith hz
   place-next l n h =
       let m : i + (1 + place hz (drop (i + 1) rates)) ≡ rateWith hz = rw (place-more hz i l, ne-eqb hz (hzOf i) n) at h in
       omega (arith, m)

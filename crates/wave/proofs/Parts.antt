@@ -32,7 +32,8 @@ module _ (f c r n : ℕ) where
   unfolding headerOf
   header-laid d h =
       let a : 0 + length (riffPart n) ≡ 12 = rw length-riff in
-      let b : 0 + length (riffPart n ++ formatPart f c r) ≡ 36 = rw (length-append (riffPart n) (formatPart f c r), length-riff, length-format) in
+      let l = length-append (riffPart n) (formatPart f c r) in
+      let b : 0 + length (riffPart n ++ formatPart f c r) ≡ 36 = rw (l, length-riff, length-format) in
       ap (λ (l : List ℕ). laid l 36 (dataPart n)) (laid-next d 0 (riffPart n) 12 (formatPart f c r) a (omega arith))
       ∙ laid-next d 0 (riffPart n ++ formatPart f c r) 36 (dataPart n) b (omega arith)
 

@@ -1,4 +1,4 @@
--- 02, order 3: "the RIFF form with the fixed words RIFF, WAVE, "fmt " and data, a 16-byte format part, tag 1". The file, as one list of bytes.
+-- 02, order 3: "the RIFF form with the fixed words RIFF, WAVE, "fmt " and data, a 16-byte format part, tag 1", as one list of bytes.
 use mathlib.Core.List.{List, [], _∷_, _++_}
 use Prim.Native.Nat.{ℕ, zero, suc, _+_, _*_, _/_, _%_}
 use lib.ListN.{length, take}

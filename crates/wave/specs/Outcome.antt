@@ -8,6 +8,7 @@ use Rattle.memory.specs.Bytes.{le}
 use Rattle.wave.specs.Lists.{known, formatWith, rateWith}
 use Rattle.wave.specs.File.{RIFF, WAVE, «fmt», «data», headerOf, fileOf, fileLen}
 use Rattle.wave.specs.declared.Found.{Found}
+use Rattle.wave.specs.declared.Written.{Written}
 
 -- "The largest data length is 4,294,967,258."
 abbrev pub maxData : ℕ
@@ -32,9 +33,15 @@ pub record Outcome : Type 0 where
 abbrev pub outcome : ℕ → ℕ → List ℕ → Outcome
 outcome a n out = record { answer = a; len = n; out = out }
 
+abbrev pub after : Written → List ℕ → Outcome
+after w out = outcome (w .answer) (w .len) out
+
 -- `s`, after the answer a to what it is made of: written to the start of `out`, or "22 room too small"
 unfoldable pub placed : ℕ → List ℕ → List ℕ → Outcome
-placed a s out = cond (eqb a 0) (cond (leb (length s) (length out)) (outcome 0 (length s) (laid out 0 s)) (outcome 22 0 out)) (outcome a 0 out)
+placed a s out =
+    cond (eqb a 0)
+    (cond (leb (length s) (length out)) (outcome 0 (length s) (laid out 0 s)) (outcome 22 0 out))
+    (outcome a 0 out)
 
 abbrev pub writtenOf : ℕ → ℕ → ℕ → List ℕ → List ℕ → Outcome
 writtenOf f c r d out = placed (judged f c r (length d)) (fileOf f c r d) out

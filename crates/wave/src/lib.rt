@@ -4,7 +4,7 @@ ghost use Prim.Native.Nat.{_+_, _/_, _≤_, _<_};
 ghost use lib.ListN.{length, getD};
 ghost use Rattle.wave.specs.Lists.{listed, bitsOf, hzOf, formatWith, rateWith};
 ghost use Rattle.wave.specs.File.{blockAlign, byteRate, riffPart, formatPart, dataPart, headerOf, fileLen, fileOf};
-ghost use Rattle.wave.specs.Outcome.{maxData, judged, laid, outcome, writtenOf, headedOf};
+ghost use Rattle.wave.specs.Outcome.{maxData, judged, laid, after, writtenOf, headedOf};
 ghost use Rattle.wave.specs.Outcome.{holds, hasWords, hasNumbers, hasPad, refusal, readWith, readBy, readOf, toldOf};
 use samples::S16;
 use samples::S24_3;
@@ -266,7 +266,7 @@ fn unwritten(answer: u32) -> Written
 // The 44 bytes before `data_len` bytes of data, at the start of `out`, for a file that is not in memory as a whole. 20: format, channels or
 // rate not in the list; 21: too long; 22: no room. A refusal leaves `out` as it was.
 pub fn header(format: u32, channels: u32, rate: u32, data_len: u64, out: &mut [u8]) -> Written
-    ensures { λ r. ⌜ outcome (r .answer) (r .len) (now (out .exit)) ≡ headedOf format channels rate data_len (now (out .entry)) ⌝ }
+    ensures { λ r. ⌜ after r (now (out .exit)) ≡ headedOf format channels rate data_len (now (out .entry)) ⌝ }
 {
     let answer = judge(format, channels, rate, data_len);
     if answer != DONE {
@@ -284,7 +284,7 @@ pub fn header(format: u32, channels: u32, rate: u32, data_len: u64, out: &mut [u
 
 // The file of `data` at the start of `out`; the refusals are those of `header`.
 pub fn write(format: u32, channels: u32, rate: u32, data: &[u8], out: &mut [u8]) -> Written
-    ensures { λ r. ⌜ outcome (r .answer) (r .len) (now (out .exit)) ≡ writtenOf format channels rate (now («data» .entry)) (now (out .entry)) ⌝ }
+    ensures { λ r. ⌜ after r (now (out .exit)) ≡ writtenOf format channels rate (now («data» .entry)) (now (out .entry)) ⌝ }
 {
     let n = data.len();
     let answer = judge(format, channels, rate, n as u64);

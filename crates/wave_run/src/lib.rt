@@ -2,6 +2,7 @@
 ghost use mathlib.Core.Path.{_≡_};
 ghost use Prim.Native.Nat.{_≤_, min};
 ghost use lib.ListN.{length};
+ghost use Rattle.wave.specs.Outcome.{judged};
 use argument::Argument;
 use libc::STDOUT_FILENO;
 
@@ -192,8 +193,10 @@ fn write_open(format: u32, channels: u32, rate: u32, source: i32, to: &[u8]) -> 
     }
 }
 
-// The order past the arguments: not in the list, FROM can't be opened.
-fn write_file(format: u32, channels: u32, rate: u32, from: &[u8], to: &[u8]) -> Report {
+// The order past the arguments: not in the list, whatever FROM and TO are; then FROM can't be opened.
+fn write_file(format: u32, channels: u32, rate: u32, from: &[u8], to: &[u8]) -> Report
+    ensures { λ r. ⌜ ((judged format channels rate 0 ≡ 0 → ⊥) → r .answer ≡ judged format channels rate 0) ⌝ }
+{
     let answer = wave::judge(format, channels, rate, 0);
     if answer != wave::DONE {
         return refused(answer);

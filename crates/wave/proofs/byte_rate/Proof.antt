@@ -14,7 +14,8 @@ block-align-requires c κs = search needs
 
 mul-result : tie.Need-mul-result
 mul-result c =
-    let m = mul-le-mul {n₁ = c .before .rate-hz .result} {n₂ = 384000} {m₂ = 72} (c .before .rate-hz .ensures .1) (c .block-align .ensures .1) in
+    let hz = c .before .rate-hz in
+    let m = mul-le-mul {n₁ = hz .result} {n₂ = 384000} {m₂ = 72} (hz .ensures .1) (c .block-align .ensures .1) in
     omega (arith, m)
 
 returns : tie.Need-returns

@@ -42,7 +42,9 @@ wave-held c = sym (c .before .holds2 .ensures) ∙ not-false _ (c .if2 .left)
 
 returns-3 : tie.Need-returns-3
 unfolding hasWords
-returns-3 c = rw (riff-held (c .before .before .before .before .before .before), wave-held (c .before .before .before), sym (c .before .holds3 .ensures) ∙ not-true _ (c .if3 .taken))
+returns-3 c =
+    let w = c .before .before .before in
+    rw (riff-held (w .before .before .before), wave-held w, sym (c .before .holds3 .ensures) ∙ not-true _ (c .if3 .taken))
 
 slice-aggregate-holds-4 : tie.Need-slice-aggregate-holds-4
 slice-aggregate-holds-4 c = search needs

@@ -21,7 +21,8 @@ returns : tie.Need-returns
 returns c =
     let a = c .before .before .before .before .args in
     let s = sym (length-header (a .format) (a .channels) (a .rate) (a .data-len)) in
-    rw (c .unwritten .ensures .0, c .unwritten .ensures .1, ← (c .before .before .judge .ensures)) (refused _ 44 _ _ s (c .before .if1 .taken))
+    rw (c .unwritten .ensures .0, c .unwritten .ensures .1, ← (c .before .before .judge .ensures))
+    (refused _ 44 _ _ s (c .before .if1 .taken))
 
 unwritten-requires-2 : tie.Need-unwritten-requires-2
 unwritten-requires-2 c κs = search needs
@@ -30,7 +31,8 @@ returns-2 : tie.Need-returns-2
 returns-2 c =
     let a = c .before .before .before .before .before .args in
     let s = sym (length-header (a .format) (a .channels) (a .rate) (a .data-len)) in
-    rw (c .unwritten2 .ensures .0, c .unwritten2 .ensures .1, ← (c .before .before .before .judge .ensures)) (no-room _ 44 _ _ s (c .before .before .if1 .left) (c .before .if2 .taken))
+    rw (c .unwritten2 .ensures .0, c .unwritten2 .ensures .1, ← (c .before .before .before .judge .ensures))
+    (no-room _ 44 _ _ s (c .before .before .if1 .left) (c .before .if2 .taken))
 
 -- past the first test all are in the list and the data is not too long
 fine-at : (c : tie.Else1)
@@ -52,7 +54,8 @@ returns-3 c =
     let p = c .before .before in
     let a = p .before .before .before .before .before .before .args in
     let s = sym (length-header (a .format) (a .channels) (a .rate) (a .data-len)) in
-    rw (p .put-header .ensures, ← (p .before .before .before .before .judge .ensures)) (done _ 44 _ _ s (p .before .before .before .if1 .left) (omega arith))
+    rw (p .put-header .ensures, ← (p .before .before .before .before .judge .ensures))
+    (done _ 44 _ _ s (p .before .before .before .if1 .left) (omega arith))
 
 pub header-spec : {M : Type 1} → statement M
 header-spec =

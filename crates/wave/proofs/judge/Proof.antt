@@ -34,10 +34,10 @@ all-known : (c : tie.Else4)
 all-known c = record { format = some-bits (c .before .before .before); least = omega arith; most = omega arith; rate = omega arith }
 
 returns-5 : tie.Need-returns-5
-returns-5 c = too-long _ _ _ _ (all-known (c .before)) (c .if5 .taken)
+returns-5 c = too-long _ _ _ _ (all-known (c .before)) (omega arith)
 
 returns-6 : tie.Need-returns-6
-returns-6 c = sym (sym (fine _ _ _ _ (all-known (c .before)) (c .if5 .left)))
+returns-6 c = fine _ _ _ _ (all-known (c .before)) (omega arith)
 
 pub judge-spec : {M : Type 1} → statement M
 judge-spec =

@@ -38,7 +38,8 @@ loop-again : tie.Need-loop-again Inv-loop μ-loop
 loop-again c =
     let l = c .before .before .loop in
     let a = c .before .before .before .args in
-    ((omega arith, simp length-set (omega arith)), rw (add-one (l .i), ← (paste-suc (a .out .now) (a .at) (a .s .now) (l .i) 0 (omega arith) (omega arith)), ← (l .inv .1)))
+    let p = paste-suc (a .out .now) (a .at) (a .s .now) (l .i) 0 (omega arith) (omega arith) in
+    ((omega arith, simp length-set (omega arith)), rw (add-one (l .i), ← p, ← (l .inv .1)))
 
 same-length : tie.Need-same-length Inv-loop μ-loop
 same-length c = omega arith

@@ -26,7 +26,8 @@ rate-hz-requires c κs = search needs
 returns : tie.Need-returns Inv-loop μ-loop
 returns c =
     let l = c .before .before .before .loop in
-    place-found (c .before .before .before .before .args .hz) (l .i) (omega arith) (sym (c .if1 .taken) ∙ c .before .rate-hz .ensures .0) (l .inv .1)
+    let e = sym (c .if1 .taken) ∙ c .before .rate-hz .ensures .0 in
+    place-found (c .before .before .before .before .args .hz) (l .i) (omega arith) e (l .inv .1)
 
 add-i : tie.Need-add-i Inv-loop μ-loop
 add-i c = omega arith
@@ -37,7 +38,8 @@ loop-less c = omega arith
 loop-again : tie.Need-loop-again Inv-loop μ-loop
 loop-again c =
     let l = c .before .before .before .loop in
-    (omega arith, place-next (c .before .before .before .before .args .hz) (l .i) (omega arith) (λ e. c .if1 .left (c .before .rate-hz .ensures .0 ∙ sym e)) (l .inv .1))
+    let hz = c .before .before .before .before .args .hz in
+    (omega arith, place-next hz (l .i) (omega arith) (λ e. c .if1 .left (c .before .rate-hz .ensures .0 ∙ sym e)) (l .inv .1))
 
 returns-2 : tie.Need-returns-2 Inv-loop μ-loop
 returns-2 c = place-end _ (c .before .loop .i) (omega arith) (omega arith) (c .before .loop .inv .1)

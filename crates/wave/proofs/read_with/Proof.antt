@@ -72,7 +72,8 @@ returns-4 : tie.Need-returns-4
 unfolding readWith
 returns-4 c =
     let n = c .before .before in
-    rw (c .unread4 .ensures, long-held (n .before .before), words-held (n .before .before), numbers-held n, ne-eqb _ _ (other-length (c .before)))
+    let w = n .before .before in
+    rw (c .unread4 .ensures, long-held w, words-held w, numbers-held n, ne-eqb _ _ (other-length (c .before)))
 
 has-pad-requires : tie.Need-has-pad-requires
 has-pad-requires c κs = search needs

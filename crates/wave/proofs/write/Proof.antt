@@ -21,7 +21,8 @@ returns : tie.Need-returns
 returns c =
     let a = c .before .before .before .before .before .args in
     let s = sym (length-file (a .format) (a .channels) (a .rate) (a .«data» .now)) in
-    rw (c .unwritten .ensures .0, c .unwritten .ensures .1, ← (c .before .before .judge .ensures)) (refused _ _ _ _ s (c .before .if1 .taken))
+    rw (c .unwritten .ensures .0, c .unwritten .ensures .1, ← (c .before .before .judge .ensures))
+    (refused _ _ _ _ s (c .before .if1 .taken))
 
 -- past the first test all are in the list and the data is not too long
 fine-at : (c : tie.Else1)
