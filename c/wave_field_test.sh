@@ -34,7 +34,8 @@ for f in 4:1:unsigned-integer 5:2:signed-integer 11:3:signed-integer 17:4:signed
             if command -v sox >/dev/null; then
                 sox -D ours.wav -t raw -e $coding -b $((8 * width)) out
                 same in out "sox reads another sound: $format $channels $rate"
-                [ "$(soxi -r ours.wav) $(soxi -c ours.wav) $(soxi -b ours.wav)" = "$(hz $rate) $channels $((8 * width))" ] || fail "soxi: $format $channels $rate"
+                [ "$(soxi -r ours.wav) $(soxi -c ours.wav) $(soxi -b ours.wav)" = "$(hz $rate) $channels $((8 * width))" ] ||
+                    fail "soxi: $format $channels $rate"
                 # sox writes the extended format part for more than 16 bits a sample; "wavpcm" is the plain one
                 sox -D -t raw -r "$(hz $rate)" -c $channels -e $coding -b $((8 * width)) in -t wavpcm theirs.wav
                 same ours.wav theirs.wav "sox writes another file: $format $channels $rate"

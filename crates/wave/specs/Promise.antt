@@ -1,4 +1,5 @@
--- What a reader of these definitions may rely on, said as facts. That it holds is proved (`proofs/Reading.antt`, `proofs/Inverse.antt`, `proofs/Cases.antt`).
+-- What a reader of these definitions may rely on, said as facts. That it holds is proved (`reading` of `proofs/Reading.antt`; `back` and
+-- `accepted-file` of `proofs/Inverse.antt`; `writing` and `cases` of `proofs/Cases.antt`).
 use mathlib.Core.Path.{_≡_}
 use mathlib.Core.List.{List, [], _∷_, _++_}
 use mathlib.Core.Logic.{_⊎_}
