@@ -126,7 +126,7 @@ fn no_message() -> Message
 {
     Message {
         count: 0,
-        head: DescriptorNumber(0),
+        head: DescriptorNumber::of(0),
         done: 0,
         request: Ranges::none(),
         reply: Ranges::none(),

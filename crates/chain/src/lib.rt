@@ -79,10 +79,10 @@ impl Descriptor {
         let flags = get16(m, table, start + 12);
         let next = get16(m, table, start + 14);
         Descriptor {
-            at: GuestAddress(at),
+            at: GuestAddress::of(at),
             len,
             flags,
-            next: DescriptorNumber(next),
+            next: DescriptorNumber::of(next),
         }
     }
 
@@ -207,7 +207,7 @@ fn follow(
         if left == 0 {
             break 'walk End::Faulted(Fault::TooMany);
         }
-        if size <= number.0 {
+        if size <= number.number() {
             break 'walk End::Faulted(Fault::PastTable);
         }
         let d = Descriptor::read(m, table, number);
@@ -215,12 +215,12 @@ fn follow(
             if let End::Faulted(fault) = enter(m.len(), indirect, d) {
                 break 'walk End::Faulted(fault);
             }
-            number = DescriptorNumber(0);
+            number = DescriptorNumber::of(0);
             loop {
                 if left == 0 {
                     break 'walk End::Faulted(Fault::TooMany);
                 }
-                if d.len / 16 <= number.0 as u32 {
+                if d.len / 16 <= number.number() as u32 {
                     break 'walk End::Faulted(Fault::PastTable);
                 }
                 let entry = Descriptor::read(m, d.at, number);

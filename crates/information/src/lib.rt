@@ -12,7 +12,6 @@ ghost use Rattle.information.specs.Information.{itemSize, itemsOf};
 use card::Jack;
 use card::Parts;
 use card::Stream;
-use counts::GuestAddress;
 use description::MapInfo;
 
 // What a request for information lists.
@@ -88,11 +87,10 @@ fn pcm_item(number: usize, stream: Stream) -> [u8; 32]
 {
     let info = stream.info;
     let mut bytes = [0u8; 32];
-    let start = GuestAddress(0);
     memory::set32(&mut bytes, 0, info.nid);
     memory::set32(&mut bytes, 4, info.features);
-    memory::put64(&mut bytes, start, 8, info.formats);
-    memory::put64(&mut bytes, start, 16, info.rates);
+    memory::set64(&mut bytes, 8, info.formats);
+    memory::set64(&mut bytes, 16, info.rates);
     bytes[24] = direction_of(number);
     bytes[25] = info.channels_min;
     bytes[26] = info.channels_max;

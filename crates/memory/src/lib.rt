@@ -11,7 +11,7 @@ pub fn inside(len: usize, at: GuestAddress, n: u64) -> bool
     ensures { λ r. ⌜ r ≡ insideOf len (at .0) n ⌝ }
 {
     let ram = len as u64;
-    let start = at.0;
+    let start = at.number();
     if n == 0 {
         return true;
     }
@@ -29,7 +29,7 @@ pub fn place(len: usize, base: GuestAddress, offset: u64) -> usize
     ensures { λ r. ⌜ r ≡ min (base .0 + offset) len ⌝ }
 {
     let ram = len as u64;
-    let start = base.0;
+    let start = base.number();
     if ram <= start {
         return len;
     }
@@ -90,7 +90,7 @@ fn store(m: &mut [u8], at: usize, n: usize, v: u64)
     }
 }
 
-// The number of 1, 2 or 4 bytes at `at` in a buffer, and one of 2 or 4 stored there.
+// The number of 1, 2 or 4 bytes at `at` in a buffer, and one of 2, 4 or 8 stored there.
 pub fn number8(s: &[u8], at: usize) -> u8
     ensures { λ r. ⌜ r ≡ le 1 (now (s .entry)) at ⌝ }
 {
@@ -121,6 +121,12 @@ pub fn set32(s: &mut [u8], at: usize, v: u32)
     store(s, at, 4, v as u64);
 }
 
+pub fn set64(s: &mut [u8], at: usize, v: u64)
+    ensures { λ r. ⌜ now (s .exit) ≡ put 8 (now (s .entry)) at v ⌝ }
+{
+    store(s, at, 8, v);
+}
+
 // The same at `offset` behind `base`.
 fn get_behind(m: &[u8], base: GuestAddress, offset: u64, n: usize) -> u64
     requires { ⌜ n ≤ 8 ⌝ }
@@ -137,13 +143,7 @@ fn store_behind(m: &mut [u8], base: GuestAddress, offset: u64, n: usize, v: u64)
     store(m, at, n, v);
 }
 
-// The number of 1, 2, 4 or 8 bytes at `offset` behind `base`.
-pub fn get8(m: &[u8], base: GuestAddress, offset: u64) -> u8
-    ensures { λ r. ⌜ r ≡ le 1 (now (m .entry)) (base .0 + offset) ⌝ }
-{
-    get_behind(m, base, offset, 1) as u8
-}
-
+// The number of 2, 4 or 8 bytes at `offset` behind `base`.
 pub fn get16(m: &[u8], base: GuestAddress, offset: u64) -> u16
     ensures { λ r. ⌜ r ≡ le 2 (now (m .entry)) (base .0 + offset) ⌝ }
 {
@@ -162,13 +162,7 @@ pub fn get64(m: &[u8], base: GuestAddress, offset: u64) -> u64
     get_behind(m, base, offset, 8)
 }
 
-// `v`, stored in 1, 2, 4 or 8 bytes at `offset` behind `base`.
-pub fn put8(m: &mut [u8], base: GuestAddress, offset: u64, v: u8)
-    ensures { λ r. ⌜ now (m .exit) ≡ put 1 (now (m .entry)) (base .0 + offset) v ⌝ }
-{
-    store_behind(m, base, offset, 1, v as u64);
-}
-
+// `v`, stored in 2 or 4 bytes at `offset` behind `base`.
 pub fn put16(m: &mut [u8], base: GuestAddress, offset: u64, v: u16)
     ensures { λ r. ⌜ now (m .exit) ≡ put 2 (now (m .entry)) (base .0 + offset) v ⌝ }
 {
@@ -179,10 +173,4 @@ pub fn put32(m: &mut [u8], base: GuestAddress, offset: u64, v: u32)
     ensures { λ r. ⌜ now (m .exit) ≡ put 4 (now (m .entry)) (base .0 + offset) v ⌝ }
 {
     store_behind(m, base, offset, 4, v as u64);
-}
-
-pub fn put64(m: &mut [u8], base: GuestAddress, offset: u64, v: u64)
-    ensures { λ r. ⌜ now (m .exit) ≡ put 8 (now (m .entry)) (base .0 + offset) v ⌝ }
-{
-    store_behind(m, base, offset, 8, v);
 }

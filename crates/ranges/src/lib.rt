@@ -38,7 +38,7 @@ impl Ranges {
     {
         Ranges {
             list: [Range {
-                at: GuestAddress(0),
+                at: GuestAddress::of(0),
                 len: 0,
             }; 34],
             count: 0,

@@ -193,7 +193,7 @@ impl Registers {
             isr: 0,
             selector: 0,
             features: 0,
-            pages: [PageNumber(0); 4],
+            pages: [PageNumber::of(0); 4],
         }
     }
 
@@ -274,7 +274,7 @@ impl Registers {
             return 0;
         }
         let page = self.pages[queue];
-        page.0
+        page.number()
     }
 
     // ISR, which a read clears.
@@ -332,7 +332,7 @@ impl Registers {
             return wrote_with(self, Effect::Nothing);
         }
         let at = queue as usize;
-        self.pages[at] = PageNumber(value as u32);
+        self.pages[at] = PageNumber::of(value as u32);
         wrote_with(self, Effect::Based(queue))
     }
 

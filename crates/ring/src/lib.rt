@@ -83,7 +83,7 @@ pub fn new_entries(index: u16, taken: u16) -> u16
 pub fn check_queue(m: &[u8], page: PageNumber, size: u16, taken: u16, in_work: u16) -> Check
     ensures { λ r. ⌜ r ≡ checkOf (now (m .entry)) page size taken in_work ⌝ }
 {
-    if page.0 == 0 {
+    if page.number() == 0 {
         return Check::Idle;
     }
     let base = page.address();
@@ -105,7 +105,7 @@ pub fn next_head(m: &[u8], page: PageNumber, size: u16, taken: u16) -> Head
     let place = ring_place(taken, size) as u64;
     let number = memory::get16(m, page.address(), available_at(size) + 4 + 2 * place);
     if number < size {
-        return Head::At(DescriptorNumber(number));
+        return Head::At(DescriptorNumber::of(number));
     }
     Head::Broken(Cause::Head)
 }
@@ -125,7 +125,7 @@ pub fn post(
     let used = used_at(size);
     let element = used + 4 + 8 * ring_place(completed, size) as u64;
     let next = std::num::wrapping_add_u16(completed, 1);
-    memory::put32(m, base, element, head.0 as u32);
+    memory::put32(m, base, element, head.number() as u32);
     memory::put32(m, base, element + 4, len);
     memory::put16(m, base, used + 2, next);
     let flags = memory::get16(m, base, available_at(size));

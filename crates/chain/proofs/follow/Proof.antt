@@ -69,11 +69,25 @@ inside c =
     )
     at (outer (c .before .before .before .before .before))
 
+-- .. with the number that is read first there
+entry :
+    (c : tie.After-of Inv-loop μ-loop Inv-walk μ-walk)
+    → let at-read = c .before .before .before .before .before .before in
+    let at-walk = at-read .before .before .before .before in
+    let start = at-walk .before .before .before in
+    let l = at-walk .walk in
+    let a = start .args in
+    let d = at-read .read .result in
+    inTable (l .left) (descriptors (a .m .now) (d .at .0) (d .len / 16)) (c .of .result .0) (rangesOf (l .chain .request))
+    (rangesOf (l .chain .reply))
+    ≡ walkOf (a .m .now) (a .table .0) (a .size) (a .head .0) (a .indirect)
+entry c = rw (c .of .ensures) (inside (c .before))
+
 -- the rest of the walk from a descriptor of it
 inner :
     (c : tie.After-read2 Inv-loop μ-loop Inv-walk μ-walk)
     → let at-loop = c .before .before .before .before .before in
-    let at-read = at-loop .before .before .before .before .before .before in
+    let at-read = at-loop .before .before .before .before .before .before .before in
     let back17 = at-read .before .before .before .before .before .before in
     let start = back17 .before in
     let l = at-loop .loop in
@@ -83,22 +97,27 @@ inner :
     (rangesOf (l .chain .request)) (rangesOf (l .chain .reply))
     ≡ walkOf (a .m .now) (a .table .0) (a .size) (a .head .0) (a .indirect)
 inner c =
-    let l = c .before .before .before .before .before .loop in
-    let d = c .before .before .before .before .before .before .before .before .before .before .before .read .result in
-    let m =
-    c .before .before .before .before .before .before .before .before .before .before .before .before
-    .before .before .before .before .before .before .args .m .now in
+    let at-loop = c .before .before .before .before .before in
+    let at-read = at-loop .before .before .before .before .before .before .before in
+    let back6 = at-read .before .before .before .before .before .before in
+    let start = back6 .before in
+    let l = at-loop .loop in
+    let d = at-read .read .result in
+    let some-left = c .before .before .before .before .if4 .left in
     sym
-    (inTable-more m (d .at .0) (d .len / 16) (l .left) (l .left - 1) (l .number .0) _ _ (omega arith) (c .read2 .result) (omega arith)
-    (c .read2 .ensures))
+    (inTable-more (start .args .m .now) (d .at .0) (d .len / 16) (l .left) (l .left - 1) (l .number .0) _ _ (omega (arith, some-left))
+    (c .read2 .result) (omega arith) (c .read2 .ensures))
     ∙ l .inv .2
-    ∙ inside (c .before .before .before .before .before .before)
+    ∙ entry (at-loop .before)
 
 empty-requires : tie.Need-empty-requires Inv-loop μ-loop Inv-walk μ-walk
 empty-requires c κs = omega arith
 
 walk-holds : tie.Need-walk-holds Inv-loop μ-loop Inv-walk μ-walk
 walk-holds c = rw (c .empty .ensures) (sound-empty, omega arith, refl)
+
+number-requires : tie.Need-number-requires Inv-loop μ-loop Inv-walk μ-walk
+number-requires c κs = omega arith
 
 read-requires : tie.Need-read-requires Inv-loop μ-loop Inv-walk μ-walk
 read-requires c κs = omega arith
@@ -115,11 +134,17 @@ enum-known-fault c = omega arith
 enum-told : tie.Need-enum-told Inv-loop μ-loop Inv-walk μ-walk
 enum-told c = omega arith
 
+of-requires : tie.Need-of-requires Inv-loop μ-loop Inv-walk μ-walk
+of-requires c κs = omega arith
+
 loop-holds : tie.Need-loop-holds Inv-loop μ-loop Inv-walk μ-walk
 loop-holds c =
-    let back6 = c .before .before .before .before .before .before in
-    let at-walk = back6 .before .before .before in
+    let at-read = c .before .before .before .before .before .before in
+    let at-walk = at-read .before .before .before .before in
     let l = at-walk .walk in (l .inv .0, l .inv .1, refl)
+
+number-requires-2 : tie.Need-number-requires-2 Inv-loop μ-loop Inv-walk μ-walk
+number-requires-2 c κs = omega arith
 
 cast-if5 : tie.Need-cast-if5 Inv-loop μ-loop Inv-walk μ-walk
 cast-if5 c = omega arith
@@ -166,7 +191,7 @@ loop-again c =
       sym (onward-next (j .ensures) _ (c .before .before .before .enum-told2 .given .1)
           (sym (c .before .before .has-next .ensures) ∙ not-false _ (c .before .if7 .left)))
           ∙ rw (sym (at-is-indirect2 .is-indirect2 .ensures) ∙ at-if6 .if6 .left) at (inner back9)
-          ∙ sym (inside back15),
+          ∙ sym (entry back15),
     )
 
 joined-requires-2 : tie.Need-joined-requires-2 Inv-loop μ-loop Inv-walk μ-walk
@@ -238,14 +263,14 @@ returns-3 c =
 returns-4 : tie.Need-returns-4 Inv-loop μ-loop Inv-walk μ-walk
 returns-4 c =
     let l = c .before .loop in
-    record { outcome = sym (inTable-none (l .left) _ _ _ _ (c .if4 .taken)) ∙ l .inv .2 ∙ inside (c .before .before); sound = l .inv .0 }
+    record { outcome = sym (inTable-none (l .left) _ _ _ _ (c .if4 .taken)) ∙ l .inv .2 ∙ entry (c .before .before); sound = l .inv .0 }
 
 returns-5 : tie.Need-returns-5 Inv-loop μ-loop Inv-walk μ-walk
 returns-5 c =
     let back5 = c .before .before .before .before .before in
-    let at-read = back5 .before .before .before .before .before in
-    let back16 = at-read .before .before .before .before .before .before in
-    let start = back16 .before in
+    let at-read = back5 .before .before .before .before .before .before in
+    let back6 = at-read .before .before .before .before .before .before in
+    let start = back6 .before in
     let l = c .before .before .before .before .loop in
     let d = at-read .read .result in
     let m = start .args .m .now in
@@ -253,7 +278,7 @@ returns-5 c =
       outcome =
           sym (inTable-past m (d .at .0) (d .len / 16) (l .left) (l .left - 1) (l .number .0) _ _ (omega arith) (omega arith))
           ∙ l .inv .2
-          ∙ inside back5;
+          ∙ entry back5;
       sound = l .inv .0;
     }
 
@@ -328,12 +353,15 @@ follow-spec =
     μ-walk
     empty-requires
     walk-holds
+    number-requires
     read-requires
     is-indirect-requires
     enter-requires
     enum-known-fault
     enum-told
+    of-requires
     loop-holds
+    number-requires-2
     cast-if5
     read-requires-2
     is-indirect-requires-2

@@ -17,17 +17,17 @@ slice-aggregate-set32-2 c = search needs
 set32-requires-2 : tie.Need-set32-requires-2
 set32-requires-2 c κs = search needs
 
-slice-aggregate-put64 : tie.Need-slice-aggregate-put64
-slice-aggregate-put64 c = search needs
+slice-aggregate-set64 : tie.Need-slice-aggregate-set64
+slice-aggregate-set64 c = search needs
 
-put64-requires : tie.Need-put64-requires
-put64-requires c κs = search needs
+set64-requires : tie.Need-set64-requires
+set64-requires c κs = search needs
 
-slice-aggregate-put64-2 : tie.Need-slice-aggregate-put64-2
-slice-aggregate-put64-2 c = search needs
+slice-aggregate-set64-2 : tie.Need-slice-aggregate-set64-2
+slice-aggregate-set64-2 c = search needs
 
-put64-requires-2 : tie.Need-put64-requires-2
-put64-requires-2 c κs = search needs
+set64-requires-2 : tie.Need-set64-requires-2
+set64-requires-2 c κs = search needs
 
 direction-of-requires : tie.Need-direction-of-requires
 direction-of-requires c κs = search needs
@@ -43,7 +43,7 @@ array-write-bytes-3 c = search needs
 
 returns : tie.Need-returns
 unfolding put bytesOf
-returns c = rw (c .direction-of .ensures, c .before .before .put642 .ensures, c .before .before .before .before .before .put64 .ensures, c .before .before .before .before .before .before .before .before .set322 .ensures, c .before .before .before .before .before .before .before .before .before .before .before .set32 .ensures)
+returns c = rw (c .direction-of .ensures, c .before .before .set642 .ensures, c .before .before .before .before .before .set64 .ensures, c .before .before .before .before .before .before .before .before .set322 .ensures, c .before .before .before .before .before .before .before .before .before .before .before .set32 .ensures)
 
 pub pcm-item-spec : {M : Type 1} → statement M
 pcm-item-spec =
@@ -53,10 +53,10 @@ pcm-item-spec =
     set32-requires
     slice-aggregate-set32-2
     set32-requires-2
-    slice-aggregate-put64
-    put64-requires
-    slice-aggregate-put64-2
-    put64-requires-2
+    slice-aggregate-set64
+    set64-requires
+    slice-aggregate-set64-2
+    set64-requires-2
     direction-of-requires
     array-write-bytes
     array-write-bytes-2

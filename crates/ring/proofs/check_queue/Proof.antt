@@ -1,5 +1,5 @@
 -- Each answer is the test that led to it; the sum of new and in work is formed in 32 bits.
-use mathlib.Core.Path.{_≡_, _∙_}
+use mathlib.Core.Path.{_≡_, _∙_, sym}
 use Prim.Native.Nat.{_+_}
 use mathlib.Core.Bool.{cond, not}
 use native.Mathlib.Omega.{arith}
@@ -16,30 +16,41 @@ use Rattle.ring.proofs.check_queue.Statement.{statement}
 use Rattle.ring.proofs.check_queue.Tie as tie
 
 region-judged : (c : tie.After-inside)
-    → let a = c .before .before .before .before .before .before .args in ltb (length (a .m .now)) (baseOf (a .page) + endAt (a .size)) ≡ not (c .inside .result)
+    → let start = c .before .before .before .before .before .before in
+    let a = start .args in
+    ltb (length (a .m .now)) (baseOf (a .page) + endAt (a .size)) ≡ not (c .inside .result)
 region-judged c =
-    let a = c .before .before .before .before .before .before .args in
+    let start = c .before .before .before .before .before .before in
+    let a = start .args in
     past-the-end (length (a .m .now)) (baseOf (a .page)) (endAt (a .size)) (omega arith)
     ∙ rw (c .inside .ensures, c .before .end-at .ensures, c .before .before .address .ensures)
 
 entries-judged : (c : tie.After-new-entries)
-    → let a = c .before .before .before .before .before .before .before .before .before .before .args in
+    → let at-if2 = c .before .before .before in
+    let start = at-if2 .before .before .before .before .before .before .before in
+    let a = start .args in
     checkOf (a .m .now) (a .page) (a .size) (a .taken) (a .in-work)
     ≡ cond (ltb (a .size) (c .new-entries .result + a .in-work)) (Check.Broken Cause.Entries) (Check.New (c .new-entries .result))
 unfolding foundOf
 entries-judged c =
+    let at-if2 = c .before .before .before in
+    let at-address = at-if2 .before .before .before in
+    let at-if1 = at-address .before in
     rw (
-      ne-eqb _ _ (c .before .before .before .before .before .before .before .if1 .left),
-      region-judged (c .before .before .before .before) ∙ c .before .before .before .if2 .left,
+      ne-eqb _ _ (λ h. at-if1 .if1 .left (at-if1 .before .number .ensures ∙ h)),
+      region-judged (at-if2 .before) ∙ at-if2 .if2 .left,
       c .new-entries .ensures,
       c .before .get16 .ensures,
       c .before .before .available-at .ensures,
-      c .before .before .before .before .before .before .address .ensures,
+      at-address .address .ensures,
     )
+
+number-requires : tie.Need-number-requires
+number-requires c κs = search needs
 
 returns : tie.Need-returns
 unfolding foundOf
-returns c = rw (eq-eqb _ _ (c .if1 .taken))
+returns c = rw (eq-eqb _ _ (sym (c .before .number .ensures) ∙ c .if1 .taken))
 
 address-requires : tie.Need-address-requires
 address-requires c κs = search needs
@@ -52,7 +63,9 @@ inside-requires c κs = search needs
 
 returns-2 : tie.Need-returns-2
 unfolding foundOf
-returns-2 c = rw (ne-eqb _ _ (c .before .before .before .before .if1 .left), region-judged (c .before) ∙ c .if2 .taken)
+returns-2 c =
+    let at-if1 = c .before .before .before .before in
+    rw (ne-eqb _ _ (λ h. at-if1 .if1 .left (at-if1 .before .number .ensures ∙ h)), region-judged (c .before) ∙ c .if2 .taken)
 
 available-at-requires : tie.Need-available-at-requires
 available-at-requires c κs = search needs
@@ -82,6 +95,7 @@ pub check-queue-spec : {M : Type 1} → statement M
 check-queue-spec =
     tie.close
     (tie.spec
+    number-requires
     returns
     address-requires
     end-at-requires

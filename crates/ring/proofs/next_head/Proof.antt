@@ -37,9 +37,12 @@ add-get16-2 c = search needs
 get16-requires : tie.Need-get16-requires
 get16-requires c κs = search needs
 
+of-requires : tie.Need-of-requires
+of-requires c κs = search needs
+
 returns : tie.Need-returns
 unfolding headAt
-returns c = rw (← (number-read (c .before)), lt-ltb _ _ (c .if1 .taken))
+returns c = rw (c .of .ensures, ← (number-read (c .before .before)), lt-ltb _ _ (c .before .if1 .taken))
 
 returns-2 : tie.Need-returns-2
 unfolding headAt
@@ -57,5 +60,6 @@ next-head-spec =
     mul-get16
     add-get16-2
     get16-requires
+    of-requires
     returns
     returns-2)

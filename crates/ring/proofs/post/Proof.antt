@@ -28,6 +28,9 @@ add-element-2 c = search needs
 wrapping-add-u16-requires : tie.Need-wrapping-add-u16-requires
 wrapping-add-u16-requires c κs = search needs
 
+number-requires : tie.Need-number-requires
+number-requires c κs = search needs
+
 cast-put32 : tie.Need-cast-put32
 cast-put32 c = search needs
 
@@ -58,16 +61,21 @@ same-length c = search needs
 returns : tie.Need-returns
 unfolding postOf postedAt interrupts
 returns c =
+    let at-put16 = c .before .before .before .before .before in
+    let at-put322 = at-put16 .before .before .before .before in
+    let at-put32 = at-put322 .before .before .before .before in
+    let at-wrapping = at-put32 .before .before .before in
     rw (
       c .get16 .ensures,
       c .before .available-at .ensures,
-      c .before .before .before .before .before .put16 .ensures,
-      c .before .before .before .before .before .before .before .before .before .put322 .ensures,
-      c .before .before .before .before .before .before .before .before .before .before .before .before .before .put32 .ensures,
-      c .before .before .before .before .before .before .before .before .before .before .before .before .before .before .before .before .wrapping-add-u16 .ensures,
-      c .before .before .before .before .before .before .before .before .before .before .before .before .before .before .before .before .before .ring-place .ensures,
-      c .before .before .before .before .before .before .before .before .before .before .before .before .before .before .before .before .before .before .used-at .ensures,
-      c .before .before .before .before .before .before .before .before .before .before .before .before .before .before .before .before .before .before .before .address .ensures,
+      at-put16 .put16 .ensures,
+      at-put322 .put322 .ensures,
+      at-put32 .put32 .ensures,
+      at-put32 .before .number .ensures,
+      at-wrapping .wrapping-add-u16 .ensures,
+      at-wrapping .before .ring-place .ensures,
+      at-wrapping .before .before .used-at .ensures,
+      at-wrapping .before .before .before .address .ensures,
     )
 
 pub post-spec : {M : Type 1} → statement M
@@ -82,6 +90,7 @@ post-spec =
     mul-element
     add-element-2
     wrapping-add-u16-requires
+    number-requires
     cast-put32
     put32-requires
     add-put32

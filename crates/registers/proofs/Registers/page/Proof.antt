@@ -18,9 +18,12 @@ mul-page c = search needs
 element-copy-out-page : tie.Need-element-copy-out-page
 element-copy-out-page c = search needs
 
+number-requires : tie.Need-number-requires
+number-requires c κs = search needs
+
 returns-2 : tie.Need-returns-2
 unfolding pageRead
-returns-2 c = rw (lt-ltb _ _ (c .before .if1 .left))
+returns-2 c = rw (lt-ltb _ _ (c .before .before .if1 .left), c .number .ensures)
 
 pub page-spec : {M : Type 1} → statement M
-page-spec = tie.close (tie.spec cast-queue returns mul-page element-copy-out-page returns-2)
+page-spec = tie.close (tie.spec cast-queue returns mul-page element-copy-out-page number-requires returns-2)

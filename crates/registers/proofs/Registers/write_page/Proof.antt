@@ -34,8 +34,11 @@ returns-3 c =
 cast-at : tie.Need-cast-at
 cast-at c = search needs
 
-cast-t14 : tie.Need-cast-t14
-cast-t14 c = search needs
+cast-of : tie.Need-cast-of
+cast-of c = search needs
+
+of-requires : tie.Need-of-requires
+of-requires c κs = search needs
 
 mul-t16 : tie.Need-mul-t16
 mul-t16 c = search needs
@@ -49,7 +52,15 @@ wrote-with-requires-3 c κs = search needs
 returns-4 : tie.Need-returns-4
 unfolding wrotePage
 returns-4 c =
-    rw (lt-ltb _ _ (c .before .before .before .before .if1 .left), lt-ltb _ _ (c .before .before .before .if2 .left), sym (c .before .before .has-bit .ensures) ∙ c .before .if3 .left) (c .wrote-with3 .ensures)
+    let at-of = c .before in
+    let at-if3 = at-of .before in
+    rw (
+      lt-ltb _ _ (at-if3 .before .before .before .if1 .left),
+      lt-ltb _ _ (at-if3 .before .before .if2 .left),
+      sym (at-if3 .before .has-bit .ensures) ∙ at-if3 .if3 .left,
+      ← (at-of .of .ensures),
+    )
+    (c .wrote-with3 .ensures)
 
 pub write-page-spec : {M : Type 1} → statement M
 write-page-spec =
@@ -63,7 +74,8 @@ write-page-spec =
     wrote-with-requires-2
     returns-3
     cast-at
-    cast-t14
+    cast-of
+    of-requires
     mul-t16
     element-set-from-self
     wrote-with-requires-3
