@@ -19,8 +19,8 @@ use Rattle.card.specs.Fit.{Fit}
 use Rattle.card.specs.Rules.{poweredOf}
 use Rattle.card.specs.declared.Card.{Card}
 use Rattle.card.specs.declared.Powered.{Powered}
-use Rattle.message.specs.Card.{deviceOf}
-use Rattle.message.proofs.Steps.{power-start}
+use Rattle.meaning.specs.Card.{deviceOf}
+use Rattle.meaning.proofs.Steps.{power-start}
 use Rattle.rules.specs.Account.{takingAt, entryAt, startsAnew, Answers, finishedOk, releasedIoErr, illFormedIoErr, illFormedMute, Answered, Book}
 use Rattle.rules.specs.Calls.{Call, Told, Step, step}
 use Rattle.rules.specs.Claim.{start, after, countFor, bytesFor, heard, counted, Good, queueOf, shownAs, card, account}

@@ -6,7 +6,7 @@ use Prim.Native.Nat.{ℕ}
 use lib.ListN.{take}
 use Rattle.card.specs.Fit.{Fit}
 use Rattle.card.specs.declared.Card.{Card}
-use Rattle.message.specs.Card.{deviceOf}
+use Rattle.meaning.specs.Card.{deviceOf}
 use Rattle.rules.specs.Calls as rules
 use Rattle.rules.specs.Claim.{card}
 use Rattle.calls.specs.declared.Outcome.{Outcome}

@@ -19,7 +19,7 @@ use Rattle.ranges.specs.Ranges.{upFrom, total}
 use Rattle.registers.specs.Answers.{done}
 use Rattle.ring.specs.Rules.{newOf, indexOf}
 use Rattle.card.specs.declared.Card.{Card}
-use Rattle.message.specs.Card.{deviceOf}
+use Rattle.meaning.specs.Card.{deviceOf}
 use Rattle.rules.specs.Account.{takingAt, entryAt, startsAnew, Turn, Book}
 use Rattle.rules.specs.Calls.{Control, Play, Call, Told, ReleaseFirst, Pending, orderOf, step}
 use Rattle.rules.specs.Claim.{start, after, countFor, bytesFor, waitingOf, queueOf, shownAs, account}

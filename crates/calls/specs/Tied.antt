@@ -6,7 +6,7 @@ use Prim.Native.Nat.{ℕ}
 use Rattle.description.specs.declared.Description.{Description}
 use Rattle.card.specs.Fit.{Fit}
 use Rattle.card.specs.declared.Card.{Card}
-use Rattle.message.specs.Card.{deviceOf}
+use Rattle.meaning.specs.Card.{deviceOf}
 use Rattle.rules.specs.Calls.{Call, Told}
 use Rattle.rules.specs.Claim.{start, toldBy, after, queueOf, shownAs, card, account, Holds}
 use Rattle.rules.specs.Device.{Device, Queue}

@@ -16,7 +16,7 @@ use Rattle.card.specs.Fit.{Fit, FitParts}
 use Rattle.card.specs.declared.Card.{Card}
 use Rattle.card.specs.declared.Parts.{Parts}
 use Rattle.card.specs.declared.Stream.{Stream}
-use Rattle.message.specs.Card.{restOf}
+use Rattle.meaning.specs.Card.{restOf}
 use Rattle.requests.specs.Requests.{Serves, repliedOf, foundOf, withParts, partsWith}
 use Rattle.requests.specs.declared.Found.the-variants.{There}
 use Rattle.requests.specs.declared.Served.{Served}

@@ -5,7 +5,7 @@ ghost use mathlib.Core.Bool.{not};
 ghost use Prim.Native.Nat.{_≤_, _<_};
 ghost use lib.ListN.{length};
 ghost use Rattle.card.specs.Fit.{Fit, FitParts};
-ghost use Rattle.message.specs.Card.{restOf};
+ghost use Rattle.meaning.specs.Card.{restOf};
 ghost use Rattle.requests.specs.Requests.{Serves, checked, foundOf};
 ghost use Rattle.rules.specs.Control.{setParams, moves, lawfully, lawfulFrom, offers as offersOf, paramsOf, word};
 ghost use Rattle.rules.specs.Control.{Release as ReleaseOf};

@@ -15,7 +15,7 @@ use Rattle.ranges.specs.declared.Ranges.{Ranges}
 use Rattle.ranges.proofs.Laws.{length-places}
 use Rattle.card.specs.Card.{preparedState, runningState, stoppedState}
 use Rattle.card.specs.declared.Card.{Card}
-use Rattle.message.specs.Card.{restOf}
+use Rattle.meaning.specs.Card.{restOf}
 use Rattle.rules.specs.Control as rules
 use Rattle.information.specs.declared.Listing.the-variants.{Jacks, Streams, Maps}
 use Rattle.rules.specs.Numbers.{jackInfo, jackRemap, pcmInfo, pcmSetParams, pcmPrepare, pcmRelease, pcmStart, pcmStop, chmapInfo, sBadMsg, sNotSupp}

@@ -7,7 +7,7 @@ use Rattle.card.specs.Card.{preparedState, runningState, stoppedState}
 use Rattle.card.specs.declared.Card.{Card}
 use Rattle.information.specs.Information.{itemSize, itemsOf}
 use Rattle.information.specs.declared.Listing.the-variants.{Jacks, Streams, Maps}
-use Rattle.message.specs.Card.{restOf}
+use Rattle.meaning.specs.Card.{restOf}
 pub use Rattle.requests.specs.Requests.{Serves, servedIn, byKind, withParts}
 use Rattle.rules.specs.Control as rules
 use Rattle.rules.specs.Numbers.{jackInfo, jackRemap, pcmInfo, pcmSetParams, pcmPrepare, pcmRelease, pcmStart, pcmStop, chmapInfo}

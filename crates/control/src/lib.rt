@@ -4,7 +4,7 @@ ghost use mathlib.Core.Path.{_≡_};
 ghost use lib.Dec.{leb};
 ghost use lib.ListN.{length};
 ghost use Rattle.card.specs.Fit.{Fit};
-ghost use Rattle.message.specs.Card.{restOf};
+ghost use Rattle.meaning.specs.Card.{restOf};
 ghost use Rattle.ranges.specs.Ranges.{Sound, rangesOf, places, bytesAt};
 ghost use Rattle.requests.specs.Requests.{Serves, checked};
 ghost use Rattle.rules.specs.Control.{served};

@@ -30,7 +30,7 @@ use Rattle.card.specs.Fit.{Fit}
 use Rattle.card.specs.declared.Card.{Card}
 use Rattle.card.specs.declared.Counters.{Counters}
 use Rattle.card.specs.declared.Stream.{Stream}
-use Rattle.message.specs.Card.{countersAt, queueOf, restOf, deviceOf, stepOf, leaves}
+use Rattle.meaning.specs.Card.{countersAt, queueOf, restOf, deviceOf, stepOf, leaves}
 use Rattle.rules.specs.Calls as calls
 use Rattle.rules.specs.Calls.{Result, Order, Pending, Step, ended, virtqueueOf, releasedOf, acted, Done, ReleaseFirst, Control, releaseStep, refused, broke, replied, ordered, orderOf, controlFound, indirect}
 use Rattle.rules.specs.Control as rules

@@ -18,7 +18,7 @@ use Rattle.ring.specs.declared.Posted.{Posted}
 use Rattle.card.specs.Card.{releasedState}
 use Rattle.card.specs.declared.Card.{Card}
 use Rattle.card.specs.declared.Counters.{Counters}
-use Rattle.message.specs.Card.{countersAt, restOf, deviceOf, leaves}
+use Rattle.meaning.specs.Card.{countersAt, restOf, deviceOf, leaves}
 use Rattle.rules.specs.Calls.{Result, Step, Pending, Order, ended, indirect, readMessage, controlHead}
 use Rattle.rules.specs.Control.{withState, withStream}
 use Rattle.rules.specs.Device.{Device, Queue, pageOf, streamAt, signalledIf, oneTaken}

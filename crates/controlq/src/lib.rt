@@ -5,7 +5,7 @@ ghost use mathlib.Core.List.{[]};
 ghost use Prim.Native.Nat.{_≤_};
 ghost use lib.ListN.{length, take};
 ghost use Rattle.card.specs.Fit.{Fit};
-ghost use Rattle.message.specs.Card.{deviceOf, stepOf, leaves};
+ghost use Rattle.meaning.specs.Card.{deviceOf, stepOf, leaves};
 ghost use Rattle.ranges.specs.Ranges.{Sound, rangesOf};
 ghost use Rattle.registers.specs.Map.{sizeOf};
 ghost use Rattle.rules.specs.Calls.{Request, ReleaseFirst, ordered, replied, releasedOf};

@@ -20,7 +20,7 @@ use Rattle.rules.specs.Calls.{Result, Step, Event, ended, refused, withConnecte
 use Rattle.rules.specs.Control.{noJack}
 use Rattle.rules.specs.Device.{Rest, Device, Queue, withJacks, streamAt}
 use Rattle.rules.specs.Numbers.{jackConnected, jackDisconnected, eventQueue}
-use Rattle.message.specs.Card.{restOf, deviceOf, stepOf, leaves}
+use Rattle.meaning.specs.Card.{restOf, deviceOf, stepOf, leaves}
 use Rattle.event_queue.specs.Attempts.{holding, resultIn, sentOf}
 use Rattle.event.specs.Event.{cardConnected, cardHolding, withRest}
 use Rattle.event_queue.specs.declared.Attempt.{Attempt}

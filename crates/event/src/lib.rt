@@ -11,7 +11,7 @@ ghost use Rattle.card.specs.Fit.{Fit};
 ghost use Rattle.event_queue.specs.Attempts.{sentOf};
 ghost use Rattle.rules.specs.Calls.{Event, ended, isRunning, eventAllowed, recorded};
 ghost use Rattle.rules.specs.Device.{streamAt};
-ghost use Rattle.message.specs.Card.{restOf, deviceOf, stepOf, leaves};
+ghost use Rattle.meaning.specs.Card.{restOf, deviceOf, stepOf, leaves};
 ghost use Rattle.event.specs.Event.{cardConnected, withRest};
 use card::Card;
 

@@ -16,7 +16,7 @@ use Rattle.card.specs.declared.Message.{Message}
 use Rattle.rules.specs.Counters.{countersOf, isNone}
 use Rattle.rules.specs.Device as rules
 use Rattle.rules.specs.Transfer.{Run, worked, moved, payloadOf, takingOf, statusOf, completed, settled, entered, next, givenUp, isNil, isWell}
-use Rattle.message.specs.Card.{takingIn, messageOf}
+use Rattle.meaning.specs.Card.{takingIn, messageOf}
 use Rattle.message.specs.Message as message
 use Rattle.message.specs.Message.{virtqueueAs, answeredOf, FitTaken}
 use Rattle.message.specs.declared.Form.the-variants.{WellFormed}

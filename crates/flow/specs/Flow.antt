@@ -8,7 +8,7 @@ use Rattle.ring.specs.Rules.{Completion}
 use Rattle.card.specs.Fit.{FitMessage}
 use Rattle.card.specs.declared.Counters.{Counters}
 use Rattle.card.specs.declared.Message.{Message}
-use Rattle.message.specs.Card.{queueOf}
+use Rattle.meaning.specs.Card.{queueOf}
 use Rattle.message.specs.declared.Taken.{Taken}
 use Rattle.rules.specs.Device as rules
 use Rattle.rules.specs.Transfer.{Run, completed, taking}

@@ -1,3 +1,2 @@
 -- Laws of messages.
 pub mod Laws
-pub mod Steps

@@ -1,3 +1,2 @@
 -- What the structs of a message stand for in the rules.
 pub mod Message
-pub mod Card

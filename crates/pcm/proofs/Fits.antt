@@ -9,7 +9,7 @@ use Rattle.registers.specs.Answers.{done, lengthDiffers, notLive, notRunning}
 use Rattle.registers.specs.Rules.{live}
 use Rattle.card.specs.Fit.{Fit, FitMessage}
 use Rattle.card.specs.declared.Card.{Card}
-use Rattle.message.specs.Card.{restOf}
+use Rattle.meaning.specs.Card.{restOf}
 use Rattle.message.specs.declared.Direction.{Direction}
 use Rattle.rules.specs.Calls.{isRunning}
 use Rattle.rules.specs.Device.{signalledIf}

@@ -13,7 +13,7 @@ use Rattle.registers.specs.Rules.{live}
 use Rattle.card.specs.Card.{noStream}
 use Rattle.card.specs.Fit.{Fit}
 use Rattle.card.specs.declared.Card.{Card}
-use Rattle.message.specs.Card.{restOf}
+use Rattle.meaning.specs.Card.{restOf}
 use Rattle.rules.specs.Calls.{transferred, transferFound, untouched, isRunning, virtqueueOf}
 use Rattle.rules.specs.Counters.{countersOf}
 use Rattle.rules.specs.Device as rules

@@ -3,7 +3,7 @@ ghost use mathlib.Core.Path.{_≡_};
 ghost use mathlib.Core.List.{[]};
 ghost use lib.ListN.{take};
 ghost use Rattle.card.specs.Fit.{Fit};
-ghost use Rattle.message.specs.Card.{restOf, stepOf, leaves};
+ghost use Rattle.meaning.specs.Card.{restOf, stepOf, leaves};
 ghost use Rattle.rules.specs.Calls.{Request, isRunning};
 ghost use Rattle.pcm.specs.Entry.{refusalOf, flowedCard, brokenAnswer, flowAnswer};
 use card::Card;

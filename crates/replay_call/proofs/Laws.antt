@@ -7,7 +7,7 @@ use Rattle.calls.specs.declared.Outcome.{Outcome}
 use Rattle.calls.specs.declared.Request.{Request}
 use Rattle.calls.specs.declared.Request.the-variants.{Read, Write, Control, Play, Capture, Event}
 use Rattle.card.specs.declared.Card.{Card}
-use Rattle.message.specs.Card.{deviceOf, restOf, stepOf}
+use Rattle.meaning.specs.Card.{deviceOf, restOf, stepOf}
 use Rattle.rules.specs.Calls.{Told}
 use Rattle.replay_call.specs.Shown.{irqOf, textFor, shownFor, leftBy, left}
 

@@ -5,7 +5,7 @@ use mathlib.Core.List.{List}
 use Prim.Native.Nat.{ℕ}
 use Rattle.card.specs.Fit.{Fit}
 use Rattle.card.specs.declared.Card.{Card}
-use Rattle.message.specs.Card.{deviceOf, stepOf}
+use Rattle.meaning.specs.Card.{deviceOf, stepOf}
 use Rattle.registers.specs.Rules.{raised}
 use Rattle.replay_text.specs.Adler.{adler}
 use Rattle.replay_text.specs.Text.{registerText, callText, playText}

@@ -3,7 +3,7 @@
 ghost use mathlib.Core.Path.{_≡_};
 ghost use Rattle.calls.specs.Calls.{requestOf, toldOf, hostOf};
 ghost use Rattle.card.specs.Fit.{Fit};
-ghost use Rattle.message.specs.Card.{stepOf};
+ghost use Rattle.meaning.specs.Card.{stepOf};
 ghost use Rattle.replay_text.specs.Adler.{adler};
 ghost use Rattle.replay_text.specs.Text.{callText};
 ghost use Rattle.replay_call.specs.Shown.{irqOf, textFor, Shows};

@@ -13,7 +13,7 @@ use Rattle.description.specs.Nothing.{nothingDescribed}
 use Rattle.description.specs.declared.Description.{Description}
 use Rattle.lines.specs.Lines.{linesOf, joined, spanOf, behindOf}
 use Rattle.lines.proofs.Laws.{lines-next}
-use Rattle.message.specs.Card.{stepOf}
+use Rattle.meaning.specs.Card.{stepOf}
 use Rattle.replay_call.specs.Shown.{shownFor, Left, leftBy, left}
 use Rattle.replay_host.specs.Host.{askedBy}
 use Rattle.replay_line.specs.Line.{lineOf}

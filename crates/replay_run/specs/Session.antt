@@ -12,7 +12,7 @@ use Rattle.decimal.specs.Write.{Put}
 use Rattle.description.specs.Nothing.{nothingDescribed}
 use Rattle.description.specs.declared.Description.{Description}
 use Rattle.lines.specs.Lines.{spanOf, behindOf}
-use Rattle.message.specs.Card.{deviceOf}
+use Rattle.meaning.specs.Card.{deviceOf}
 use Rattle.replay_call.specs.Shown.{Left, leftBy}
 use Rattle.replay_description.specs.Parts.{withPart}
 use Rattle.replay_host.specs.Host.{askedBy}

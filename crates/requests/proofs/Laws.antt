@@ -16,7 +16,7 @@ use Rattle.card.specs.declared.Card.{Card}
 use Rattle.card.specs.declared.Jack.{Jack}
 use Rattle.card.specs.declared.Parts.{Parts}
 use Rattle.information.proofs.Laws.{put-sets, take-sets}
-use Rattle.message.specs.Card.{restOf}
+use Rattle.meaning.specs.Card.{restOf}
 use Rattle.rules.specs.Control as rules
 use Rattle.information.specs.Information.{itemSize, itemsOf}
 use Rattle.information.specs.declared.Listing.{Listing}

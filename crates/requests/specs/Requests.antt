@@ -12,7 +12,7 @@ use Rattle.card.specs.declared.Jack.{Jack}
 use Rattle.card.specs.declared.Parts.{Parts}
 use Rattle.information.specs.Information.{itemSize, itemsOf}
 use Rattle.information.specs.declared.Listing.{Listing}
-use Rattle.message.specs.Card.{restOf}
+use Rattle.meaning.specs.Card.{restOf}
 use Rattle.rules.specs.Control as rules
 use Rattle.rules.specs.Device.{Rest}
 use Rattle.requests.specs.declared.Check.{Check}

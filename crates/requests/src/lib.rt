@@ -7,7 +7,7 @@ ghost use lib.ListN.{length};
 ghost use lib.Seq.{sets};
 ghost use Rattle.card.specs.Fit.{Fit, FitParts};
 ghost use Rattle.information.specs.Information.{itemSize, itemsOf};
-ghost use Rattle.message.specs.Card.{restOf};
+ghost use Rattle.meaning.specs.Card.{restOf};
 ghost use Rattle.rules.specs.Control.{information as informationOf, remap as remapOf, status};
 ghost use Rattle.requests.specs.Requests.{Serves, repliedOf, checked, foundOf, listable, withJackAt};
 use card::Card;

@@ -1,11 +1,37 @@
-// Document 01 as definitions (specs/) and what is proved of them (proofs/). The code of the calls is
-// in the crates above; here stands one check that the definitions' numbers are the texts'.
-ghost use mathlib.Core.Path.{_≡_};
-ghost use Rattle.rules.specs.Numbers.{sOk};
+// Document 01 as definitions (specs/) and what is proved of them (proofs/). The code of the calls is in the crates above; here stand
+// the numbers of the texts (001, Device Operation; VIRTIO 1.2, Sound Device) for it, as specs/Numbers has them for the rules.
 
-// The status of a request that was done (VIRTIO_SND_S_OK).
-pub fn status_ok() -> u32
-    ensures { λ r. ⌜ r ≡ sOk ⌝ }
-{
-    32768
-}
+// Control requests.
+pub const JACK_INFO: u32 = 1;
+
+pub const JACK_REMAP: u32 = 2;
+
+pub const PCM_INFO: u32 = 256;
+
+pub const PCM_SET_PARAMS: u32 = 257;
+
+pub const PCM_PREPARE: u32 = 258;
+
+pub const PCM_RELEASE: u32 = 259;
+
+pub const PCM_START: u32 = 260;
+
+pub const PCM_STOP: u32 = 261;
+
+pub const CHMAP_INFO: u32 = 512;
+
+// Statuses of control requests and of I/O messages.
+pub const OK: u32 = 32768;
+
+pub const BAD_MSG: u32 = 32769;
+
+pub const NOT_SUPP: u32 = 32770;
+
+pub const IO_ERR: u32 = 32771;
+
+// Events.
+pub const JACK_CONNECTED: u32 = 4096;
+
+pub const JACK_DISCONNECTED: u32 = 4097;
+
+pub const PCM_XRUN: u32 = 4353;

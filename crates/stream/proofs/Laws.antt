@@ -12,7 +12,7 @@ use Rattle.card.specs.Card.{noCounters}
 use Rattle.card.specs.declared.Card.{Card}
 use Rattle.card.specs.declared.Counters.{Counters}
 use Rattle.card.specs.declared.Message.{Message}
-use Rattle.message.specs.Card.{queueOf, messageOf, restOf, deviceOf}
+use Rattle.meaning.specs.Card.{queueOf, messageOf, restOf, deviceOf}
 use Rattle.message.specs.Message.{directionOf, virtqueueIn}
 use Rattle.message.specs.declared.Direction.{Direction}
 use Rattle.message.specs.declared.Direction.the-variants.{Output, Input}

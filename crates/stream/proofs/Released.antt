@@ -4,7 +4,7 @@ use mathlib.Core.Path.{_≡_, _∙_, sym, ap}
 use mathlib.Core.List.{List}
 use Prim.Native.Nat.{ℕ}
 use Rattle.card.specs.declared.Card.{Card}
-use Rattle.message.specs.Card.{restOf, deviceOf}
+use Rattle.meaning.specs.Card.{restOf, deviceOf}
 use Rattle.rules.specs.Calls.{Pending, Result, ReleaseFirst, ordered, releaseStep, releasedOf, ended, withRest}
 use Rattle.rules.specs.Counters.{countersOf}
 use Rattle.rules.specs.Device as rules

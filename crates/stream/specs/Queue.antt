@@ -9,7 +9,7 @@ use Rattle.card.specs.Fit.{Fit}
 use Rattle.card.specs.declared.Card.{Card}
 use Rattle.card.specs.declared.Counters.{Counters}
 use Rattle.card.specs.declared.Message.{Message}
-use Rattle.message.specs.Card.{countersAt, restOf, deviceOf}
+use Rattle.meaning.specs.Card.{countersAt, restOf, deviceOf}
 use Rattle.message.specs.Message.{directionOf}
 use Rattle.message.specs.declared.Virtqueue.{Virtqueue}
 use Rattle.message.specs.declared.Direction.{Direction}

@@ -13,7 +13,7 @@ use Rattle.card.specs.declared.Counters.{Counters}
 use Rattle.card.specs.declared.Message.{Message}
 use Rattle.flow.specs.Flow.{runOf, freshFlow, FitFlow}
 use Rattle.flow.specs.declared.Flow.{Flow}
-use Rattle.message.specs.Card.{takingIn}
+use Rattle.meaning.specs.Card.{takingIn}
 use Rattle.rules.specs.Counters.{countersOf, isNone}
 use Rattle.rules.specs.Device as rules
 use Rattle.rules.specs.Transfer.{transferMore, releaseMore}

@@ -1,7 +1,7 @@
 -- Each entry does the rules' step; the call tells what the entry told, and only a play is lent the host buffer to write.
 use mathlib.Core.Path.{_≡_, refl}
 use borrow.Author.Needs.{needs}
-use Rattle.message.proofs.Steps.{read-step, write-step}
+use Rattle.meaning.proofs.Steps.{read-step, write-step}
 use Rattle.calls.specs.Calls.{queueOutcome}
 use Rattle.calls.proofs.call.Statement.{statement}
 use Rattle.calls.proofs.call.Tie as tie

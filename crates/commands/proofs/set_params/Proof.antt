@@ -9,7 +9,7 @@ use lib.ListN.{getD}
 use Rattle.memory.specs.Bytes.{le}
 use Rattle.rules.specs.Control.{paramsOf, word}
 use Rattle.rules.specs.Device.{streamAt}
-use Rattle.message.specs.Card.{restOf}
+use Rattle.meaning.specs.Card.{restOf}
 use Rattle.card.specs.Card.{noStream}
 use Rattle.commands.specs.Commands.{lawfulIn, malformed, offered}
 use Rattle.requests.proofs.Laws.{found-absent, serves-refusal, check-passed, check-failed}

@@ -7,7 +7,7 @@ use Rattle.ring.specs.Rules.{baseOf}
 use Rattle.rules.specs.Calls.{indirect}
 use Rattle.rules.specs.Device.{pageOf}
 use Rattle.rules.specs.Numbers.{controlQueue}
-use Rattle.message.specs.Card.{restOf}
+use Rattle.meaning.specs.Card.{restOf}
 use Rattle.controlq.proofs.Laws.{page-in, indirect-in}
 use Rattle.controlq.proofs.answer_chain.Statement.{statement}
 use Rattle.controlq.proofs.answer_chain.Tie as tie

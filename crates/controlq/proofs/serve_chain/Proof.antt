@@ -2,7 +2,7 @@
 use mathlib.Core.Path.{_≡_, _∙_, sym}
 use borrow.Author.Needs.{needs}
 use Rattle.ranges.specs.Ranges.{rangesOf, places, bytesAt, total}
-use Rattle.message.specs.Card.{restOf}
+use Rattle.meaning.specs.Card.{restOf}
 use Rattle.requests.proofs.Laws.{serves-parts}
 use Rattle.rules.specs.Calls.{acted}
 use Rattle.rules.specs.Control as rules

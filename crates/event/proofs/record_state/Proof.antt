@@ -1,7 +1,7 @@
 -- An allowed event of a jack names one that is there; an XRUN records nothing.
 use mathlib.Core.Path.{refl}
 use borrow.Author.Tests.{ne-eqb}
-use Rattle.message.specs.Card.{restOf, deviceOf}
+use Rattle.meaning.specs.Card.{restOf, deviceOf}
 use Rattle.rules.specs.Calls.{recorded}
 use Rattle.event.proofs.Cards.{allowed-jack, recorded-jack}
 use Rattle.event.proofs.record_state.Statement.{statement}

@@ -1,6 +1,6 @@
 -- What was sent with the registers and the event queue's counters of the card is put back.
 use borrow.Author.Needs.{needs}
-use Rattle.message.specs.Card.{restOf}
+use Rattle.meaning.specs.Card.{restOf}
 use Rattle.event.proofs.Cards.{sent-leaves, held-fit}
 use Rattle.event.proofs.send_from.Statement.{statement}
 use Rattle.event.proofs.send_from.Tie as tie

@@ -3,7 +3,7 @@ use mathlib.Core.Path.{_≡_, _∙_, sym}
 use borrow.Author.Needs.{needs}
 use lib.ListN.{length}
 use Rattle.card.specs.Fit.{FitMessage}
-use Rattle.message.specs.Card.{restOf, countersAt}
+use Rattle.meaning.specs.Card.{restOf, countersAt}
 use Rattle.message.specs.declared.Direction.the-variants.{Input}
 use Rattle.stream.proofs.Fits.{broken-card-fit}
 use Rattle.stream.proofs.Laws.{virtqueue-in, fresh-run}

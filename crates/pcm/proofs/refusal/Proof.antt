@@ -2,7 +2,7 @@
 use mathlib.Core.Path.{_∙_, sym}
 use borrow.Author.Needs.{needs}
 use borrow.Author.Tests.{eq-eqb, ne-eqb, not-true, not-false}
-use Rattle.message.specs.Card.{restOf}
+use Rattle.meaning.specs.Card.{restOf}
 use Rattle.pcm.specs.Entry.{refusalOf}
 use Rattle.pcm.proofs.refusal.Statement.{statement}
 use Rattle.pcm.proofs.refusal.Tie as tie

@@ -1,7 +1,7 @@
 -- The queue's check decides: nothing pending, broken, or its entries given up.
 use mathlib.Core.Path.{_≡_, _∙_, sym}
 use borrow.Author.Needs.{needs}
-use Rattle.message.specs.Card.{restOf}
+use Rattle.meaning.specs.Card.{restOf}
 use Rattle.stream.proofs.Fits.{message-fit}
 use Rattle.stream.proofs.Laws.{virtqueue-in}
 use Rattle.stream.proofs.Outcomes.{checked, empties-idle, empties-broken, empties-new}

@@ -20,7 +20,7 @@ use Rattle.rules.specs.Calls.{ReadRegister, WriteRegister, toldAll, nothingRung
 use Rattle.rules.specs.Claim.{start}
 use Rattle.rules.specs.Counters.{countersOf}
 use Rattle.rules.specs.Device as rules
-use Rattle.message.specs.Card.{queueOf, countersAt, restOf, deviceOf, stepOf}
+use Rattle.meaning.specs.Card.{queueOf, countersAt, restOf, deviceOf, stepOf}
 
 -- ---- power-up
 

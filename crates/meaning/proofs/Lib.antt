@@ -1,0 +1,2 @@
+-- Power-up and the register entries are the rules' start and steps.
+pub mod Steps

@@ -1,0 +1,2 @@
+-- What a card stands for in the rules.
+pub mod Card
