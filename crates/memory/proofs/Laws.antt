@@ -7,7 +7,8 @@ use borrow.Author.Tests.{leb-true, leb-false}
 use lib.Dec.{leb}
 use Prim.Native.Nat.{ℕ, zero, suc, _+_, _*_, _/_, _%_, _^_, _≤_, _<_, min}
 use native.Mathlib.Numerals.{add-one}
-use native.Mathlib.Nat.{pow-suc, pow-le-pow-right, lt-of-lt-of-le, min-eq-left, min-eq-right}
+use native.Mathlib.Nat.{zero-add, add-zero, suc-add, mul-assoc, div-one, div-div-eq-div-mul, pow-suc, pow-succ', pow-le-pow-right}
+use native.Mathlib.Nat.{lt-of-lt-of-le, min-eq-left, min-eq-right}
 use native.Mathlib.Omega.{arith}
 use lib.ListN.{length, getD, set, length-set, List·getD-eq-default}
 use lib.Seq.{getD-set-same, getD-set-other, set-out}
@@ -30,6 +31,23 @@ put-none n m at v h = rw h
 pub put-more : (n k : ℕ) (m : List ℕ) (at v : ℕ) → n ≡ k + 1 → put n m at v ≡ put k (set m at (v % 256)) (at + 1) (v / 256)
 unfolding put
 put-more n k m at v h = rw (h, add-one)
+
+-- ---- two numbers side by side are one
+
+pub le-cat : (a b : ℕ) (m : List ℕ) (at : ℕ) → le (a + b) m at ≡ le a m at + 256 ^ a * le b m (at + a)
+unfolding le
+le-cat zero b m at = rw (zero-add, add-zero) (omega arith)
+le-cat (suc a) b m at =
+    let e : at + suc a ≡ at + 1 + a = omega arith in
+    let p : 256 ^ suc a * le b m (at + 1 + a) ≡ 256 * (256 ^ a * le b m (at + 1 + a)) = rw (pow-succ' 256 a, mul-assoc) in
+    rw (suc-add, e, p, le-cat a b m (at + 1)) (omega arith)
+
+pub put-cat : (a b : ℕ) (m : List ℕ) (at v : ℕ) → put (a + b) m at v ≡ put b (put a m at v) (at + a) (v / 256 ^ a)
+unfolding put
+put-cat zero b m at v = rw (zero-add, add-zero, div-one)
+put-cat (suc a) b m at v =
+    let e : at + suc a ≡ at + 1 + a = omega arith in
+    rw (suc-add, e, pow-succ' 256 a, ← (div-div-eq-div-mul v 256 (256 ^ a)), put-cat a b (set m at (v % 256)) (at + 1) (v / 256))
 
 -- ---- bounds
 

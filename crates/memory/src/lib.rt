@@ -2,7 +2,7 @@
 // past its end reads as 0, and a write there changes nothing.
 ghost use mathlib.Core.Path.{_≡_};
 ghost use Prim.Native.Nat.{_+_, _≤_, _<_, _^_, min};
-ghost use lib.ListN.{getD};
+ghost use lib.ListN.{length, getD};
 ghost use Rattle.memory.specs.Bytes.{le, put, insideOf};
 use counts::GuestAddress;
 
@@ -58,8 +58,8 @@ fn byte_behind(m: &[u8], at: usize, i: usize) -> u64
     wide(m[at + i])
 }
 
-// The number in `n` bytes at `at`, the lowest byte first.
-fn get(m: &[u8], at: usize, n: usize) -> u64
+// The number in `n` bytes at `at`, the lowest byte first, each byte with a test of its own.
+fn get_each(m: &[u8], at: usize, n: usize) -> u64
     requires { ⌜ n ≤ 8 ⌝ }
     ensures { λ r. ⌜ (r ≡ le n (now (m .entry)) at) × (r < 256 ^ n) ⌝ }
 {
@@ -72,8 +72,8 @@ fn get(m: &[u8], at: usize, n: usize) -> u64
     acc
 }
 
-// The lowest `n` bytes of `v`, stored at `at`, the lowest byte first.
-fn store(m: &mut [u8], at: usize, n: usize, v: u64)
+// The lowest `n` bytes of `v`, stored at `at`, the lowest byte first, each with a test of its own.
+fn store_each(m: &mut [u8], at: usize, n: usize, v: u64)
     ensures { λ r. ⌜ now (m .exit) ≡ put n (now (m .entry)) at v ⌝ }
 {
     let mut a = at;
@@ -87,6 +87,94 @@ fn store(m: &mut [u8], at: usize, n: usize, v: u64)
         a += 1;
         x /= 256;
         left -= 1;
+    }
+}
+
+// The number in 2, 4 or 8 bytes that are all there.
+fn whole16(m: &[u8], at: usize) -> u64
+    requires { ⌜ at + 2 ≤ length (now m) ⌝ }
+    ensures { λ r. ⌜ (r ≡ le 2 (now (m .entry)) at) × (r < 256 ^ 2) ⌝ }
+{
+    wide(m[at]) + 256 * wide(m[at + 1])
+}
+
+fn whole32(m: &[u8], at: usize) -> u64
+    requires { ⌜ at + 4 ≤ length (now m) ⌝ }
+    ensures { λ r. ⌜ (r ≡ le 4 (now (m .entry)) at) × (r < 256 ^ 4) ⌝ }
+{
+    whole16(m, at) + 65536 * whole16(m, at + 2)
+}
+
+fn whole64(m: &[u8], at: usize) -> u64
+    requires { ⌜ at + 8 ≤ length (now m) ⌝ }
+    ensures { λ r. ⌜ (r ≡ le 8 (now (m .entry)) at) × (r < 256 ^ 8) ⌝ }
+{
+    whole32(m, at) + 4294967296 * whole32(m, at + 4)
+}
+
+// The number in `n` bytes at `at`, the lowest byte first: where all of them are there, with one test.
+fn get(m: &[u8], at: usize, n: usize) -> u64
+    requires { ⌜ n ≤ 8 ⌝ }
+    ensures { λ r. ⌜ (r ≡ le n (now (m .entry)) at) × (r < 256 ^ n) ⌝ }
+{
+    if m.len() < n {
+        return get_each(m, at, n);
+    }
+    if m.len() - n < at {
+        return get_each(m, at, n);
+    }
+    match n {
+        2 => whole16(m, at),
+        4 => whole32(m, at),
+        8 => whole64(m, at),
+        _ => get_each(m, at, n),
+    }
+}
+
+// The lowest 2, 4 or 8 bytes of `v`, stored where there is room for all of them.
+fn lay16(m: &mut [u8], at: usize, v: u64)
+    requires { ⌜ at + 2 ≤ length (now m) ⌝ }
+    ensures { λ r. ⌜ now (m .exit) ≡ put 2 (now (m .entry)) at v ⌝ }
+{
+    let next = at + 1;
+    let high = v / 256;
+    m[at] = (v % 256) as u8;
+    m[next] = (high % 256) as u8;
+}
+
+fn lay32(m: &mut [u8], at: usize, v: u64)
+    requires { ⌜ at + 4 ≤ length (now m) ⌝ }
+    ensures { λ r. ⌜ now (m .exit) ≡ put 4 (now (m .entry)) at v ⌝ }
+{
+    lay16(m, at, v);
+    lay16(m, at + 2, v / 65536);
+}
+
+fn lay64(m: &mut [u8], at: usize, v: u64)
+    requires { ⌜ at + 8 ≤ length (now m) ⌝ }
+    ensures { λ r. ⌜ now (m .exit) ≡ put 8 (now (m .entry)) at v ⌝ }
+{
+    lay32(m, at, v);
+    lay32(m, at + 4, v / 4294967296);
+}
+
+// The lowest `n` bytes of `v`, stored at `at`, the lowest byte first: where there is room for all, with one test.
+fn store(m: &mut [u8], at: usize, n: usize, v: u64)
+    ensures { λ r. ⌜ now (m .exit) ≡ put n (now (m .entry)) at v ⌝ }
+{
+    if m.len() < n {
+        store_each(m, at, n, v);
+        return;
+    }
+    if m.len() - n < at {
+        store_each(m, at, n, v);
+        return;
+    }
+    match n {
+        2 => lay16(m, at, v),
+        4 => lay32(m, at, v),
+        8 => lay64(m, at, v),
+        _ => store_each(m, at, n, v),
     }
 }
 

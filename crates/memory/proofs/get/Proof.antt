@@ -1,68 +1,61 @@
--- The loop reads from the top byte down; its sum is `le` of the bytes passed.
-use mathlib.Core.Path.{_≡_, _∙_}
-use Prim.Native.Nat.{_+_, _-_, _≤_}
-use native.Mathlib.Omega.{arith}
-use native.Mathlib.Nat.{add-zero, sub-zero}
-use Rattle.memory.specs.Bytes.{le}
-use Rattle.memory.proofs.Laws.{le-none, le-more, le-fits}
+-- Where all bytes are there the whole number is read; else byte by byte.
+use borrow.Author.Needs.{needs}
 use Rattle.memory.proofs.get.Statement.{statement}
 use Rattle.memory.proofs.get.Tie as tie
 
-abbrev Inv-loop : tie.InvT-loop
-Inv-loop m at n acc₀ i₀ acc i = (i ≤ n) × (acc ≡ le (n - i) m (at + i))
+get-each-requires : tie.Need-get-each-requires
+get-each-requires c κs = search needs
 
-abbrev μ-loop : tie.MeasureT-loop
-μ-loop m at n acc₀ i₀ acc i = i
+returns : tie.Need-returns
+returns c = search needs
 
-loop-holds : tie.Need-loop-holds Inv-loop μ-loop
-loop-holds c = (omega arith, rw (le-none (c .before .args .n - c .before .args .n) _ _ (omega arith)))
+sub-if2 : tie.Need-sub-if2
+sub-if2 c = search needs
 
-sub-i : tie.Need-sub-i Inv-loop μ-loop
-sub-i c = omega arith
+get-each-requires-2 : tie.Need-get-each-requires-2
+get-each-requires-2 c κs = search needs
 
-byte-behind-requires : tie.Need-byte-behind-requires Inv-loop μ-loop
-byte-behind-requires c κs = omega arith
+returns-2 : tie.Need-returns-2
+returns-2 c = search needs
 
-mul-acc : tie.Need-mul-acc Inv-loop μ-loop
-mul-acc c =
-    let l = c .before .before .loop in
-    let a = c .before .before .before .before .args in
-    omega (arith, le-fits (a .n - l .i) 7 (a .m .now) (a .at + l .i) (λ k. c .before .before .before .shared-slice-known .given k .fits) (omega arith))
+whole16-requires : tie.Need-whole16-requires
+whole16-requires c κs = search needs
 
-add-acc : tie.Need-add-acc Inv-loop μ-loop
-add-acc c =
-    let l = c .before .before .loop in
-    let a = c .before .before .before .before .args in
-    omega (arith, le-fits (a .n - l .i) 7 (a .m .now) (a .at + l .i) (λ k. c .before .before .before .shared-slice-known .given k .fits) (omega arith))
+whole32-requires : tie.Need-whole32-requires
+whole32-requires c κs = search needs
 
-loop-less : tie.Need-loop-less Inv-loop μ-loop
-loop-less c = omega arith
+whole64-requires : tie.Need-whole64-requires
+whole64-requires c κs = search needs
 
-loop-again : tie.Need-loop-again Inv-loop μ-loop
-loop-again c =
-    let l = c .before .before .loop in
-    let a = c .before .before .before .before .args in
-    let e : a .at + (l .i - 1) + 1 ≡ a .at + l .i = omega arith in
-    (omega arith, rw (le-more (a .n - (l .i - 1)) (a .n - l .i) _ _ (omega arith), e, l .inv .1, c .byte-behind .ensures .0))
+get-each-requires-3 : tie.Need-get-each-requires-3
+get-each-requires-3 c κs = search needs
 
-returns : tie.Need-returns Inv-loop μ-loop
-returns c =
-    let z : c .before .loop .i ≡ 0 = omega arith in
-    let a = c .before .before .before .args in
-    let e : c .before .loop .acc ≡ le (a .n) (a .m .now) (a .at) = c .before .loop .inv .1 ∙ rw (z, sub-zero, add-zero) in
-    (e, rw e (le-fits (a .n) (a .n) (a .m .now) (a .at) (λ k. c .before .before .shared-slice-known .given k .fits) (omega arith)))
+returns-3 : tie.Need-returns-3
+returns-3 c = rw (c .before .match .keys1) (c .whole16 .ensures)
+
+returns-4 : tie.Need-returns-4
+returns-4 c = rw (c .before .match .keys2) (c .whole32 .ensures)
+
+returns-5 : tie.Need-returns-5
+returns-5 c = rw (c .before .match .keys3) (c .whole64 .ensures)
+
+returns-6 : tie.Need-returns-6
+returns-6 c = search needs
 
 pub get-spec : {M : Type 1} → statement M
 get-spec =
     tie.close
     (tie.spec
-    Inv-loop
-    μ-loop
-    loop-holds
-    sub-i
-    byte-behind-requires
-    mul-acc
-    add-acc
-    loop-less
-    loop-again
-    returns)
+    get-each-requires
+    returns
+    sub-if2
+    get-each-requires-2
+    returns-2
+    whole16-requires
+    whole32-requires
+    whole64-requires
+    get-each-requires-3
+    returns-3
+    returns-4
+    returns-5
+    returns-6)

@@ -1,68 +1,85 @@
--- The loop's locals are `put`'s arguments; past the end the rest of `put` changes nothing.
-use mathlib.Core.Path.{_≡_, _∙_, sym, refl}
-use Prim.Native.Nat.{_-_}
-use native.Mathlib.Omega.{arith}
-use lib.ListN.{length, length-set}
-use Rattle.memory.specs.Bytes.{put}
-use Rattle.memory.proofs.Laws.{put-none, put-more, put-past}
+-- Where there is room for all bytes the whole number is laid; else byte by byte.
+use borrow.Author.Needs.{needs}
 use Rattle.memory.proofs.store.Statement.{statement}
 use Rattle.memory.proofs.store.Tie as tie
 
-abbrev Inv-loop : tie.InvT-loop
-Inv-loop m₀ at n v a₀ left₀ x₀ m a left x = (length m ≡ length m₀) × (put left m a x ≡ put n m₀ at v)
+store-each-requires : tie.Need-store-each-requires
+store-each-requires c κs = search needs
 
-abbrev μ-loop : tie.MeasureT-loop
-μ-loop m₀ at n v a₀ left₀ x₀ m a left x = left
+same-length : tie.Need-same-length
+same-length c = search needs
 
-loop-holds : tie.Need-loop-holds Inv-loop μ-loop
-loop-holds c = (refl, refl)
+returns : tie.Need-returns
+returns c = search needs
 
-same-length : tie.Need-same-length Inv-loop μ-loop
-same-length c = omega arith
+sub-if2 : tie.Need-sub-if2
+sub-if2 c = search needs
 
-returns : tie.Need-returns Inv-loop μ-loop
-returns c = let l = c .before .before .loop in sym (put-past (l .left) _ (l .a) _ (omega arith)) ∙ l .inv .1
+store-each-requires-2 : tie.Need-store-each-requires-2
+store-each-requires-2 c κs = search needs
 
-cast-m : tie.Need-cast-m Inv-loop μ-loop
-cast-m c = omega arith
+same-length-2 : tie.Need-same-length-2
+same-length-2 c = search needs
 
-slice-write-m : tie.Need-slice-write-m Inv-loop μ-loop
-slice-write-m c = omega arith
+returns-2 : tie.Need-returns-2
+returns-2 c = search needs
 
-add-a : tie.Need-add-a Inv-loop μ-loop
-add-a c = omega arith
+lay16-requires : tie.Need-lay16-requires
+lay16-requires c κs = search needs
 
-sub-left : tie.Need-sub-left Inv-loop μ-loop
-sub-left c = omega arith
+lay32-requires : tie.Need-lay32-requires
+lay32-requires c κs = search needs
 
-loop-less : tie.Need-loop-less Inv-loop μ-loop
-loop-less c = omega arith
+lay64-requires : tie.Need-lay64-requires
+lay64-requires c κs = search needs
 
-loop-again : tie.Need-loop-again Inv-loop μ-loop
-loop-again c =
-    let l = c .before .before .loop in
-    (simp length-set (omega arith), rw (← (put-more (l .left) (l .left - 1) _ _ _ (omega arith))) (l .inv .1))
+store-each-requires-3 : tie.Need-store-each-requires-3
+store-each-requires-3 c κs = search needs
 
-same-length-2 : tie.Need-same-length-2 Inv-loop μ-loop
-same-length-2 c = omega arith
+same-length-3 : tie.Need-same-length-3
+same-length-3 c = search needs
 
-returns-2 : tie.Need-returns-2 Inv-loop μ-loop
-returns-2 c = let l = c .before .loop in sym (put-none (l .left) _ _ _ (omega arith)) ∙ l .inv .1
+returns-3 : tie.Need-returns-3
+returns-3 c = rw (c .before .before .before .before .match .keys1) (c .before .before .lay16 .ensures)
+
+same-length-4 : tie.Need-same-length-4
+same-length-4 c = search needs
+
+returns-4 : tie.Need-returns-4
+returns-4 c = rw (c .before .before .before .before .match .keys2) (c .before .before .lay32 .ensures)
+
+same-length-5 : tie.Need-same-length-5
+same-length-5 c = search needs
+
+returns-5 : tie.Need-returns-5
+returns-5 c = rw (c .before .before .before .before .match .keys3) (c .before .before .lay64 .ensures)
+
+same-length-6 : tie.Need-same-length-6
+same-length-6 c = search needs
+
+returns-6 : tie.Need-returns-6
+returns-6 c = search needs
 
 pub store-spec : {M : Type 1} → statement M
 store-spec =
     tie.close
     (tie.spec
-    Inv-loop
-    μ-loop
-    loop-holds
+    store-each-requires
     same-length
     returns
-    cast-m
-    slice-write-m
-    add-a
-    sub-left
-    loop-less
-    loop-again
+    sub-if2
+    store-each-requires-2
     same-length-2
-    returns-2)
+    returns-2
+    lay16-requires
+    lay32-requires
+    lay64-requires
+    store-each-requires-3
+    same-length-3
+    returns-3
+    same-length-4
+    returns-4
+    same-length-5
+    returns-5
+    same-length-6
+    returns-6)
