@@ -1,0 +1,2 @@
+-- Laws of the boundary to C.
+pub mod Sizes
