@@ -1,0 +1,220 @@
+/*
+ * Wekshurag: a virtio sound card (legacy virtio-pci, split rings) for a monitor, which lends it the guest's memory and its own
+ * sound buffers.
+ *
+ * Link with libwekshurag.a (`rt staticlib wekshurag`; x86-64 Linux, no flags, nothing else). c/monitor.c is a monitor to copy from;
+ * docs/GUESTS.md says what the card asks of guests and of monitors.
+ *
+ * What the card does in a call is proved to be what its rules say, whatever the guest wrote: no guest memory, register access or
+ * description makes it read or write anything but what it is lent, trap, or run on. A call allocates nothing, keeps no pointer, makes
+ * no system call and has no state beside the card, so calls on different cards may run at the same time.
+ *
+ * What every call asks of its caller:
+ *   - Pointers are not null and are valid for what they point to: a card, a description, or as many bytes as the length behind them.
+ *     A length of 0 may have any such pointer, a length is at most PTRDIFF_MAX.
+ *   - What is lent to one call does not overlap: neither card and memory, nor card and host buffer, nor memory and host buffer.
+ *     Nobody else, no other thread and no device, writes it during the call.
+ *   - The card is one that wekshurag_power_up made, left by the calls since, or a copy of one. Calls on one card do not run at the
+ *     same time.
+ *   - 64 KiB of stack. Measured: wekshurag_control takes 52,408 bytes, play and capture 18,200, event 10,616, write 6,059, the others
+ *     under 1,024. Nothing recurses, and no bytes that the guest wrote make it more; but this is measured, not proved.
+ * Nothing else is asked: every number and every byte is safe.
+ */
+#ifndef WEKSHURAG_H
+#define WEKSHURAG_H
+
+#include <stdbool.h>
+#include <stddef.h>
+#include <stdint.h>
+
+#ifdef __cplusplus
+#define WEKSHURAG_ASSERT(what, text) static_assert(what, text)
+extern "C" {
+#else
+#define WEKSHURAG_ASSERT(what, text) _Static_assert(what, text)
+#endif
+
+/*
+ * The answers. Of several refusals that apply the first is answered, in the order that the call says. On a refusal (1 to 8, and 10) the
+ * count is 0 and, save where the call says more, card, memory and host buffer are as they were.
+ */
+enum wekshurag_answer {
+    WEKSHURAG_DONE = 0,
+    WEKSHURAG_RAM_LENGTH = 1,        /* ram_len is not the one given at power-up */
+    WEKSHURAG_NO_SUCH_ACCESS = 2,    /* no register has this offset and width */
+    WEKSHURAG_WRONG_DIRECTION = 3,   /* the register can't be read, or written */
+    WEKSHURAG_VALUE_TOO_WIDE = 4,    /* the value does not fit the width */
+    WEKSHURAG_NOT_LIVE = 5,          /* the guest has not set DRIVER_OK and FEATURES_OK, or has to reset, or gave up */
+    WEKSHURAG_NOT_RUNNING = 6,       /* the stream is absent, or not Running */
+    WEKSHURAG_EVENT_NOT_ALLOWED = 7, /* no such kind of event, jack or stream, or an XRUN that was not selected */
+    WEKSHURAG_NO_EVENT_BUFFER = 8,   /* the guest has put no buffer for it; send it again later */
+    WEKSHURAG_QUEUE_BROKEN = 9,      /* the guest's ring makes no sense; what was done before stands and is counted */
+    WEKSHURAG_BAD_DESCRIPTION = 10
+};
+
+/* The queues, by the numbers that wekshurag_write tells. */
+enum wekshurag_queue {
+    WEKSHURAG_CONTROL_QUEUE = 0,
+    WEKSHURAG_EVENT_QUEUE = 1,
+    WEKSHURAG_PLAY_QUEUE = 2,
+    WEKSHURAG_CAPTURE_QUEUE = 3,
+    WEKSHURAG_NO_QUEUE = 255
+};
+
+/*
+ * A card. The monitor owns it: a static, on the stack or on the heap. Its words mean nothing to the monitor; it may be copied as a
+ * whole, and a copy is a card of its own.
+ */
+struct wekshurag_card {
+    uint64_t words[331];
+};
+WEKSHURAG_ASSERT(sizeof(struct wekshurag_card) == 2648, "the card's size");
+
+/* ---- what a card is made of ------------------------------------------------------------------------------------------------ */
+
+/* The numbers have the meaning of struct virtio_snd_jack_info, _chmap_info and _pcm_info; nid is hda_fn_nid. */
+struct wekshurag_jack {
+    uint32_t nid;
+    uint32_t features; /* 0, or 1: JACK_REMAP is allowed */
+    uint32_t defconf;
+    uint32_t caps;
+    uint8_t connected; /* 0 or 1 */
+};
+
+struct wekshurag_chmap {
+    uint32_t nid;
+    uint8_t direction;     /* 0 output, 1 input */
+    uint8_t channels;      /* 1 to 18 */
+    uint8_t positions[18]; /* 0 to 36; zeros behind the last channel */
+};
+
+struct wekshurag_stream {
+    uint32_t nid;
+    uint32_t features;    /* 0, or 16: XRUN events may be selected */
+    uint64_t formats;     /* a bit for each VIRTIO_SND_PCM_FMT_, 0 to 24; not 0 */
+    uint64_t rates;       /* a bit for each VIRTIO_SND_PCM_RATE_, 0 to 13; not 0 */
+    uint8_t channels_min; /* 1 to channels_max */
+    uint8_t channels_max; /* at most 18 */
+};
+
+/*
+ * The first so many of each list; what stands behind them is not looked at. The output stream comes first in `streams` (stream 0),
+ * an input stream behind it (stream 1).
+ */
+struct wekshurag_description {
+    uint32_t jack_count;   /* 0 to 4 */
+    uint32_t chmap_count;  /* 0 to 4 */
+    uint32_t output_count; /* 1 */
+    uint32_t input_count;  /* 0 or 1 */
+    struct wekshurag_jack jacks[4];
+    struct wekshurag_chmap chmaps[4];
+    struct wekshurag_stream streams[2];
+};
+WEKSHURAG_ASSERT(sizeof(struct wekshurag_description) == 256, "the description's size");
+
+/*
+ * Makes *card a card with these parts, as at power-up: reset, not live. `ram_len` is the length of the guest's memory, address 0
+ * first; each call that is lent memory is lent so much. *card may hold anything before; *description is only read.
+ *
+ * Answers WEKSHURAG_DONE, or WEKSHURAG_BAD_DESCRIPTION where a count or a number is not as above; *card is then a card with no part and
+ * no memory, which may be used and refuses what it is asked.
+ */
+uint8_t wekshurag_power_up(struct wekshurag_card *card, const struct wekshurag_description *description, size_t ram_len);
+
+/* ---- the guest's accesses to the registers ---------------------------------------------------------------------------------- */
+
+struct wekshurag_read_result {
+    uint8_t answer;
+    uint32_t value; /* 0 unless the answer is WEKSHURAG_DONE */
+};
+WEKSHURAG_ASSERT(sizeof(struct wekshurag_read_result) == 8, "what a read answers");
+
+/*
+ * The guest reads `width` bytes (1, 2 or 4) at `offset` of the card's I/O space: HOST_FEATURES 0 (4 bytes), QUEUE_PFN 8 (4), QUEUE_NUM 12
+ * (2), QUEUE_SEL 14 (2), STATUS 18 (1), ISR 19 (1), the configuration from 20 to 255 (1, 2, 4). Reading ISR clears it.
+ *
+ * Answers WEKSHURAG_DONE and the value; or WEKSHURAG_NO_SUCH_ACCESS, WEKSHURAG_WRONG_DIRECTION. What to hand to the guest then is the
+ * monitor's choice; a bus with nothing on it reads as all ones.
+ */
+struct wekshurag_read_result wekshurag_read(struct wekshurag_card *card, uint64_t offset, uint64_t width);
+
+struct wekshurag_write_result {
+    uint8_t answer;
+    uint8_t rung; /* the queue that the guest rang, an enum wekshurag_queue; WEKSHURAG_NO_QUEUE if none */
+};
+WEKSHURAG_ASSERT(sizeof(struct wekshurag_write_result) == 2, "what a write answers");
+
+/*
+ * The guest writes `value`, `width` bytes wide, at `offset`: GUEST_FEATURES 4 (4 bytes), QUEUE_PFN 8 (4), QUEUE_SEL 14 (2), QUEUE_NOTIFY
+ * 16 (2), STATUS 18 (1). A write that the card drops is done.
+ *
+ * Answers WEKSHURAG_DONE and the queue rung; or WEKSHURAG_NO_SUCH_ACCESS, WEKSHURAG_WRONG_DIRECTION, WEKSHURAG_VALUE_TOO_WIDE.
+ */
+struct wekshurag_write_result wekshurag_write(struct wekshurag_card *card, uint64_t offset, uint64_t width, uint64_t value);
+
+/*
+ * Whether the interrupt line is raised. It is a level: look after every other call, reads included, and set the guest's line to it.
+ */
+bool wekshurag_interrupt_line(const struct wekshurag_card *card);
+
+/* ---- the calls on the queues ------------------------------------------------------------------------------------------------ */
+
+struct wekshurag_result {
+    uint8_t answer;
+    size_t count; /* control messages completed, or bytes; 0 for an event */
+};
+WEKSHURAG_ASSERT(sizeof(struct wekshurag_result) == 16, "what a call answers");
+
+/*
+ * Of all four calls:
+ *   - `ram` is the guest's memory. The card reads the queue there and writes replies, recorded bytes and the used ring, nothing else.
+ *   - With WEKSHURAG_QUEUE_BROKEN, NEEDS_RESET and bit 1 of ISR are set: the card is not live until the guest resets it. What the call had
+ *     written and handed on before stands, and bytes are counted.
+ *   - On a queue that the guest has not placed, the answer is WEKSHURAG_DONE and the count 0 (an event: WEKSHURAG_NO_EVENT_BUFFER).
+ */
+
+/*
+ * Works one message of the control queue. Call it when that queue is rung, again while it counts 1.
+ *
+ * Answers WEKSHURAG_DONE and 1, or 0 where no message was there; or WEKSHURAG_RAM_LENGTH, WEKSHURAG_NOT_LIVE, WEKSHURAG_QUEUE_BROKEN
+ * (a RELEASE looks at its stream's queue too).
+ */
+struct wekshurag_result wekshurag_control(struct wekshurag_card *card, uint8_t *ram, size_t ram_len);
+
+/*
+ * Hands sound that the guest plays to the host: up to host_len bytes, as many as the guest has put, in order. Call it on the host's own
+ * clock. A message that does not fit goes on in the next call; it is completed in the call that hands over its last byte.
+ *
+ * Answers WEKSHURAG_DONE and the bytes handed over, which are the first of `host`; those behind them are as they were (fill them with
+ * silence first). Or WEKSHURAG_RAM_LENGTH, WEKSHURAG_NOT_LIVE, WEKSHURAG_NOT_RUNNING, WEKSHURAG_QUEUE_BROKEN.
+ */
+struct wekshurag_result wekshurag_play(struct wekshurag_card *card, uint8_t *ram, size_t ram_len, uint8_t *host, size_t host_len);
+
+/*
+ * Records the host_len bytes at `host` into what the guest has put for them. `host` is only read.
+ *
+ * Answers WEKSHURAG_DONE and how many of the bytes, from the first on, were recorded; the rest had no place, and are the monitor's to keep
+ * or to lose. Refusals as for wekshurag_play.
+ */
+struct wekshurag_result wekshurag_capture(struct wekshurag_card *card, uint8_t *ram, size_t ram_len, const uint8_t *host,
+                                          size_t host_len);
+
+/* The events: `data` is the jack's number, or the stream's. */
+#define WEKSHURAG_JACK_CONNECTED UINT32_C(0x1000)
+#define WEKSHURAG_JACK_DISCONNECTED UINT32_C(0x1001)
+#define WEKSHURAG_PCM_XRUN UINT32_C(0x1101)
+
+/*
+ * Tells the guest of an event. A jack's state is recorded with the answers WEKSHURAG_DONE, WEKSHURAG_NO_EVENT_BUFFER and
+ * WEKSHURAG_QUEUE_BROKEN.
+ *
+ * Answers WEKSHURAG_DONE; or WEKSHURAG_RAM_LENGTH, WEKSHURAG_NOT_LIVE, WEKSHURAG_EVENT_NOT_ALLOWED, then WEKSHURAG_NO_EVENT_BUFFER or
+ * WEKSHURAG_QUEUE_BROKEN, whichever the queue comes to first. Buffers that are of no use are handed back to the guest on the way.
+ */
+struct wekshurag_result wekshurag_event(struct wekshurag_card *card, uint8_t *ram, size_t ram_len, uint32_t code, uint32_t data);
+
+#ifdef __cplusplus
+}
+#endif
+
+#endif
