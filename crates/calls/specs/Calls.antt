@@ -4,6 +4,7 @@ use mathlib.Core.Bool.{Bool, true, false, cond}
 use mathlib.Core.List.{List, []}
 use Prim.Native.Nat.{ℕ}
 use lib.ListN.{take}
+use Rattle.registers.specs.declared.answers.Answer.{Answer}
 use Rattle.card.specs.Fit.{Fit}
 use Rattle.card.specs.declared.Card.{Card}
 use Rattle.meaning.specs.Card.{deviceOf}
@@ -53,7 +54,7 @@ abbrev pub hostOf : Request → List ℕ → List ℕ → List ℕ
 hostOf q before after = cond (isPlay q) after before
 
 -- the outcome of a call on a queue: no value, nothing rung
-abbrev pub queueOutcome : ℕ → ℕ → Card → Outcome
+abbrev pub queueOutcome : Answer → ℕ → Card → Outcome
 queueOutcome answer count c = record { answer = answer; value = 0; rung = rules.nothingRung; count = count; card = c }
 
 -- what is promised of one call: all that is told (answer, value, queue rung, count, bytes, host buffer, memory) and the card after it

@@ -44,7 +44,7 @@ pub record Accounted (b : Device History) (k : Call) (t : Told) (n : Card) : Typ
   pub play-drains :
       (host : List ℕ)
       → k .asked ≡ Play host
-      → t .answer ≡ done
+      → t .answer .number ≡ done
       → t .count < length host
       → (pageOf (b .rest) playQueue .0 ≡ 0 → ⊥)
       → (deviceOf n .play .work ≡ none) × (deviceOf n .play .taken ≡ indexOf (k .lent) (pageOf (b .rest) playQueue) 256 % 65536)
@@ -52,7 +52,7 @@ pub record Accounted (b : Device History) (k : Call) (t : Told) (n : Card) : Typ
       (p : Pending)
       → k .asked ≡ Control
       → orderOf (b .rest) (k .lent) ≡ ReleaseFirst 0 p
-      → t .answer ≡ done
+      → t .answer .number ≡ done
       → (pageOf (p .rest) playQueue .0 ≡ 0 → ⊥)
       → (deviceOf n .play .work ≡ none) × (deviceOf n .play .taken ≡ indexOf (k .lent) (pageOf (p .rest) playQueue) 256 % 65536)
 

@@ -4,6 +4,7 @@ ghost use mathlib.Core.Path.{_≡_};
 ghost use Rattle.card.specs.Fit.{Fit};
 ghost use Rattle.calls.specs.Calls.{callOf, toldOf, hostOf, queueOutcome, Does};
 use card::Card;
+use registers::Answer;
 
 // What is asked: a read at an offset, of a width; a write of a value; an event of a code and its data.
 pub enum Request {
@@ -18,7 +19,7 @@ pub enum Request {
 // What was told: the value of a read, the queue rung by a write, the count of a control call or of a
 // transfer.
 pub struct Outcome {
-    pub answer: u8,
+    pub answer: Answer,
     pub value: u32,
     pub rung: u8,
     pub count: usize,
@@ -37,7 +38,7 @@ pub fn call(card: Card, m: &mut [u8], host: &mut [u8], request: Request) -> Outc
             let read = card::read_register(card, offset, width);
             let after = read.card;
             Outcome {
-                answer: read.answer,
+                answer: registers::plain(read.answer),
                 value: read.value,
                 rung: card::NO_QUEUE,
                 count: 0,
@@ -48,7 +49,7 @@ pub fn call(card: Card, m: &mut [u8], host: &mut [u8], request: Request) -> Outc
             let written = card::write_register(card, offset, width, value);
             let after = written.card;
             Outcome {
-                answer: written.answer,
+                answer: registers::plain(written.answer),
                 value: 0,
                 rung: written.rung,
                 count: 0,
@@ -75,7 +76,7 @@ pub fn call(card: Card, m: &mut [u8], host: &mut [u8], request: Request) -> Outc
 }
 
 // The outcome of a call on a queue.
-fn queue_outcome(answer: u8, count: usize, card: Card) -> Outcome
+fn queue_outcome(answer: Answer, count: usize, card: Card) -> Outcome
     ensures { λ r. ⌜ r ≡ queueOutcome answer count card ⌝ }
 {
     Outcome {

@@ -14,7 +14,7 @@ use Rattle.memory.specs.Bytes.{put}
 use Rattle.ranges.specs.Ranges.{places, putAt, bytesAt, total, allInside}
 use Rattle.ranges.specs.declared.Range.{Range}
 use Rattle.ranges.proofs.Laws.{putAt-nil}
-use Rattle.registers.specs.Answers.{lengthDiffers, notLive}
+use Rattle.registers.specs.Answers.{done, lengthDiffers, notLive, plain}
 use Rattle.registers.specs.Fit.{FitRegisters}
 use Rattle.registers.specs.Map.{sizeOf}
 use Rattle.registers.specs.Rules.{live, hasBit}
@@ -25,6 +25,7 @@ use Rattle.ring.specs.declared.Cause.{Cause}
 use Rattle.ring.specs.declared.Check.{Check}
 use Rattle.ring.specs.declared.Head.{Head}
 use Rattle.ring.specs.declared.Posted.{Posted}
+use Rattle.ring.specs.declared.Stop.{Stop}
 use Rattle.card.specs.Card.{noCounters, noStream, releasedState}
 use Rattle.card.specs.Fit.{Fit}
 use Rattle.card.specs.declared.Card.{Card}
@@ -36,7 +37,7 @@ use Rattle.rules.specs.Calls.{Result, Order, Pending, Step, ended, virtqueueOf,
 use Rattle.rules.specs.Control as rules
 use Rattle.rules.specs.Control.{status, withState}
 use Rattle.rules.specs.Counters.{countersOf}
-use Rattle.rules.specs.Device.{Device, Queue, Rest, Direction, output, input, directionOf, queueFor, withQueue, bytesOf, withRegisters, withControl, pageOf, signalledIf, oneTaken}
+use Rattle.rules.specs.Device.{Device, Queue, Rest, Direction, output, input, queueNumber, directionOf, queueFor, withQueue, bytesOf, withRegisters, withControl, pageOf, signalledIf, oneTaken}
 use Rattle.rules.specs.Numbers.{controlQueue, sOk, sBadMsg}
 use Rattle.control.specs.Control.{withParts}
 use Rattle.commands.specs.Commands.{withStreamAt}
@@ -47,7 +48,7 @@ use Rattle.stream.specs.declared.Emptied.{Emptied}
 use Rattle.stream.proofs.Fits.{signal-fit}
 use Rattle.stream.proofs.Released.{released-ordered}
 use Rattle.controlq.specs.declared.Side.the-variants.{Usable, Unusable}
-use Rattle.controlq.specs.Control.{sideOf, servedChain, pendingOf, endsOn, says, holding, takenCard, countedOf, idleOf, brokenOf, markedOf, walkedAt, headOf}
+use Rattle.controlq.specs.Control.{sideOf, servedChain, pendingOf, endsOn, says, holding, takenCard, countedOf, untouchedBy, brokenDown, markedOf, walkedAt, headOf}
 
 -- ---- bytes
 
@@ -84,7 +85,7 @@ resultOn c k =
       rest =
           withRegisters (signalledIf (k .interrupt) (c .registers))
           (withControl (record { taken = countersAt c controlQueue .taken; completed = k .completed }) (restOf c));
-      answer = 0;
+      answer = plain done;
       count = 1;
       mem = k .memory;
     }
@@ -125,9 +126,10 @@ module _ (c : Card) (f : Fit c) where
   counted-fit p = held-fit _ _ (signal-fit (p .interrupt) (c .registers) (f .registers))
 
   -- a breakdown
-  pub broken-says : (m : List ℕ) → ordered countersOf (Done (broke (restOf c) m)) (deviceOf c) m ≡ says (brokenOf c) m
+  pub broken-says : (cause : Cause) (m : List ℕ)
+      → ordered countersOf (Done (broke controlQueue cause (restOf c) m)) (deviceOf c) m ≡ says (brokenDown controlQueue cause c) m
   unfolding restOf deviceOf
-  broken-says m = refl
+  broken-says cause m = refl
 
 -- ---- a stream Released
 
@@ -154,19 +156,21 @@ module _ (c : Card) (head : DescriptorNumber) (reply : List Range) (id : ℕ) (s
   abbrev pub signalledCard : Card
   signalledCard = stream.withRegisters (signalledIf signal (c .registers)) c
 
-  pub end-broken : endsOn c (releasedOf id (pendingOf c head reply) m false signal) ≡ says (brokenOf signalledCard) m
+  pub end-broken : (cause : Cause)
+      → endsOn c (releasedOf id (pendingOf c head reply) m (Stop.Broke cause) signal)
+      ≡ says (brokenDown (queueNumber (directionOf id)) cause signalledCard) m
   unfolding releasedOf restOf deviceOf
-  end-broken = refl
+  end-broken cause = refl
 
   pub end-replied : (n : Card) → deviceOf n ≡ markedOf id (deviceOf signalledCard)
-      → endsOn c (releasedOf id (pendingOf c head reply) m true signal) ≡ endsOn n (replied (pendingOf n head reply) (status sOk) m)
+      → endsOn c (releasedOf id (pendingOf c head reply) m Stop.Going signal) ≡ endsOn n (replied (pendingOf n head reply) (status sOk) m)
   unfolding releasedOf restOf deviceOf
   end-replied n e = ap (λ (b : Device Queue). ended (replied (record { rest = b .rest; head = head .0; reply = reply }) (status sOk) m) b) (sym e)
 
 -- the rules' Release of the output, and of any other stream
 module _ (c : Card) (head : DescriptorNumber) (reply : List Range) (id : ℕ) (m m′ : List ℕ) (r : Emptied) where
   abbrev pub toEnd : Step (Device Queue)
-  toEnd = endsOn (r .card) (releasedOf id (pendingOf (r .card) head reply) m′ (r .sound) (r .signal))
+  toEnd = endsOn (r .card) (releasedOf id (pendingOf (r .card) head reply) m′ (r .stop) (r .signal))
 
   pub release-output : id ≡ 0 → Empties output c m m′ r → ordered countersOf (ReleaseFirst id (pendingOf c head reply)) (deviceOf c) m ≡ toEnd
   release-output n e = released-ordered c m m′ r id (pendingOf c head reply) refl output (rw (eq-eqb id 0 n)) e
@@ -233,7 +237,7 @@ module _ (b b′ : Device Queue) (e : SameQueues b b′) where
 
   release-same : (id : ℕ) (p : Pending) (x : calls.Emptied Queue) → releaseStep id p b x ≡ releaseStep id p b′ x
   unfolding releaseStep
-  release-same id p x = rw (with-same (directionOf id) (releasedOf id p (x .mem) (x .sound) (x .signal) .rest) (x .queue))
+  release-same id p x = rw (with-same (directionOf id) (releasedOf id p (x .mem) (x .stop) (x .signal) .rest) (x .queue))
 
   ordered-same : (o : Order) (m : List ℕ) → ordered countersOf o b m ≡ ordered countersOf o b′ m
   ordered-same (Done o) m = rw (e .play, e .capture)
@@ -255,8 +259,9 @@ module _ (c : Card) (f : Fit c) (m : List ℕ) where
   abbrev pub nextHead : Head
   nextHead = ring.headOf m (pageIn c) (sizeOf controlQueue) (countersAt c controlQueue .taken)
 
-  pub next-broken : (cause : Cause) → nextHead ≡ Head.Broken cause → ordered countersOf (headOf c m) (deviceOf c) m ≡ says (brokenOf c) m
-  next-broken cause h = rw (page-in c, h) (broken-says c f m)
+  pub next-broken : (cause : Cause) → nextHead ≡ Head.Broken cause
+      → ordered countersOf (headOf c m) (deviceOf c) m ≡ says (brokenDown controlQueue cause c) m
+  next-broken cause h = rw (page-in c, h) (broken-says c f cause m)
 
   pub next-at : (n : DescriptorNumber) → nextHead ≡ Head.At n
       → ordered countersOf (headOf c m) (deviceOf c) m
@@ -282,25 +287,25 @@ module _ (c : Card) (m : List ℕ) where
   unfolding orderOf restOf deviceOf
   control-by = refl
 
-  pub control-long : eqb (length m) (c .«ram_len») ≡ false → stepOf c Control m ≡ leaves c lengthDiffers 0 [] [] m
+  pub control-long : eqb (length m) (c .«ram_len») ≡ false → stepOf c Control m ≡ leaves c (plain lengthDiffers) 0 [] [] m
   unfolding deviceOf
   control-long h = rw (control-by, h)
 
   module _ (long : eqb (length m) (c .«ram_len») ≡ true) where
-    pub control-dead : live (c .registers) ≡ false → stepOf c Control m ≡ leaves c notLive 0 [] [] m
+    pub control-dead : live (c .registers) ≡ false → stepOf c Control m ≡ leaves c (plain notLive) 0 [] [] m
     unfolding deviceOf
     control-dead h = rw (control-by, long, h)
 
     module _ (lives : live (c .registers) ≡ true) where
-      pub control-idle : checkIn ≡ Check.Idle → stepOf c Control m ≡ says (idleOf c) m
+      pub control-idle : checkIn ≡ Check.Idle → stepOf c Control m ≡ says (untouchedBy done c) m
       unfolding deviceOf
       control-idle h = rw (control-by, long, lives, h)
 
-      pub control-none : (n : ℕ) → checkIn ≡ Check.New n → n ≡ 0 → stepOf c Control m ≡ says (idleOf c) m
+      pub control-none : (n : ℕ) → checkIn ≡ Check.New n → n ≡ 0 → stepOf c Control m ≡ says (untouchedBy done c) m
       unfolding deviceOf
       control-none n h z = rw (control-by, long, lives, h, z)
 
-      pub control-broken : (cause : Cause) → checkIn ≡ Check.Broken cause → stepOf c Control m ≡ says (brokenOf c) m
+      pub control-broken : (cause : Cause) → checkIn ≡ Check.Broken cause → stepOf c Control m ≡ says (brokenDown controlQueue cause c) m
       unfolding restOf deviceOf
       control-broken cause h = rw (control-by, long, lives, h)
 

@@ -8,17 +8,19 @@ use Rattle.chain.specs.Walk.{whole, walkOf}
 use Rattle.counts.specs.declared.DescriptorNumber.{DescriptorNumber}
 use Rattle.ranges.specs.Ranges.{total, allInside}
 use Rattle.ranges.specs.declared.Range.{Range}
-use Rattle.registers.specs.Answers.{done, queueBroken}
+use Rattle.registers.specs.Answers.{done, plain}
 use Rattle.registers.specs.Map.{sizeOf}
 use Rattle.registers.specs.Rules.{broken}
 use Rattle.registers.specs.declared.Registers.{Registers}
 use Rattle.ring.specs.Rules.{baseOf}
 use Rattle.ring.specs.Rules as ring
+use Rattle.ring.specs.declared.Cause.{Cause}
 use Rattle.ring.specs.declared.Posted.{Posted}
 use Rattle.card.specs.Card.{releasedState}
 use Rattle.card.specs.declared.Card.{Card}
 use Rattle.card.specs.declared.Counters.{Counters}
 use Rattle.meaning.specs.Card.{countersAt, restOf, deviceOf, leaves}
+use Rattle.rules.specs.Answers.{brokenAnswer}
 use Rattle.rules.specs.Calls.{Result, Step, Pending, Order, ended, indirect, readMessage, controlHead}
 use Rattle.rules.specs.Control.{withState, withStream}
 use Rattle.rules.specs.Device.{Device, Queue, pageOf, streamAt, signalledIf, oneTaken}
@@ -81,18 +83,19 @@ takenCard c = holding (c .registers) (oneTaken (countersAt c controlQueue)) c
 abbrev pub countedOf : Card → Posted → ControlAnswer
 countedOf c p =
     record {
-      answer = done;
+      answer = plain done;
       count = 1;
       card =
           holding (signalledIf (p .interrupt) (c .registers))
           (record { taken = countersAt c controlQueue .taken; completed = p .completed }) c;
     }
 
-abbrev pub idleOf : Card → ControlAnswer
-idleOf c = record { answer = done; count = 0; card = c }
+-- nothing was done, or a queue is broken
+abbrev pub untouchedBy : ℕ → Card → ControlAnswer
+untouchedBy number c = record { answer = plain number; count = 0; card = c }
 
-abbrev pub brokenOf : Card → ControlAnswer
-brokenOf c = record { answer = queueBroken; count = 0; card = withRegisters (broken (c .registers)) c }
+abbrev pub brokenDown : ℕ → Cause → Card → ControlAnswer
+brokenDown queue cause c = record { answer = brokenAnswer queue cause; count = 0; card = withRegisters (broken (c .registers)) c }
 
 -- "the stream Released"
 abbrev pub markedOf : ℕ → Device Queue → Device Queue

@@ -11,10 +11,10 @@ ghost use Rattle.registers.specs.Map.{sizeOf};
 ghost use Rattle.rules.specs.Calls.{Request, ReleaseFirst, ordered, replied, releasedOf};
 ghost use Rattle.rules.specs.Control.{status};
 ghost use Rattle.rules.specs.Counters.{countersOf};
-ghost use Rattle.rules.specs.Device.{signalledIf};
+ghost use Rattle.rules.specs.Device.{queueNumber, directionOf, signalledIf};
 ghost use Rattle.rules.specs.Numbers.{controlQueue};
 ghost use Rattle.stream.specs.Queue.{withRegisters};
-ghost use Rattle.controlq.specs.Control.{pendingOf, endsOn, says, sideOf, takenCard, countedOf, brokenOf, idleOf, markedOf, servedChain, walkedAt, headOf};
+ghost use Rattle.controlq.specs.Control.{pendingOf, endsOn, says, sideOf, takenCard, countedOf, brokenDown, untouchedBy, markedOf, servedChain, walkedAt, headOf};
 use card::Card;
 use card::Counters;
 use chain::End;
@@ -22,7 +22,10 @@ use control::Kind;
 use counts::DescriptorNumber;
 use message::Direction;
 use ranges::Ranges;
+use registers::Answer;
+use ring::Cause;
 use ring::Posted;
+use ring::Stop;
 use stream::Emptied;
 
 // The number of the control queue.
@@ -31,7 +34,7 @@ const CONTROL_QUEUE: usize = 0;
 // What the call answers: the count is the messages completed.
 #[repr(C)]
 pub struct ControlAnswer {
-    pub answer: u8,
+    pub answer: Answer,
     pub count: usize,
     pub card: Card,
 }
@@ -62,26 +65,26 @@ fn judge(len: usize, ranges: Ranges) -> Side
     Side::Usable
 }
 
-// Nothing to take.
-fn idle(card: Card) -> ControlAnswer
-    ensures { λ r. ⌜ r ≡ idleOf card ⌝ }
+// Nothing was done: a check refuses the call, or there is nothing to take.
+fn untouched(card: Card, number: u8) -> ControlAnswer
+    ensures { λ r. ⌜ r ≡ untouchedBy number card ⌝ }
 {
     ControlAnswer {
-        answer: registers::DONE,
+        answer: registers::plain(number),
         count: 0,
         card: card,
     }
 }
 
 // A queue is broken.
-fn broken_down(card: Card) -> ControlAnswer
-    ensures { λ r. ⌜ r ≡ brokenOf card ⌝ }
+fn broken_down(card: Card, queue: u8, cause: Cause) -> ControlAnswer
+    ensures { λ r. ⌜ r ≡ brokenDown queue cause card ⌝ }
 {
     let registers = card.registers;
     let mut next = card;
     next.registers = registers.break_down();
     ControlAnswer {
-        answer: registers::QUEUE_BROKEN,
+        answer: rules::broken_answer(queue, cause),
         count: 0,
         card: next,
     }
@@ -117,7 +120,10 @@ fn counted(card: Card, posted: Posted) -> ControlAnswer
     next.registers = stream::signal_if(posted.interrupt, registers);
     next.queues[CONTROL_QUEUE] = after;
     ControlAnswer {
-        answer: registers::DONE,
+        answer: Answer {
+            number: registers::DONE,
+            queue: registers::NO_QUEUE,
+        },
         count: 1,
         card: next,
     }
@@ -190,6 +196,16 @@ fn mark_released(card: Card, id: u32) -> Card
     next
 }
 
+// The number of a stream's queue.
+fn queue_of(id: u32) -> u8
+    ensures { λ r. ⌜ r ≡ queueNumber (directionOf id) ⌝ }
+{
+    if id == 0 {
+        return message::queue_number(Direction::Output);
+    }
+    message::queue_number(Direction::Input)
+}
+
 // A stream's queue was emptied: the stream is Released and the message answered. If the queue broke,
 // the message stays taken and the stream keeps its state.
 fn end_release(
@@ -201,15 +217,16 @@ fn end_release(
 ) -> ControlAnswer
     requires { ⌜ Fit (emptied .card) ⌝ }
     ensures { λ r. ⌜ (endsOn (emptied .card)
-        (releasedOf id (pendingOf (emptied .card) head (rangesOf reply)) (now (m .entry)) (emptied .sound) (emptied .signal))
+        (releasedOf id (pendingOf (emptied .card) head (rangesOf reply)) (now (m .entry)) (emptied .stop) (emptied .signal))
         ≡ says r (now (m .exit))) × Fit (r .card) ⌝ }
 {
     let card = emptied.card;
+    let stop = emptied.stop;
     let signalled = signal_card(card, emptied.signal);
-    if !emptied.sound {
-        return broken_down(signalled);
+    match stop {
+        Stop::Broke(cause) => broken_down(signalled, queue_of(id), cause),
+        Stop::Going => reply_status(m, mark_released(signalled, id), head, reply, message::OK),
     }
-    reply_status(m, mark_released(signalled, id), head, reply, message::OK)
 }
 
 // A stream is released: its queue first, then the reply.
@@ -292,11 +309,10 @@ fn answer_next(m: &mut [u8], card: Card) -> ControlAnswer
     let page = registers.pages[CONTROL_QUEUE];
     let counters = card.queues[CONTROL_QUEUE];
     let size = queue_size();
-    let next = ring::next_head(m, page, size, counters.taken);
-    let ring::Head::At(head) = next else {
-        return broken_down(card);
-    };
-    answer_chain(m, take_one(card), head)
+    match ring::next_head(m, page, size, counters.taken) {
+        ring::Head::Broken(cause) => broken_down(card, CONTROL_QUEUE as u8, cause),
+        ring::Head::At(head) => answer_chain(m, take_one(card), head),
+    }
 }
 
 // The control call: one message of the control queue.
@@ -306,29 +322,21 @@ pub fn control(card: Card, m: &mut [u8]) -> ControlAnswer
         ≡ leaves (r .card) (r .answer) (r .count) [] [] (now (m .exit))) × Fit (r .card) ⌝ }
 {
     if m.len() != card.ram_len {
-        return ControlAnswer {
-            answer: registers::LENGTH_DIFFERS,
-            count: 0,
-            card: card,
-        };
+        return untouched(card, registers::LENGTH_DIFFERS);
     }
     let registers = card.registers;
     if !registers.is_live() {
-        return ControlAnswer {
-            answer: registers::NOT_LIVE,
-            count: 0,
-            card: card,
-        };
+        return untouched(card, registers::NOT_LIVE);
     }
     let page = registers.pages[CONTROL_QUEUE];
     let counters = card.queues[CONTROL_QUEUE];
     let size = queue_size();
     match ring::check_queue(m, page, size, counters.taken, 0) {
-        ring::Check::Idle => idle(card),
-        ring::Check::Broken(_) => broken_down(card),
+        ring::Check::Idle => untouched(card, registers::DONE),
+        ring::Check::Broken(cause) => broken_down(card, CONTROL_QUEUE as u8, cause),
         ring::Check::New(new) => {
             if new == 0 {
-                return idle(card);
+                return untouched(card, registers::DONE);
             }
             answer_next(m, card)
         }

@@ -9,7 +9,7 @@ use borrow.Author.Tests.{ltb-true}
 use lib.Dec.{eqb}
 use lib.ListN.{length, getD, set, length-take, length-set}
 use lib.Seq.{take-set-lt, getD-take, getD-set-same, getD-set-other}
-use Rattle.registers.specs.Answers.{lengthDiffers, notLive, eventNotAllowed}
+use Rattle.registers.specs.Answers.{lengthDiffers, notLive, eventNotAllowed, plain}
 use Rattle.registers.specs.Fit.{FitRegisters}
 use Rattle.registers.specs.Rules.{live}
 use Rattle.card.specs.Card.{noStream, noCounters}
@@ -142,9 +142,9 @@ module _ (c : Card) (code data′ : ℕ) (m : List ℕ) where
   unfolding restOf
   event-by = tested (restOf c) code data′ m
 
-  pub event-refused : (answer : ℕ) → byTests ≡ refused answer (restOf c) m → stepOf c (Event code data′) m ≡ leaves c answer 0 [] [] m
+  pub event-refused : (number : ℕ) → byTests ≡ refused number (restOf c) m → stepOf c (Event code data′) m ≡ leaves c (plain number) 0 [] [] m
   unfolding deviceOf
-  event-refused answer h = rw (event-by ∙ h)
+  event-refused number h = rw (event-by ∙ h)
 
   -- an event that is sent, from the card `n` in which it is recorded
   pub event-sent : (n : Card) (o : Step (Device Queue)) → byTests ≡ sentOf code data′ (recorded (restOf c) code data′) m

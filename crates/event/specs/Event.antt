@@ -1,6 +1,7 @@
 -- 01, Play, capture, events, third paragraph: what an event changes of a card.
 use Prim.Native.Nat.{ℕ}
 use lib.ListN.{getD, set}
+use Rattle.registers.specs.Answers.{plain}
 use Rattle.registers.specs.declared.Registers.{Registers}
 use Rattle.card.specs.declared.Card.{Card}
 use Rattle.card.specs.declared.Counters.{Counters}
@@ -9,6 +10,7 @@ use Rattle.rules.specs.Calls.{withConnected}
 use Rattle.rules.specs.Control.{noJack}
 use Rattle.rules.specs.Device.{Rest, Device, Queue}
 use Rattle.rules.specs.Numbers.{eventQueue}
+use Rattle.event.specs.declared.EventAnswer.{EventAnswer}
 
 abbrev pub partsConnected : Parts → ℕ → ℕ → Parts
 partsConnected p i v =
@@ -44,6 +46,10 @@ cardHolding g q c =
       play = c .play;
       capture = c .capture;
     }
+
+-- a call that a check refuses
+abbrev pub refusedBy : ℕ → Card → EventAnswer
+refusedBy number c = record { answer = plain number; card = c }
 
 abbrev pub withRest : Rest → Device Queue → Device Queue
 withRest r d = record { rest = r; play = d .play; capture = d .capture }

@@ -12,8 +12,9 @@ ghost use Rattle.event_queue.specs.Attempts.{sentOf};
 ghost use Rattle.rules.specs.Calls.{Event, ended, isRunning, eventAllowed, recorded};
 ghost use Rattle.rules.specs.Device.{streamAt};
 ghost use Rattle.meaning.specs.Card.{restOf, deviceOf, stepOf, leaves};
-ghost use Rattle.event.specs.Event.{cardConnected, withRest};
+ghost use Rattle.event.specs.Event.{cardConnected, withRest, refusedBy};
 use card::Card;
+use registers::Answer;
 
 // The codes of the events.
 const JACK_CONNECTED: u32 = 4096;
@@ -24,7 +25,7 @@ const PCM_XRUN: u32 = 4353;
 
 #[repr(C)]
 pub struct EventAnswer {
-    pub answer: u8,
+    pub answer: Answer,
     pub card: Card,
 }
 
@@ -41,10 +42,11 @@ fn send_from(card: Card, m: &mut [u8], code: u32, data: u32) -> EventAnswer
     let mut next = card;
     let after = attempt.registers;
     let counts = attempt.counters;
+    let answer = attempt.answer;
     next.registers = after;
     next.queues[event_queue::NUMBER] = counts;
     EventAnswer {
-        answer: attempt.answer,
+        answer: answer,
         card: next,
     }
 }
@@ -119,6 +121,16 @@ fn record_state(card: Card, code: u32, data: u32) -> Card
     }
 }
 
+// A call that a check refuses: nothing changed.
+fn refused(card: Card, number: u8) -> EventAnswer
+    ensures { λ r. ⌜ r ≡ refusedBy number card ⌝ }
+{
+    EventAnswer {
+        answer: registers::plain(number),
+        card: card,
+    }
+}
+
 // The event call: the guest is told of an event with this code and data.
 pub fn event(card: Card, m: &mut [u8], code: u32, data: u32) -> EventAnswer
     requires { ⌜ Fit card ⌝ }
@@ -126,23 +138,14 @@ pub fn event(card: Card, m: &mut [u8], code: u32, data: u32) -> EventAnswer
         × Fit (r .card) ⌝ }
 {
     if m.len() != card.ram_len {
-        return EventAnswer {
-            answer: registers::LENGTH_DIFFERS,
-            card: card,
-        };
+        return refused(card, registers::LENGTH_DIFFERS);
     }
     let registers = card.registers;
     if !registers.is_live() {
-        return EventAnswer {
-            answer: registers::NOT_LIVE,
-            card: card,
-        };
+        return refused(card, registers::NOT_LIVE);
     }
     if !is_allowed(card, code, data) {
-        return EventAnswer {
-            answer: registers::EVENT_NOT_ALLOWED,
-            card: card,
-        };
+        return refused(card, registers::EVENT_NOT_ALLOWED);
     }
     send_from(record_state(card, code, data), m, code, data)
 }

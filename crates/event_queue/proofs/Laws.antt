@@ -14,7 +14,7 @@ use Rattle.memory.specs.Bytes.{put}
 use Rattle.ranges.specs.Ranges.{places, putAt}
 use Rattle.ranges.specs.declared.Range.{Range}
 use Rattle.ranges.proofs.Laws.{putAt-take}
-use Rattle.registers.specs.Answers.{noEventBuffer}
+use Rattle.registers.specs.Answers.{done, noEventBuffer, plain}
 use Rattle.registers.specs.Map.{sizeOf}
 use Rattle.registers.specs.declared.Registers.{Registers}
 use Rattle.registers.specs.Rules.{hasBit}
@@ -52,7 +52,7 @@ resultOn : Rest → Registers → Counters → Completion → Result
 resultOn r g q k =
     record {
       rest = holding (signalledIf (k .interrupt) g) (record { taken = oneTaken q .taken; completed = k .completed }) r;
-      answer = 0;
+      answer = plain done;
       count = 0;
       mem = k .memory;
     }
@@ -71,7 +71,7 @@ module _ (code data′ : ℕ) (g : Registers) (q : Counters) (m : List ℕ) wher
   nextHead = headOf m (getD (g .pages) eventQueue (record { 0 = 0 })) (sizeOf eventQueue) (q .taken)
 
   pub tried-broken : (cause : Cause) → nextHead ≡ Head.Broken cause → (r : Rest)
-      → tried code data′ (holding g q r) m ≡ Ended (broke (holding g q r) m)
+      → tried code data′ (holding g q r) m ≡ Ended (broke eventQueue cause (holding g q r) m)
   unfolding tried
   tried-broken cause h r = rw h
 

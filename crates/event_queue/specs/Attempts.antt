@@ -1,6 +1,6 @@
 -- 01, Play, capture, events, third paragraph: what the structs of an event's attempts stand for. An attempt changes the
 -- registers and the event queue's counters of a card; the rules see both as parts of the `Rest`.
-use mathlib.Core.Bool.{Bool, cond}
+use mathlib.Core.Bool.{Bool, true, cond}
 use mathlib.Core.List.{List}
 use mathlib.Core.Option.{Option, none, some}
 use Prim.Native.Nat.{ℕ}
@@ -8,12 +8,15 @@ use lib.ListN.{length}
 use Rattle.counts.specs.declared.PageNumber.{PageNumber}
 use Rattle.ranges.specs.Ranges.{rangesOf, places, putAt}
 use Rattle.ranges.specs.declared.Range.{Range}
-use Rattle.registers.specs.Answers.{done}
+use Rattle.registers.specs.Answers.{done, noEventBuffer, plain}
 use Rattle.registers.specs.Map.{sizeOf}
+use Rattle.registers.specs.Rules.{broken}
 use Rattle.registers.specs.declared.Registers.{Registers}
 use Rattle.ring.specs.Rules.{Completion, baseOf, nextOf, postedOf, interrupts, checkOf}
+use Rattle.ring.specs.declared.Cause.{Cause}
 use Rattle.ring.specs.declared.Posted.{Posted}
 use Rattle.card.specs.declared.Counters.{Counters}
+use Rattle.rules.specs.Answers.{brokenAnswer}
 use Rattle.rules.specs.Calls.{Result, Tried, Ended, Further, eventFound}
 use Rattle.rules.specs.Device.{Rest, withRegisters, withEvent, pageOf, signalledIf, oneTaken}
 use Rattle.rules.specs.Numbers.{eventQueue}
@@ -45,10 +48,17 @@ abbrev pub attemptOf : Bool → Registers → Counters → Posted → Attempt
 attemptOf over g q p =
     record {
       ended = over;
-      answer = done;
+      answer = plain done;
       registers = signalledIf (p .interrupt) g;
       counters = record { taken = oneTaken q .taken; completed = p .completed };
     }
+
+-- the queue is broken, or no chain has room
+abbrev pub haltedBy : Cause → Registers → Counters → Attempt
+haltedBy cause g q = record { ended = true; answer = brokenAnswer eventQueue cause; registers = broken g; counters = q }
+
+abbrev pub withoutBuffer : Registers → Counters → Attempt
+withoutBuffer g q = record { ended = true; answer = plain noEventBuffer; registers = g; counters = q }
 
 -- an event that may be sent, over the rest in which its state is recorded
 abbrev pub sentOf : ℕ → ℕ → Rest → List ℕ → Result

@@ -12,12 +12,14 @@ ghost use Rattle.ring.specs.Rules.{baseOf, completion};
 ghost use Rattle.rules.specs.Calls.{eventRoom, eventBytes, tried, eventRun};
 ghost use Rattle.rules.specs.Device.{Rest};
 ghost use Rattle.rules.specs.Numbers.{eventQueue};
-ghost use Rattle.event_queue.specs.Attempts.{holding, roomIn, postingOf, attemptOf, resultIn, triedIn, sentOf};
+ghost use Rattle.event_queue.specs.Attempts.{holding, roomIn, postingOf, attemptOf, haltedBy, withoutBuffer, resultIn, triedIn, sentOf};
 use card::Counters;
 use counts::DescriptorNumber;
 use counts::PageNumber;
 use ranges::Ranges;
+use registers::Answer;
 use registers::Registers;
+use ring::Cause;
 use ring::Posted;
 
 // The number of the event queue.
@@ -26,7 +28,7 @@ pub const NUMBER: usize = 1;
 // Where an event stands after an entry was tried: `ended`, it was delivered or can't be.
 pub struct Attempt {
     pub ended: bool,
-    pub answer: u8,
+    pub answer: Answer,
     pub registers: Registers,
     pub counters: Counters,
 }
@@ -135,16 +137,41 @@ fn counted(ended: bool, registers: Registers, counters: Counters, posted: Posted
     if posted.interrupt {
         return Attempt {
             ended: ended,
-            answer: registers::DONE,
+            answer: registers::plain(registers::DONE),
             registers: registers.signal(),
             counters: after,
         };
     }
     Attempt {
         ended: ended,
-        answer: registers::DONE,
+        answer: registers::plain(registers::DONE),
         registers: registers,
         counters: after,
+    }
+}
+
+// The event can't be delivered: the queue is broken.
+fn halted(registers: Registers, counters: Counters, cause: Cause) -> Attempt
+    requires { ⌜ FitRegisters registers ⌝ }
+    ensures { λ r. ⌜ (r ≡ haltedBy cause registers counters) × FitRegisters (r .registers) ⌝ }
+{
+    Attempt {
+        ended: true,
+        answer: rules::broken_answer(NUMBER as u8, cause),
+        registers: registers.break_down(),
+        counters: counters,
+    }
+}
+
+// The event can't be delivered: no chain has room for it.
+fn without_buffer(registers: Registers, counters: Counters) -> Attempt
+    ensures { λ r. ⌜ r ≡ withoutBuffer registers counters ⌝ }
+{
+    Attempt {
+        ended: true, // there is no entry to try
+        answer: registers::plain(registers::NO_EVENT_BUFFER),
+        registers: registers,
+        counters: counters,
     }
 }
 
@@ -162,23 +189,19 @@ fn try_entry(
 {
     let page = registers.pages[NUMBER];
     let size = queue_size();
-    let next = ring::next_head(m, page, size, counters.taken);
-    let ring::Head::At(head) = next else {
-        return Attempt {
-            ended: true,
-            answer: registers::QUEUE_BROKEN,
-            registers: registers.break_down(),
-            counters: counters,
-        };
-    };
-    let indirect = registers.features / registers::HOST_FEATURES % 2 == 1;
-    let room = room_at(m, page, head, indirect);
-    if room.fits {
-        let posted = deliver(m, page, counters.completed, head, room.reply, code, data);
-        return counted(true, registers, counters, posted);
+    match ring::next_head(m, page, size, counters.taken) {
+        ring::Head::Broken(cause) => halted(registers, counters, cause),
+        ring::Head::At(head) => {
+            let indirect = registers.features / registers::HOST_FEATURES % 2 == 1;
+            let room = room_at(m, page, head, indirect);
+            if room.fits {
+                let posted = deliver(m, page, counters.completed, head, room.reply, code, data);
+                return counted(true, registers, counters, posted);
+            }
+            let posted = pass_over(m, page, counters.completed, head);
+            counted(false, registers, counters, posted)
+        }
     }
-    let posted = pass_over(m, page, counters.completed, head);
-    counted(false, registers, counters, posted)
 }
 
 // At most `new` entries, tried one after the other: the attempt that is returned has ended.
@@ -206,12 +229,7 @@ fn try_entries(
         counts = attempt.counters;
         left -= 1;
     }
-    Attempt {
-        ended: true,
-        answer: registers::NO_EVENT_BUFFER,
-        registers: file,
-        counters: counts,
-    }
+    without_buffer(file, counts)
 }
 
 // The event queue is checked, then its new entries are tried: the attempt that is returned has ended.
@@ -222,20 +240,9 @@ pub fn send(m: &mut [u8], registers: Registers, counters: Counters, code: u32, d
 {
     let page = registers.pages[NUMBER];
     let size = queue_size();
-    let found = ring::check_queue(m, page, size, counters.taken, 0);
-    match found {
-        ring::Check::Idle => Attempt {
-            ended: true, // there is no entry to try
-            answer: registers::NO_EVENT_BUFFER,
-            registers: registers,
-            counters: counters,
-        },
-        ring::Check::Broken(_) => Attempt {
-            ended: true,
-            answer: registers::QUEUE_BROKEN,
-            registers: registers.break_down(),
-            counters: counters,
-        },
+    match ring::check_queue(m, page, size, counters.taken, 0) {
+        ring::Check::Idle => without_buffer(registers, counters),
+        ring::Check::Broken(cause) => halted(registers, counters, cause),
         ring::Check::New(new) => try_entries(m, registers, counters, new, code, data),
     }
 }

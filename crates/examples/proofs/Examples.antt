@@ -21,6 +21,9 @@ use Rattle.card.specs.Card.{noCounters, freshStream, freshState, setState, prep
 use Rattle.card.specs.Rules.{poweredOf}
 use Rattle.card.specs.declared.Jack.{Jack}
 use Rattle.card.specs.declared.Stream.{Stream}
+use Rattle.registers.specs.Answers.{plain}
+use Rattle.ring.specs.declared.Cause.{Cause}
+use Rattle.ring.specs.declared.Stop.{Stop}
 use Rattle.rules.specs.Calls.{Request, ReadRegister, WriteRegister, Control, Play, Capture, Event, Call, Told, toldAll, step, Order as Decided, Done, ReleaseFirst, readMessage, Emptied, eventRoom, replied, orderOf, emptied, releasedOf, transferred, eventAllowed, recorded, eventPosted, tried, eventRun, eventOf, readStep, writeStep, releaseStep, transferStep}
 use Rattle.rules.specs.Claim.{card, toldBy}
 use Rattle.rules.specs.Control.{Served, Reply, Release, joined, information, remap, lawfulFrom, judgedParams, setParams, served}
@@ -155,7 +158,7 @@ runs ops b m [] = record { answers = []; counts = []; state = b; memory = m }
 runs ops b m (q ∷ qs) =
     let s = step ops b (record { asked = q; lent = m }) in
     let o = runs ops (s .state) (s .told .memory) qs in
-    record { answers = s .told .answer ∷ o .answers; counts = s .told .count ∷ o .counts; state = o .state; memory = o .memory }
+    record { answers = s .told .answer .number ∷ o .answers; counts = s .told .count ∷ o .counts; state = o .state; memory = o .memory }
 
 abbrev pub run : Device Queue → List ℕ → List Request → Ran Queue
 run b m qs = runs card b m qs
@@ -211,10 +214,10 @@ pub record Row : Type 0 where
   pub told : Told
 
 abbrev pub row : Request → ℕ → ℕ → Row
-row q answer value = record { asked = q; told = toldAll answer value 255 0 [] [] [] }
+row q answer value = record { asked = q; told = toldAll (plain answer) value 255 0 [] [] [] }
 
 abbrev pub bell : ℕ → ℕ → Row
-bell queue rung = record { asked = WriteRegister 16 2 queue; told = toldAll 0 0 rung 0 [] [] [] }
+bell queue rung = record { asked = WriteRegister 16 2 queue; told = toldAll (plain 0) 0 rung 0 [] [] [] }
 
 abbrev pub Rows : List Row → Type 0
 Rows rows =
@@ -342,8 +345,8 @@ before =
 pub play-in-two-calls :
     toldBy card player
     (call (Play (0 ∷ 0 ∷ 0 ∷ [])) before ∷ call (Play (0 ∷ 0 ∷ [])) (memory 10760 (block 302 (99 ∷ []) ∷ twoHeads ∷ [])) ∷ [])
-    ≡ toldAll 0 0 255 3 (11 ∷ 12 ∷ 13 ∷ []) (11 ∷ 12 ∷ 13 ∷ []) before
-    ∷ toldAll 0 0 255 2 (0 ∷ 99 ∷ []) (0 ∷ 99 ∷ [])
+    ≡ toldAll (plain 0) 0 255 3 (11 ∷ 12 ∷ 13 ∷ []) (11 ∷ 12 ∷ 13 ∷ []) before
+    ∷ toldAll (plain 0) 0 255 2 (0 ∷ 99 ∷ []) (0 ∷ 99 ∷ [])
     (memory 10760 (block 200 (xfer ok) ∷ block 302 (99 ∷ []) ∷ twoHeads ∷ block 8710 (used 1 (element 5 8 ∷ [])) ∷ []))
     ∷ []
 unfolding runs
@@ -364,7 +367,7 @@ pub bad-head-when-met :
             capture = emptyQueue;
           };
       told =
-          toldAll 9 0 255 2 (11 ∷ 12 ∷ []) (11 ∷ 12 ∷ 0 ∷ [])
+          toldAll (record { number = 9; queue = 2 }) 0 255 2 (11 ∷ 12 ∷ []) (11 ∷ 12 ∷ 0 ∷ [])
           (oneMessage (block 200 (xfer ok) ∷ []) (block 8710 (used 1 (element 5 8 ∷ [])) ∷ []));
     }
 unfolding runs
@@ -492,7 +495,7 @@ pub release-of-a-broken-queue :
             play = emptyQueue;
             capture = record { taken = 1; completed = 1; work = none };
           };
-      told = toldAll 9 0 255 0 [] [] (badRing (block 41 (xfer ok) ∷ []) (block 9350 (used 1 (element 0 8 ∷ [])) ∷ []));
+      told = toldAll (record { number = 9; queue = 3 }) 0 255 0 [] [] (badRing (block 41 (xfer ok) ∷ []) (block 9350 (used 1 (element 0 8 ∷ [])) ∷ []));
     }
 unfolding runs
 release-of-a-broken-queue = refl
@@ -522,7 +525,7 @@ pub release-of-the-output :
       mem =
           speaking (block 56 (xfer ioErr) ∷ []) (xfer ioErr) (block 8710 (used 1 (element 0 0 ∷ [])) ∷ [])
           (block 10744 (element 6 8 ++ element 1 8) ∷ []);
-      sound = true;
+      stop = Stop.Going;
       signal = true;
     }
 unfolding runs
@@ -535,12 +538,12 @@ pub used-index :
 used-index = (refl, refl)
 
 -- on an idle queue nothing is pending; one whose region passes the end of RAM is broken, and its message in work stays
-abbrev pub untouched : Bool → Emptied Queue
-untouched sound = record { queue = inWork; mem = replicate 8 0; sound = sound; signal = false }
+abbrev pub untouched : Stop → Emptied Queue
+untouched stop = record { queue = inWork; mem = replicate 8 0; stop = stop; signal = false }
 
 pub release-without-a-ring :
-    (emptied (card output) (playAt 0) inWork (replicate 8 0) ≡ untouched true)
-    × (emptied (card output) (playAt 1) inWork (replicate 8 0) ≡ untouched false)
+    (emptied (card output) (playAt 0) inWork (replicate 8 0) ≡ untouched Stop.Going)
+    × (emptied (card output) (playAt 1) inWork (replicate 8 0) ≡ untouched (Stop.Broke Cause.Region))
 unfolding runs
 release-without-a-ring = (refl, refl)
 
@@ -773,7 +776,7 @@ capturing done mem bytes host room =
       bytes = bytes;
       host = host;
       room = room;
-      sound = true;
+      stop = Stop.Going;
       signal = false;
     }
 

@@ -240,7 +240,7 @@ module _ (v : rules.Virtqueue) (m host : List ℕ) (f : Flow) where
   next-taken n h = rw h
 
   pub next-stopped : (cause : Cause) → headOf m (v .page) (rules.queueSize v) (f .counters .taken) ≡ Head.Broken cause
-      → next (countersOf (v .direction)) v (runOf f m host) ≡ runOf (stoppedFlow f) m host
+      → next (countersOf (v .direction)) v (runOf f m host) ≡ runOf (stoppedFlow cause f) m host
   unfolding next runOf
   next-stopped cause h = rw h
 

@@ -5,6 +5,8 @@ use mathlib.Core.List.{List}
 use Prim.Native.Nat.{ℕ, _+_, _-_, _%_, _≤_}
 use lib.ListN.{length, take, drop}
 use Rattle.ring.specs.Rules.{Completion}
+use Rattle.ring.specs.declared.Cause.{Cause}
+use Rattle.ring.specs.declared.Stop.{Stop}
 use Rattle.card.specs.Fit.{FitMessage}
 use Rattle.card.specs.declared.Counters.{Counters}
 use Rattle.card.specs.declared.Message.{Message}
@@ -38,7 +40,7 @@ runOf f m host =
       bytes = take (f .moved) host;
       host = drop (f .moved) host;
       room = length host - f .moved;
-      sound = f .sound;
+      stop = f .stop;
       signal = f .signal;
     }
 
@@ -54,7 +56,7 @@ pub record FitFlow (len room : ℕ) (f : Flow) : Type 0 where
 
 -- a flow that begins
 abbrev pub freshFlow : Counters → Message → Flow
-freshFlow c m = record { counters = c; message = m; moved = 0; sound = true; signal = false }
+freshFlow c m = record { counters = c; message = m; moved = 0; stop = Stop.Going; signal = false }
 
 -- n bytes more of the message and of the host
 abbrev pub advancedBy : ℕ → Flow → Flow
@@ -70,7 +72,7 @@ advancedBy n f =
             reply = f .message .reply;
           };
       moved = f .moved + n;
-      sound = f .sound;
+      stop = f .stop;
       signal = f .signal;
     }
 
@@ -82,7 +84,7 @@ endedBy c f =
       message =
           record { count = 0; head = f .message .head; done = f .message .done; request = f .message .request; reply = f .message .reply };
       moved = f .moved;
-      sound = f .sound;
+      stop = f .stop;
       signal = f .signal || c .interrupt;
     }
 
@@ -93,13 +95,14 @@ begunWith t f =
       counters = record { taken = (f .counters .taken + 1) % 65536; completed = f .counters .completed };
       message = record { count = 1; head = t .head; done = 0; request = t .request; reply = t .reply };
       moved = f .moved;
-      sound = f .sound;
+      stop = f .stop;
       signal = f .signal;
     }
 
--- a bad head was met
-abbrev pub stoppedFlow : Flow → Flow
-stoppedFlow f = record { counters = f .counters; message = f .message; moved = f .moved; sound = false; signal = f .signal }
+-- the queue is broken
+abbrev pub stoppedFlow : Cause → Flow → Flow
+stoppedFlow cause f =
+    record { counters = f .counters; message = f .message; moved = f .moved; stop = Stop.Broke cause; signal = f .signal }
 
 -- an entry taken and completed, no message in work
 abbrev pub refusedBy : Completion → Flow → Flow
@@ -108,7 +111,7 @@ refusedBy c f =
       counters = record { taken = (f .counters .taken + 1) % 65536; completed = c .completed };
       message = f .message;
       moved = f .moved;
-      sound = f .sound;
+      stop = f .stop;
       signal = f .signal || c .interrupt;
     }
 

@@ -11,7 +11,7 @@ ghost use Rattle.card.specs.Fit.{FitMessage};
 ghost use mathlib.Core.Option.{some};
 ghost use mathlib.Core.Bool.{_||_};
 ghost use Rattle.rules.specs.Transfer.{moved, settled, entered, worked, givenUp, next, statusOf};
-ghost use Rattle.flow.specs.Flow.{runOf, FitFlow, Busy, payloadBytes, endingOf, advancedBy, begunWith, Steps, StepsOn, Ends, refusedIn};
+ghost use Rattle.flow.specs.Flow.{runOf, FitFlow, Busy, payloadBytes, endingOf, advancedBy, begunWith, stoppedFlow, Steps, StepsOn, Ends, refusedIn};
 use card::Counters;
 use card::Message;
 use counts::DescriptorNumber;
@@ -20,14 +20,16 @@ use message::Form;
 use message::Status;
 use message::Taken;
 use message::Virtqueue;
+use ring::Cause;
+use ring::Stop;
 
-// A call's progress on a queue: its counters and message in work, the host bytes moved so far, no
-// bad head met, an interrupt wanted.
+// A call's progress on a queue: its counters and message in work, the host bytes moved so far, where
+// it stands, an interrupt wanted.
 pub struct Flow {
     pub counters: Counters,
     pub message: Message,
     pub moved: usize,
-    pub sound: bool,
+    pub stop: Stop,
     pub signal: bool,
 }
 
@@ -158,11 +160,12 @@ fn end_message(m: &mut [u8], q: Virtqueue, f: Flow, ending: Ending) -> Flow
     );
     counters.completed = posted.completed;
     message.count = 0;
+    let stop = f.stop;
     Flow {
         counters: counters,
         message: message,
         moved: f.moved,
-        sound: f.sound,
+        stop: stop,
         signal: either(f.signal, posted.interrupt),
     }
 }
@@ -194,11 +197,12 @@ fn refuse(m: &mut [u8], q: Virtqueue, f: Flow, taken: Taken, status: Status) -> 
     let posted = message::answer(m, q, counters.completed, taken.head, reply, status, 0);
     counters.taken = std::num::wrapping_add_u16(counters.taken, 1);
     counters.completed = posted.completed;
+    let stop = f.stop;
     Flow {
         counters: counters,
         message: message,
         moved: f.moved,
-        sound: f.sound,
+        stop: stop,
         signal: either(f.signal, posted.interrupt),
     }
 }
@@ -227,6 +231,7 @@ fn begin(f: Flow, taken: Taken) -> Flow
     let head = taken.head;
     let request = taken.request;
     let reply = taken.reply;
+    let stop = f.stop;
     Flow {
         counters: counters,
         message: Message {
@@ -237,7 +242,22 @@ fn begin(f: Flow, taken: Taken) -> Flow
             reply: reply,
         },
         moved: f.moved,
-        sound: f.sound,
+        stop: stop,
+        signal: f.signal,
+    }
+}
+
+// The queue is broken: nothing more is taken.
+fn halt(f: Flow, cause: Cause) -> Flow
+    ensures { λ r. ⌜ r ≡ stoppedFlow cause f ⌝ }
+{
+    let counters = f.counters;
+    let message = f.message;
+    Flow {
+        counters: counters,
+        message: message,
+        moved: f.moved,
+        stop: Stop::Broke(cause),
         signal: f.signal,
     }
 }
@@ -251,13 +271,13 @@ pub fn meet(m: &mut [u8], q: Virtqueue, f: Flow) -> Flow
     let direction = q.direction;
     let counters = f.counters;
     let size = message::queue_size(direction);
-    let ring::Head::At(number) = ring::next_head(m, q.page, size, counters.taken) else {
-        let mut stopped = f;
-        stopped.sound = false;
-        return stopped;
-    };
-    let taken = message::take_chain(m, q, number);
-    enter(m, q, f, taken)
+    match ring::next_head(m, q.page, size, counters.taken) {
+        ring::Head::Broken(cause) => halt(f, cause),
+        ring::Head::At(number) => {
+            let taken = message::take_chain(m, q, number);
+            enter(m, q, f, taken)
+        }
+    }
 }
 
 // A Release ends the message in work.

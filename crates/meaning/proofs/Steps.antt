@@ -8,6 +8,7 @@ use lib.ListN.{length, getD, set, take}
 use lib.Seq.{length-take-le, getD-set-same, getD-set-other}
 use Rattle.description.specs.Lawful.{lawful}
 use Rattle.description.specs.declared.Description.{Description}
+use Rattle.registers.specs.Answers.{plain}
 use Rattle.registers.specs.Rules.{writeOf}
 use Rattle.registers.specs.declared.Effect.{Effect}
 use Rattle.registers.specs.declared.Effect.the-variants.{Nothing, Reset, Based, Rung}
@@ -44,7 +45,7 @@ module _ (c : Card) (f : Fit c) where
   pub read-step : (offset width : ℕ) (m : List ℕ) → stepOf c (ReadRegister offset width) m
       ≡ record {
         state = deviceOf (readCard c offset width .card);
-        told = toldAll (readCard c offset width .answer) (readCard c offset width .value) nothingRung 0 [] [] m;
+        told = toldAll (plain (readCard c offset width .answer)) (readCard c offset width .value) nothingRung 0 [] [] m;
       }
   unfolding readStep readCard deviceOf restOf
   read-step offset width m = rw (jacks-counted, streams-counted, maps-counted)
@@ -88,12 +89,12 @@ affected-rest (Rung q) c four h = refl
 pub write-step : (c : Card) (f : Fit c) (offset width v : ℕ) (m : List ℕ) → stepOf c (WriteRegister offset width v) m
     ≡ record {
       state = deviceOf (writeCard c offset width v .card);
-      told = toldAll (writeCard c offset width v .answer) 0 (writeCard c offset width v .rung) 0 [] [] m;
+      told = toldAll (plain (writeCard c offset width v .answer)) 0 (writeCard c offset width v .rung) 0 [] [] m;
     }
 unfolding writeStep writeCard deviceOf restOf
 write-step c f offset width v m =
     let w = writeOf (c .registers) offset width v in
     ap
     (λ (d : rules.Device rules.Queue).
-    record { state = d; told = toldAll (w .answer) 0 (rungOf (w .effect)) 0 [] [] m })
+    record { state = d; told = toldAll (plain (w .answer)) 0 (rungOf (w .effect)) 0 [] [] m })
     (sym (affected-rest (w .effect) (withRegisters c (w .registers)) (f .four) (queue-named (c .registers) v offset width)))

@@ -6,6 +6,7 @@ use Prim.Native.Nat.{ℕ}
 use lib.Dec.{eqb}
 use lib.ListN.{take, getD}
 use Rattle.ranges.specs.Ranges.{rangesOf}
+use Rattle.registers.specs.declared.answers.Answer.{Answer}
 use Rattle.card.specs.Card.{noCounters}
 use Rattle.card.specs.declared.Card.{Card}
 use Rattle.card.specs.declared.Counters.{Counters}
@@ -53,5 +54,5 @@ abbrev pub stepOf : Card → Request → List ℕ → Step (rules.Device rules.Q
 stepOf c q m = step countersOf (deviceOf c) (record { asked = q; lent = m })
 
 -- what an entry leaves and tells: the card, the answer, the count, the bytes moved, the host buffer and memory
-abbrev pub leaves : Card → ℕ → ℕ → List ℕ → List ℕ → List ℕ → Step (rules.Device rules.Queue)
+abbrev pub leaves : Card → Answer → ℕ → List ℕ → List ℕ → List ℕ → Step (rules.Device rules.Queue)
 leaves c answer count bytes host m = record { state = deviceOf c; told = toldAll answer 0 nothingRung count bytes host m }

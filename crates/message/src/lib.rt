@@ -56,6 +56,16 @@ pub struct Taken {
     pub reply: Ranges,
 }
 
+// The number of the queue of a direction.
+pub fn queue_number(d: Direction) -> u8
+    ensures { λ r. ⌜ r ≡ queueNumber (directionOf d) ⌝ }
+{
+    match d {
+        Direction::Output => 2,
+        Direction::Input => 3,
+    }
+}
+
 // How many descriptors the queue of a direction has.
 pub fn queue_size(d: Direction) -> u16
     ensures { λ r. ⌜ r ≡ sizeOf (queueNumber (directionOf d)) ⌝ }

@@ -14,7 +14,7 @@ use Rattle.message.specs.declared.Direction.{Direction}
 use Rattle.rules.specs.Calls.{isRunning}
 use Rattle.rules.specs.Device.{signalledIf}
 use Rattle.stream.specs.Queue.{withRegisters}
-use Rattle.stream.proofs.Fits.{signal-fit, unless-fit, with-registers-fit, with-flow-fit}
+use Rattle.stream.proofs.Fits.{signal-fit, broken-by-fit, with-registers-fit, with-flow-fit}
 use Rattle.flow.specs.declared.Flow.{Flow}
 use Rattle.pcm.specs.Entry.{refusalOf, flowedCard, registersAfter}
 
@@ -30,5 +30,5 @@ passed-length c len id h = by (eqb len (c .«ram_len»)) refl h where
 pub flowed-fit : (d : Direction) (g : Flow) (c : Card) → Fit c → FitMessage (c .«ram_len») (g .message) → Fit (flowedCard d g c)
 flowed-fit d g c f h =
     let signal = signal-fit (g .signal) (c .registers) (f .registers) in
-    let registers = unless-fit (g .sound) (signalledIf (g .signal) (c .registers)) signal in
+    let registers = broken-by-fit (g .stop) (signalledIf (g .signal) (c .registers)) signal in
     with-flow-fit d g (withRegisters (registersAfter g (c .registers)) c) (with-registers-fit c (registersAfter g (c .registers)) f registers) h

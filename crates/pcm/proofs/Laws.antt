@@ -8,7 +8,7 @@ use lib.Dec.{eqb}
 use lib.ListN.{length, getD, take}
 use borrow.Author.Tests.{lt-ltb, le-ltb}
 use lib.Seq.{getD-take, length-take-le}
-use Rattle.registers.specs.Answers.{done, lengthDiffers, notLive, notRunning}
+use Rattle.registers.specs.Answers.{done, lengthDiffers, notLive, notRunning, plain}
 use Rattle.registers.specs.Rules.{live}
 use Rattle.card.specs.Card.{noStream}
 use Rattle.card.specs.Fit.{Fit}
@@ -24,13 +24,13 @@ use Rattle.pcm.specs.Entry.{refusalOf}
 
 module _ (d : rules.Direction) (r : rules.Rest) (q : rules.Queue) (m host : List ℕ) where
   pub refused-transfer : (a : ℕ) → refusalOf r (length m) (rules.streamNumber d) ≡ a → (a ≡ 0 → ⊥)
-      → transferred (countersOf d) d r q m host ≡ untouched a (r .registers) q m
+      → transferred (countersOf d) d r q m host ≡ untouched (plain a) (r .registers) q m
   unfolding refusalOf transferred
   refused-transfer a h n = by (eqb (length m) (r .ram)) (live (r .registers)) (isRunning r (rules.streamNumber d)) h where
     by : (x y z : Bool) → cond x (cond y (cond z done notRunning) notLive) lengthDiffers ≡ a
         → cond x (cond y (cond z (transferFound (countersOf d) d r q m host (found (countersOf d) (virtqueueOf r d) q m))
-        (untouched notRunning (r .registers) q m)) (untouched notLive (r .registers) q m)) (untouched lengthDiffers (r .registers) q m)
-        ≡ untouched a (r .registers) q m
+        (untouched (plain notRunning) (r .registers) q m)) (untouched (plain notLive) (r .registers) q m)) (untouched (plain lengthDiffers) (r .registers) q m)
+        ≡ untouched (plain a) (r .registers) q m
     by true true true e = absurd (n (sym e))
     by true true false e = rw (← e)
     by true false z e = rw (← e)
@@ -43,7 +43,7 @@ module _ (d : rules.Direction) (r : rules.Rest) (q : rules.Queue) (m host : List
   passed-transfer h = by (eqb (length m) (r .ram)) (live (r .registers)) (isRunning r (rules.streamNumber d)) h where
     by : (x y z : Bool) → cond x (cond y (cond z done notRunning) notLive) lengthDiffers ≡ 0
         → cond x (cond y (cond z (transferFound (countersOf d) d r q m host (found (countersOf d) (virtqueueOf r d) q m))
-        (untouched notRunning (r .registers) q m)) (untouched notLive (r .registers) q m)) (untouched lengthDiffers (r .registers) q m)
+        (untouched (plain notRunning) (r .registers) q m)) (untouched (plain notLive) (r .registers) q m)) (untouched (plain lengthDiffers) (r .registers) q m)
         ≡ transferFound (countersOf d) d r q m host (found (countersOf d) (virtqueueOf r d) q m)
     by true true true e = refl
     by true true false e = absurd (omega arith)

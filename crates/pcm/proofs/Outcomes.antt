@@ -5,9 +5,10 @@ use mathlib.Core.Bool.{cond}
 use Prim.Native.Nat.{ℕ, _≤_}
 use native.Mathlib.Omega.{arith}
 use lib.ListN.{length, take, drop, length-take}
-use Rattle.registers.specs.Answers.{done, queueBroken}
+use Rattle.registers.specs.Answers.{done, plain}
 use Rattle.registers.specs.Rules.{broken}
 use Rattle.registers.specs.declared.Registers.{Registers}
+use Rattle.registers.specs.declared.answers.Answer.{Answer}
 use Rattle.ring.specs.Rules.{checkOf}
 use Rattle.ring.specs.declared.Check.{Check}
 use Rattle.ring.specs.declared.Cause.{Cause}
@@ -17,6 +18,7 @@ use Rattle.meaning.specs.Card.{queueOf, restOf, deviceOf, stepOf, leaves}
 use Rattle.message.specs.Message.{directionOf}
 use Rattle.message.specs.declared.Direction.{Direction}
 use Rattle.message.specs.declared.Direction.the-variants.{Output, Input}
+use Rattle.rules.specs.Answers.{brokenAnswer, answerBy}
 use Rattle.rules.specs.Calls.{hostAfter, transferStep, transferred, transferFound, transferredBy, untouched, virtqueueOf}
 use Rattle.rules.specs.Counters.{countersOf}
 use Rattle.rules.specs.Device as rules
@@ -50,7 +52,7 @@ module _ (way : Direction) (c : Card) (m host : List ℕ) where
   stepped Input = refl
 
   -- nothing moved: the registers alone are others
-  unmoved : (w : Direction) (a : ℕ) (g : Registers) → let e = directionOf w in
+  unmoved : (w : Direction) (a : Answer) (g : Registers) → let e = directionOf w in
       transferStep e host (deviceOf c) (untouched a g (rules.queueFor e (deviceOf c)) m) ≡ leaves (withRegisters g c) a 0 [] (bufferOf e host) m
   unfolding transferStep deviceOf restOf
   unmoved Output a g = refl
@@ -58,10 +60,10 @@ module _ (way : Direction) (c : Card) (m host : List ℕ) where
 
   -- refused by a check
   pub transfer-refused : (a : ℕ) → refusalOf (restOf c) (length m) (rules.streamNumber d) ≡ a → (a ≡ 0 → ⊥)
-      → stepOf c (transferOf d host) m ≡ leaves c a 0 [] (bufferOf d host) m
+      → stepOf c (transferOf d host) m ≡ leaves c (plain a) 0 [] (bufferOf d host) m
   unfolding restOf
   transfer-refused a h n =
-      stepped way ∙ ap (transferStep d host (deviceOf c)) (refused-transfer d (restOf c) own m host a h n) ∙ unmoved way a (c .registers)
+      stepped way ∙ ap (transferStep d host (deviceOf c)) (refused-transfer d (restOf c) own m host a h n) ∙ unmoved way (plain a) (c .registers)
 
   module _ (f : Fit c) (passed : refusalOf (restOf c) (length m) (rules.streamNumber d) ≡ 0) where
     abbrev pub checked : Check
@@ -79,14 +81,15 @@ module _ (way : Direction) (c : Card) (m host : List ℕ) where
         (passed-transfer d (restOf c) own m host passed
         ∙ ap (transferFound (countersOf d) d (restOf c) own m host) (found-in ∙ h))
 
-    pub transfer-idle : checked ≡ Check.Idle → stepOf c (transferOf d host) m ≡ leaves c done 0 [] (bufferOf d host) m
+    pub transfer-idle : checked ≡ Check.Idle → stepOf c (transferOf d host) m ≡ leaves c (plain done) 0 [] (bufferOf d host) m
     unfolding restOf
-    transfer-idle h = by-check Check.Idle h ∙ unmoved way done (c .registers)
+    transfer-idle h = by-check Check.Idle h ∙ unmoved way (plain done) (c .registers)
 
     pub transfer-broken : (cause : Cause) → checked ≡ Check.Broken cause
-        → stepOf c (transferOf d host) m ≡ leaves (withRegisters (broken (c .registers)) c) queueBroken 0 [] (bufferOf d host) m
+        → stepOf c (transferOf d host) m
+        ≡ leaves (withRegisters (broken (c .registers)) c) (brokenAnswer (rules.queueNumber d) cause) 0 [] (bufferOf d host) m
     unfolding restOf
-    transfer-broken cause h = by-check (Check.Broken cause) h ∙ unmoved way queueBroken (broken (c .registers))
+    transfer-broken cause h = by-check (Check.Broken cause) h ∙ unmoved way (brokenAnswer (rules.queueNumber d) cause) (broken (c .registers))
 
     module _ (n : ℕ) (h : checked ≡ Check.New n) (m′ host′ : List ℕ) (g : Flow)
         (run : runOf g m′ host′ ≡ transferRun (countersOf d) lies n (begun (queueOf (countersIn c way) (messageIn c way)) m host))
@@ -114,11 +117,11 @@ module _ (way : Direction) (c : Card) (m host : List ℕ) where
       after Output = flowed-device (withRegisters (registersAfter g (c .registers)) c) g (f .four) Output
       after Input = flowed-device (withRegisters (registersAfter g (c .registers)) c) g (f .four) Input
 
-      told : transferStep d host (deviceOf c) (transferredBy (restOf c .registers) (runOf g m′ host′))
-          ≡ leaves (flowedCard way g c) (cond (g .sound) done queueBroken) (g .moved) (take (g .moved) host′) (bufferOf d host′) m′
+      told : transferStep d host (deviceOf c) (transferredBy (rules.queueNumber d) (restOf c .registers) (runOf g m′ host′))
+          ≡ leaves (flowedCard way g c) (answerBy (rules.queueNumber d) (g .stop)) (g .moved) (take (g .moved) host′) (bufferOf d host′) m′
       unfolding transferStep runOf deviceOf restOf
       told = rw (after way, counted, buffer d)
 
       pub transfer-new : stepOf c (transferOf d host) m
-          ≡ leaves (flowedCard way g c) (cond (g .sound) done queueBroken) (g .moved) (take (g .moved) host′) (bufferOf d host′) m′
+          ≡ leaves (flowedCard way g c) (answerBy (rules.queueNumber d) (g .stop)) (g .moved) (take (g .moved) host′) (bufferOf d host′) m′
       transfer-new = by-check (Check.New n) h ∙ rw (queue-in c way, ← run) told

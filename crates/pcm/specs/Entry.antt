@@ -3,12 +3,15 @@ use mathlib.Core.Bool.{cond}
 use mathlib.Core.List.{List, []}
 use Prim.Native.Nat.{ℕ}
 use lib.Dec.{eqb}
-use Rattle.registers.specs.Answers.{done, lengthDiffers, notLive, notRunning, queueBroken}
+use Rattle.registers.specs.Answers.{done, lengthDiffers, notLive, notRunning, plain}
 use Rattle.registers.specs.Rules.{live, broken}
 use Rattle.registers.specs.declared.Registers.{Registers}
+use Rattle.ring.specs.declared.Cause.{Cause}
 use Rattle.card.specs.declared.Card.{Card}
+use Rattle.message.specs.Message.{directionOf}
 use Rattle.message.specs.declared.Direction.{Direction}
-use Rattle.rules.specs.Calls.{Request, Play, Capture, isRunning, brokenUnless}
+use Rattle.rules.specs.Answers.{brokenAnswer, answerBy, brokenBy}
+use Rattle.rules.specs.Calls.{Request, Play, Capture, isRunning}
 use Rattle.rules.specs.Device as rules
 use Rattle.stream.specs.Queue.{withRegisters, withFlow}
 use Rattle.flow.specs.declared.Flow.{Flow}
@@ -30,14 +33,23 @@ refusalOf r len id =
 
 -- registers after a flow: "bit 0 clear sets ISR bit 0", and answer 9 where a bad head was met
 abbrev pub registersAfter : Flow → Registers → Registers
-registersAfter f g = brokenUnless (f .sound) (rules.signalledIf (f .signal) g)
+registersAfter f g = brokenBy (f .stop) (rules.signalledIf (f .signal) g)
 
 abbrev pub flowedCard : Direction → Flow → Card → Card
 flowedCard d f c = withFlow d f (withRegisters (registersAfter f (c .registers)) c)
 
--- the answer where the queue is broken, and after a flow
-abbrev pub brokenAnswer : Card → TransferAnswer
-brokenAnswer c = record { answer = queueBroken; count = 0; card = withRegisters (broken (c .registers)) c }
+-- the answer where nothing was done, where the queue is broken, and after a flow
+abbrev pub untouchedBy : ℕ → Card → TransferAnswer
+untouchedBy number c = record { answer = plain number; count = 0; card = c }
+
+abbrev pub brokenDown : Direction → Cause → Card → TransferAnswer
+brokenDown d cause c =
+    record {
+      answer = brokenAnswer (rules.queueNumber (directionOf d)) cause;
+      count = 0;
+      card = withRegisters (broken (c .registers)) c;
+    }
 
 abbrev pub flowAnswer : Card → Direction → Flow → TransferAnswer
-flowAnswer c d f = record { answer = cond (f .sound) done queueBroken; count = f .moved; card = flowedCard d f c }
+flowAnswer c d f =
+    record { answer = answerBy (rules.queueNumber (directionOf d)) (f .stop); count = f .moved; card = flowedCard d f c }

@@ -5,15 +5,21 @@ ghost use lib.ListN.{take};
 ghost use Rattle.card.specs.Fit.{Fit};
 ghost use Rattle.meaning.specs.Card.{restOf, stepOf, leaves};
 ghost use Rattle.rules.specs.Calls.{Request, isRunning};
-ghost use Rattle.pcm.specs.Entry.{refusalOf, flowedCard, brokenAnswer, flowAnswer};
+ghost use Rattle.message.specs.Message.{directionOf};
+ghost use Rattle.rules.specs.Answers.{answerBy};
+ghost use Rattle.rules.specs.Device.{queueNumber};
+ghost use Rattle.pcm.specs.Entry.{refusalOf, flowedCard, untouchedBy, brokenDown, flowAnswer};
 use card::Card;
 use message::Direction;
+use registers::Answer;
+use ring::Cause;
+use ring::Stop;
 use transfer::Flow;
 
 // What a call answers: the count is the bytes handed on, or consumed.
 #[repr(C)]
 pub struct TransferAnswer {
-    pub answer: u8,
+    pub answer: Answer,
     pub count: usize,
     pub card: Card,
 }
@@ -63,7 +69,8 @@ fn flowed(card: Card, direction: Direction, f: Flow) -> Card
     let mut next = card;
     let registers = card.registers;
     let signalled = stream::signal_if(f.signal, registers);
-    next.registers = stream::break_unless(f.sound, signalled);
+    let stop = f.stop;
+    next.registers = stream::break_by(stop, signalled);
     stream::with_flow(next, direction, f)
 }
 
@@ -76,11 +83,7 @@ pub fn play(card: Card, m: &mut [u8], host: &mut [u8]) -> TransferAnswer
 {
     let refused = refusal(card, m.len(), 0);
     if refused != 0 {
-        return TransferAnswer {
-            answer: refused,
-            count: 0,
-            card: card,
-        };
+        return untouched(card, refused);
     }
     let q = stream::virtqueue(card, Direction::Output);
     let queues = card.queues;
@@ -88,12 +91,8 @@ pub fn play(card: Card, m: &mut [u8], host: &mut [u8]) -> TransferAnswer
     let message = card.play;
     let size = message::queue_size(Direction::Output);
     match ring::check_queue(m, q.page, size, counters.taken, message.count) {
-        ring::Check::Idle => TransferAnswer {
-            answer: registers::DONE,
-            count: 0,
-            card: card,
-        },
-        ring::Check::Broken(_) => broken_down(card),
+        ring::Check::Idle => untouched(card, registers::DONE),
+        ring::Check::Broken(cause) => broken_down(card, Direction::Output, cause),
         ring::Check::New(new) => {
             let f = transfer::play(m, host, q, counters, message, new);
             transferred(card, Direction::Output, f)
@@ -109,11 +108,7 @@ pub fn capture(card: Card, m: &mut [u8], host: &[u8]) -> TransferAnswer
 {
     let refused = refusal(card, m.len(), 1);
     if refused != 0 {
-        return TransferAnswer {
-            answer: refused,
-            count: 0,
-            card: card,
-        };
+        return untouched(card, refused);
     }
     let q = stream::virtqueue(card, Direction::Input);
     let queues = card.queues;
@@ -121,12 +116,8 @@ pub fn capture(card: Card, m: &mut [u8], host: &[u8]) -> TransferAnswer
     let message = card.capture;
     let size = message::queue_size(Direction::Input);
     match ring::check_queue(m, q.page, size, counters.taken, message.count) {
-        ring::Check::Idle => TransferAnswer {
-            answer: registers::DONE,
-            count: 0,
-            card: card,
-        },
-        ring::Check::Broken(_) => broken_down(card),
+        ring::Check::Idle => untouched(card, registers::DONE),
+        ring::Check::Broken(cause) => broken_down(card, Direction::Input, cause),
         ring::Check::New(new) => {
             let f = transfer::capture(m, host, q, counters, message, new);
             transferred(card, Direction::Input, f)
@@ -134,17 +125,38 @@ pub fn capture(card: Card, m: &mut [u8], host: &[u8]) -> TransferAnswer
     }
 }
 
+// Nothing was done: a check refuses the call, or the queue is idle.
+fn untouched(card: Card, number: u8) -> TransferAnswer
+    ensures { λ r. ⌜ r ≡ untouchedBy number card ⌝ }
+{
+    TransferAnswer {
+        answer: registers::plain(number),
+        count: 0,
+        card: card,
+    }
+}
+
 // The queue is broken: nothing was done.
-fn broken_down(card: Card) -> TransferAnswer
-    ensures { λ r. ⌜ r ≡ brokenAnswer card ⌝ }
+fn broken_down(card: Card, direction: Direction, cause: Cause) -> TransferAnswer
+    ensures { λ r. ⌜ r ≡ brokenDown direction cause card ⌝ }
 {
     let registers = card.registers;
     let mut next = card;
     next.registers = registers.break_down();
     TransferAnswer {
-        answer: registers::QUEUE_BROKEN,
+        answer: rules::broken_answer(message::queue_number(direction), cause),
         count: 0,
         card: next,
+    }
+}
+
+// The answer of a call on the queue of a direction that went on, or was stopped by it.
+fn answer_by(direction: Direction, stop: Stop) -> Answer
+    ensures { λ r. ⌜ r ≡ answerBy (queueNumber (directionOf direction)) stop ⌝ }
+{
+    match stop {
+        Stop::Going => registers::plain(registers::DONE),
+        Stop::Broke(cause) => rules::broken_answer(message::queue_number(direction), cause),
     }
 }
 
@@ -152,17 +164,10 @@ fn broken_down(card: Card) -> TransferAnswer
 fn transferred(card: Card, direction: Direction, f: Flow) -> TransferAnswer
     ensures { λ r. ⌜ r ≡ flowAnswer card direction f ⌝ }
 {
-    let next = flowed(card, direction, f);
-    if f.sound {
-        return TransferAnswer {
-            answer: registers::DONE,
-            count: f.moved,
-            card: next,
-        };
-    }
+    let stop = f.stop;
     TransferAnswer {
-        answer: registers::QUEUE_BROKEN,
+        answer: answer_by(direction, stop),
         count: f.moved,
-        card: next,
+        card: flowed(card, direction, f),
     }
 }

@@ -1,5 +1,6 @@
 -- 01, Answers to the monitor: the number of each answer.
 use Prim.Native.Nat.{ℕ}
+use Rattle.registers.specs.declared.answers.Answer.{Answer}
 
 abbrev pub done : ℕ
 done = 0
@@ -33,3 +34,11 @@ queueBroken = 9
 
 abbrev pub badDescription : ℕ
 badDescription = 10
+
+-- ---- an answer names the queue that broke, or none
+
+abbrev pub noQueue : ℕ
+noQueue = 255
+
+abbrev pub plain : ℕ → Answer
+plain number = record { number = number; queue = noQueue }

@@ -1,4 +1,7 @@
 // The monitor's answers, as 01 numbers them.
+ghost use mathlib.Core.Path.{_≡_};
+ghost use Rattle.registers.specs.Answers.{plain};
+
 pub const DONE: u8 = 0;
 
 pub const LENGTH_DIFFERS: u8 = 1;
@@ -20,3 +23,23 @@ pub const NO_EVENT_BUFFER: u8 = 8;
 pub const QUEUE_BROKEN: u8 = 9;
 
 pub const BAD_DESCRIPTION: u8 = 10;
+
+// The queue that an answer names where it names none.
+pub const NO_QUEUE: u8 = 255;
+
+// An answer: its number, and the queue that broke.
+#[repr(C)]
+pub struct Answer {
+    pub number: u8,
+    pub queue: u8,
+}
+
+// An answer that names no queue.
+pub fn plain(number: u8) -> Answer
+    ensures { λ r. ⌜ r ≡ plain number ⌝ }
+{
+    Answer {
+        number: number,
+        queue: NO_QUEUE,
+    }
+}

@@ -13,17 +13,20 @@ pub use register_map::register_at;
 
 mod answers;
 
+pub use answers::Answer;
 pub use answers::BAD_DESCRIPTION;
 pub use answers::DONE;
 pub use answers::EVENT_NOT_ALLOWED;
 pub use answers::LENGTH_DIFFERS;
 pub use answers::NO_EVENT_BUFFER;
+pub use answers::NO_QUEUE;
 pub use answers::NO_SUCH_ACCESS;
 pub use answers::NOT_LIVE;
 pub use answers::NOT_RUNNING;
 pub use answers::QUEUE_BROKEN;
 pub use answers::VALUE_TOO_WIDE;
 pub use answers::WRONG_DIRECTION;
+pub use answers::plain;
 
 // VIRTIO_RING_F_INDIRECT_DESC, the one feature that is offered.
 pub const HOST_FEATURES: u32 = 268435456;

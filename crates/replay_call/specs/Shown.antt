@@ -25,15 +25,15 @@ irqIn d = cond (raised (d .rest .registers)) 1 0
 
 -- "LINE ANSWER VALUE RUNG IRQ: VALUE 0 for a write; RUNG the queue that a NOTIFY rang"
 abbrev pub registerTold : ℕ → ℕ → Told → Text
-registerTold line irq t = registerText line (t .answer) (t .value) (t .rung) irq
+registerTold line irq t = registerText line (t .answer .number) (t .value) (t .rung) irq
 
 -- "LINE ANSWER COUNT IRQ SUM: SUM is the Adler-32 checksum of the memory lent, after the call"
 abbrev pub callTold : ℕ → ℕ → Told → Text
-callTold line irq t = callText line (t .answer) (t .count) irq (adler (t .memory))
+callTold line irq t = callText line (t .answer .number) (t .count) irq (adler (t .memory))
 
 -- "HOST is the Adler-32 checksum of the whole host buffer after the call"
 abbrev pub playTold : ℕ → ℕ → Told → Text
-playTold line irq t = playText line (t .answer) (t .count) irq (adler (t .memory)) (adler (t .host))
+playTold line irq t = playText line (t .answer .number) (t .count) irq (adler (t .memory)) (adler (t .host))
 
 abbrev pub textFor : Request → ℕ → ℕ → Told → Text
 textFor (ReadRegister offset width) = registerTold

@@ -30,10 +30,10 @@ fn irq(card: Card) -> u8
 
 // `LINE ANSWER COUNT IRQ SUM`
 fn sum_text(line: u64, told: Outcome, irq: u8, m: &[u8]) -> Text
-    ensures { λ r. ⌜ r ≡ callText line (told .answer) (told .count) irq (adler (now (m .entry))) ⌝ }
+    ensures { λ r. ⌜ r ≡ callText line (told .answer .number) (told .count) irq (adler (now (m .entry))) ⌝ }
 {
     let sum = replay_text::adler32(m);
-    replay_text::call_text(line, told.answer, told.count, irq, sum)
+    replay_text::call_text(line, told.answer.number, told.count, irq, sum)
 }
 
 // What is printed for a request that told this, with memory and host buffer as it left them.
@@ -45,16 +45,16 @@ fn text(line: u64, request: Request, told: Outcome, m: &[u8], host: &[u8]) -> Te
     let raised = irq(card);
     match request {
         Request::Read(_, _) => {
-            replay_text::register_text(line, told.answer, told.value, told.rung, raised)
+            replay_text::register_text(line, told.answer.number, told.value, told.rung, raised)
         }
         Request::Write(_, _, _) => {
-            replay_text::register_text(line, told.answer, told.value, told.rung, raised)
+            replay_text::register_text(line, told.answer.number, told.value, told.rung, raised)
         }
         Request::Control => sum_text(line, told, raised, m),
         Request::Play => {
             let sum = replay_text::adler32(m);
             let heard = replay_text::adler32(host);
-            replay_text::play_text(line, told.answer, told.count, raised, sum, heard)
+            replay_text::play_text(line, told.answer.number, told.count, raised, sum, heard)
         }
         Request::Capture => sum_text(line, told, raised, m),
         Request::Event(_, _) => sum_text(line, told, raised, m),

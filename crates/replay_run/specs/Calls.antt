@@ -14,14 +14,14 @@ stepIn d q m = step countersOf d (record { asked = q; lent = m })
 
 -- "r, w: LINE ANSWER VALUE RUNG IRQ"; "control, event, capture: LINE ANSWER COUNT IRQ SUM", and "play" with HOST
 abbrev pub registerPrinted : ℕ → Step (Device Queue) → List ℕ
-registerPrinted line s = registerBytes line (s .told .answer) (s .told .value) (s .told .rung) (irqIn (s .state))
+registerPrinted line s = registerBytes line (s .told .answer .number) (s .told .value) (s .told .rung) (irqIn (s .state))
 
 abbrev pub callPrinted : ℕ → Step (Device Queue) → List ℕ
-callPrinted line s = callBytes line (s .told .answer) (s .told .count) (irqIn (s .state)) (adler (s .told .memory))
+callPrinted line s = callBytes line (s .told .answer .number) (s .told .count) (irqIn (s .state)) (adler (s .told .memory))
 
 abbrev pub playPrinted : ℕ → Step (Device Queue) → List ℕ
 playPrinted line s =
-    playBytes line (s .told .answer) (s .told .count) (irqIn (s .state)) (adler (s .told .memory)) (adler (s .told .host))
+    playBytes line (s .told .answer .number) (s .told .count) (irqIn (s .state)) (adler (s .told .memory)) (adler (s .told .host))
 
 abbrev pub printed : Request → ℕ → Step (Device Queue) → List ℕ
 printed (ReadRegister offset width) = registerPrinted

@@ -20,6 +20,12 @@ pub enum Cause {
     Head,
 }
 
+// Where a call stands with a queue: it goes on, or the queue is broken.
+pub enum Stop {
+    Going,
+    Broke(Cause),
+}
+
 // What a call finds of a queue before it takes an entry.
 pub enum Check {
     // base 0

@@ -6,14 +6,15 @@ use mathlib.Core.List.{List, [], _++_, append-nil}
 use Prim.Native.Nat.{ℕ}
 use lib.Dec.{eqb}
 use lib.ListN.{length}
-use Rattle.registers.specs.Answers.{notLive, lengthDiffers, notRunning}
+use Rattle.registers.specs.Answers.{notLive, lengthDiffers, notRunning, plain}
 use Rattle.registers.specs.Rules.{writeOf, live}
 use Rattle.registers.specs.declared.Registers.{Registers}
+use Rattle.registers.specs.declared.answers.Answer.{Answer}
 use Rattle.registers.proofs.Keeps.{by-cond}
 use Rattle.ring.specs.declared.Check.{Check}
 use Rattle.rules.specs.Calls.{Request, ReadRegister, WriteRegister, Control, Play, Capture, Event, Step, Result, Order, Done, ReleaseFirst, Pending, Emptied, emptied, virtqueueOf, clearsQueue, orderOf, releasedOf, Transferred, untouched, isRunning, transferFound, transferred, eventOf, ended, readStep, writeStep, releaseStep, ordered, transferStep, transferBy, asked}
 use Rattle.rules.specs.Claim.{clears, bytesFor, shownAs}
-use Rattle.rules.specs.Device.{Direction, output, input, streamNumber, directionOf, Virtqueue, Rest, Device, queueFor, withQueue, withRegisters}
+use Rattle.rules.specs.Device.{Direction, output, input, streamNumber, queueNumber, directionOf, Virtqueue, Rest, Device, queueFor, withQueue, withRegisters}
 use Rattle.rules.specs.Transfer.{Ops, found}
 use Rattle.rules.proofs.Cases.{map-cond, by-cond₂}
 use Rattle.rules.proofs.Natural.{Alike, lowEmptied, lowTransferred, found-same, transferredBy-same, transfer-keeps, emptied-same, emptied-keeps}
@@ -33,7 +34,7 @@ module _
     (q : H)
     (m host : List ℕ)
     (i : I w q) where
-  untouched-same : (answer : ℕ) (g : Registers) → untouched answer g (f q) m ≡ lowTransferred f (untouched answer g q m)
+  untouched-same : (answer : Answer) (g : Registers) → untouched answer g (f q) m ≡ lowTransferred f (untouched answer g q m)
   unfolding lowTransferred
   untouched-same answer g = refl
 
@@ -41,7 +42,7 @@ module _
   unfolding lowTransferred
   transferFound-same Check.Idle = refl
   transferFound-same (Check.Broken cause) = refl
-  transferFound-same (Check.New n) = transferredBy-same A D (virtqueueOf r d) f I L w (r .registers) n q m host i
+  transferFound-same (Check.New n) = transferredBy-same A D (virtqueueOf r d) f I L w (queueNumber d) (r .registers) n q m host i
 
   pub transferred-same : transferred D d r (f q) m host ≡ lowTransferred f (transferred A d r q m host)
   unfolding transferred
@@ -54,14 +55,14 @@ module _
       (λ e.
       rw (found-same A D (virtqueueOf r d) f I L w q m)
       (transferFound-same (found A (virtqueueOf r d) q m)))
-      (λ e. untouched-same notRunning (r .registers)))
-      (λ e. untouched-same notLive (r .registers)))
-      (λ e. untouched-same lengthDiffers (r .registers))
+      (λ e. untouched-same (plain notRunning) (r .registers)))
+      (λ e. untouched-same (plain notLive) (r .registers)))
+      (λ e. untouched-same (plain lengthDiffers) (r .registers))
 
   abbrev Moved : Transferred H → Type 0
   Moved t = I (w ++ t .bytes) (t .queue)
 
-  untouched-keeps : (answer : ℕ) (g : Registers) → Moved (untouched answer g q m)
+  untouched-keeps : (answer : Answer) (g : Registers) → Moved (untouched answer g q m)
   untouched-keeps answer g = rw append-nil i
 
   transferFound-keeps : (c : Check) → Moved (transferFound A d r q m host c)
@@ -78,9 +79,9 @@ module _
       (λ e.
       by-cond Moved (isRunning r (streamNumber d))
       (λ e. transferFound-keeps (found A (virtqueueOf r d) q m))
-      (λ e. untouched-keeps notRunning (r .registers)))
-      (λ e. untouched-keeps notLive (r .registers)))
-      (λ e. untouched-keeps lengthDiffers (r .registers))
+      (λ e. untouched-keeps (plain notRunning) (r .registers)))
+      (λ e. untouched-keeps (plain notLive) (r .registers)))
+      (λ e. untouched-keeps (plain lengthDiffers) (r .registers))
 
 -- ---- whole calls
 
@@ -110,7 +111,7 @@ module _
   releaseStep-same : (id : ℕ) (p : Pending) (e : Emptied H) → releaseStep id p (shownAs f b) (lowEmptied f e) ≡ low f (releaseStep id p b e)
   unfolding releaseStep lowEmptied low
   releaseStep-same id p e =
-      rw (shown-with (directionOf id) (releasedOf id p (e .mem) (e .sound) (e .signal) .rest) (e .queue))
+      rw (shown-with (directionOf id) (releasedOf id p (e .mem) (e .stop) (e .signal) .rest) (e .queue))
 
   ordered-same : (o : Order) → ordered D o (shownAs f b) m ≡ low f (ordered A o b m)
   unfolding low
@@ -172,7 +173,7 @@ module _
       → Kept d [] (releaseStep id p b e)
   unfolding releaseStep
   releaseStep-keeps d id p e k =
-      put-back d (directionOf id) (releasedOf id p (e .mem) (e .sound) (e .signal) .rest) (e .queue) (rw append-nil k)
+      put-back d (directionOf id) (releasedOf id p (e .mem) (e .stop) (e .signal) .rest) (e .queue) (rw append-nil k)
 
   ended-keeps : (d : Direction) (o : Result) → Kept d [] (ended o b)
   ended-keeps output o = untold output

@@ -9,16 +9,18 @@ use native.Mathlib.Omega.{arith}
 use borrow.Author.Tests.{eqb-true}
 use lib.Dec.{eqb, ltb}
 use lib.ListN.{length, length-drop}
-use Rattle.registers.specs.Answers.{done, queueBroken}
+use Rattle.registers.specs.Answers.{done}
 use Rattle.registers.specs.Rules.{live}
 use Rattle.registers.proofs.Keeps.{by-cond}
 use Rattle.ring.specs.Layout.{endAt}
 use Rattle.ring.specs.Rules.{baseOf, newOf, indexOf, foundOf}
 use Rattle.ring.specs.declared.Cause.{Cause}
 use Rattle.ring.specs.declared.Check.{Check}
+use Rattle.ring.specs.declared.Stop.{Stop}
+use Rattle.rules.specs.Answers.{numberOf, going, answerBy}
 use Rattle.rules.specs.Calls.{Control, Play, ReleaseFirst, Pending, emptiedFound, emptied, virtqueueOf, orderOf, releasedOf, Transferred, isRunning, transferFound, transferred, releaseStep, transferStep, asked}
 use Rattle.rules.specs.Claim.{Good, queueOf, card, account}
-use Rattle.rules.specs.Device.{Direction, output, streamNumber, Virtqueue, queueSize, Rest, Device}
+use Rattle.rules.specs.Device.{Direction, output, streamNumber, queueNumber, Virtqueue, queueSize, Rest, Device}
 use Rattle.rules.specs.Histories.{History}
 use Rattle.rules.specs.Transfer.{Ops, Run, begun, transferRun, releaseRun, found}
 use Rattle.rules.proofs.Histories.{free, alike}
@@ -66,10 +68,10 @@ module _ (v : Virtqueue) where
       (λ e. k)))
 
   module _ (w : List ℕ) (q : History) (m : List ℕ) (g : Good (v .direction) w q) (based : v .page .0 ≡ 0 → ⊥) where
-    pub release-drains : emptied ops v q m .sound ≡ true → Drained (indexIn v m) (emptied ops v q m .queue)
+    pub release-drains : going (emptied ops v q m .stop) ≡ true → Drained (indexIn v m) (emptied ops v q m .queue)
     unfolding emptied
     release-drains =
-        found-based (λ (c : Check). emptiedFound ops v q m c .sound ≡ true → Drained (indexIn v m) (emptiedFound ops v q m c .queue))
+        found-based (λ (c : Check). going (emptiedFound ops v q m c .stop) ≡ true → Drained (indexIn v m) (emptiedFound ops v q m c .queue))
         q m based (λ c e. absurd (false≢true e))
         (λ e.
         drained (indexIn v m) q (releaseRun ops v (ops .new q (indexIn v m)) (begun q m []))
@@ -79,7 +81,7 @@ module _ (v : Virtqueue) where
       abbrev run : Run History
       run = transferRun ops v (ops .new q (indexIn v m)) (begun q m host)
 
-      pub run-drains : run .sound ≡ true → length (run .bytes) < length host → Drained (indexIn v m) (run .queue)
+      pub run-drains : going (run .stop) ≡ true → length (run .bytes) < length host → Drained (indexIn v m) (run .queue)
       run-drains e l =
           let n = ops .new q (indexIn v m) in
           let p : Past ops v host run = run-past ops v host n q m in
@@ -90,9 +92,15 @@ module _ (v : Virtqueue) where
 
 -- ---- a transfer
 
-sound-done : (b : Bool) → cond b done queueBroken ≡ done → b ≡ true
-sound-done true e = refl
-sound-done false e = absurd (omega arith)
+-- answer 0 is given where nothing broke
+no-cause-done : (c : Cause) → numberOf c ≡ done → ⊥
+no-cause-done Cause.Region e = omega arith
+no-cause-done Cause.Entries e = omega arith
+no-cause-done Cause.Head e = omega arith
+
+going-done : (n : ℕ) (s : Stop) → answerBy n s .number ≡ done → going s ≡ true
+going-done n Stop.Going e = refl
+going-done n (Stop.Broke cause) e = absurd (no-cause-done cause e)
 
 module _
     (d : Direction) (w : List ℕ) (r : Rest) (q : History) (m host : List ℕ) (g : Good d w q) (based : virtqueueOf r d .page .0 ≡ 0 → ⊥) where
@@ -101,7 +109,7 @@ module _
 
   -- by its answer and its count
   abbrev Drains : Transferred History → Type 0
-  Drains t = t .answer ≡ done → length (t .bytes) < length host → Drained (indexIn v m) (t .queue)
+  Drains t = t .answer .number ≡ done → length (t .bytes) < length host → Drained (indexIn v m) (t .queue)
 
   pub transfer-drains : Drains (transferred (account d) d r q m host)
   unfolding transferred
@@ -112,8 +120,8 @@ module _
       (λ e.
       by-cond Drains (isRunning r (streamNumber d))
       (λ e.
-      found-based v (λ (c : Check). Drains (transferFound (account d) d r q m host c)) q m based (λ c a. absurd (omega arith))
-      (λ a l. run-drains v w q m g based host (sound-done _ a) l))
+      found-based v (λ (c : Check). Drains (transferFound (account d) d r q m host c)) q m based (λ c a. absurd (no-cause-done c a))
+      (λ a l. run-drains v w q m g based host (going-done (queueNumber d) (run v w q m g based host .stop) a) l))
       (λ e a. absurd (omega arith)))
       (λ e a. absurd (omega arith)))
       (λ e a. absurd (omega arith))
@@ -123,7 +131,7 @@ module _
 module _ (w : List ℕ) (b : Device History) (m : List ℕ) (g : Good output w (b .play)) where
   pub play-drains :
       (host : List ℕ)
-      → asked account (Play host) b m .told .answer ≡ done
+      → asked account (Play host) b m .told .answer .number ≡ done
       → asked account (Play host) b m .told .count < length host
       → (virtqueueOf (b .rest) output .page .0 ≡ 0 → ⊥)
       → Drained (indexIn (virtqueueOf (b .rest) output) m) (asked account (Play host) b m .state .play)
@@ -131,21 +139,22 @@ module _ (w : List ℕ) (b : Device History) (m : List ℕ) (g : Good output w (
   play-drains host a l based = transfer-drains output w (b .rest) (b .play) m host g based a l
 
   -- a Release that answers 0 broke nothing
-  released-sound : (p : Pending) (x : List ℕ) (sound signal : Bool) → releasedOf 0 p x sound signal .answer ≡ done → sound ≡ true
+  released-going :
+      (p : Pending) (x : List ℕ) (stop : Stop) (signal : Bool) → releasedOf 0 p x stop signal .answer .number ≡ done → going stop ≡ true
   unfolding releasedOf
-  released-sound p x true signal a = refl
-  released-sound p x false signal a = absurd (omega arith)
+  released-going p x Stop.Going signal a = refl
+  released-going p x (Stop.Broke cause) signal a = going-done 2 (Stop.Broke cause) a
 
   pub output-release-drains :
       (p : Pending)
       → orderOf (b .rest) m ≡ ReleaseFirst 0 p
-      → asked account Control b m .told .answer ≡ done
+      → asked account Control b m .told .answer .number ≡ done
       → (virtqueueOf (p .rest) output .page .0 ≡ 0 → ⊥)
       → Drained (indexIn (virtqueueOf (p .rest) output) m) (asked account Control b m .state .play)
   unfolding releaseStep
   output-release-drains p o a based =
       let e = emptied (account output) (virtqueueOf (p .rest) output) (b .play) m in
-      rw o (release-drains (virtqueueOf (p .rest) output) w (b .play) m g based (released-sound p (e .mem) (e .sound) (e .signal) (rw o at a)))
+      rw o (release-drains (virtqueueOf (p .rest) output) w (b .play) m g based (released-going p (e .mem) (e .stop) (e .signal) (rw o at a)))
 
 -- what a drained history stands for: no message in work, and as many taken as the index says
 pub drained-queue : (index : ℕ) (h : History) → Drained index h → (queueOf h .work ≡ none) × (queueOf h .taken ≡ index % 65536)

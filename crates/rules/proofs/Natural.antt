@@ -12,6 +12,7 @@ use Rattle.registers.proofs.Keeps.{by-cond}
 use Rattle.ring.specs.Rules.{headAt, indexOf}
 use Rattle.ring.specs.declared.Check.{Check}
 use Rattle.ring.specs.declared.Head.{Head}
+use Rattle.rules.specs.Answers.{going}
 use Rattle.rules.specs.Calls.{Emptied, emptiedBy, emptiedFound, emptied, Transferred, transferredBy}
 use Rattle.rules.specs.Device.{Direction, Virtqueue, queueSize, Taking, Ending, finished, released, illFormed}
 use Rattle.rules.specs.Loop.{loop}
@@ -87,7 +88,7 @@ ill-formed-none d t e = rw e
 
 -- what a call made of a queue, shown
 unfoldable pub lowEmptied : {H Q : Type 0} → (H → Q) → Emptied H → Emptied Q
-lowEmptied f e = record { queue = f (e .queue); mem = e .mem; sound = e .sound; signal = e .signal }
+lowEmptied f e = record { queue = f (e .queue); mem = e .mem; stop = e .stop; signal = e .signal }
 
 unfoldable pub lowTransferred : {H Q : Type 0} → (H → Q) → Transferred H → Transferred Q
 lowTransferred f t =
@@ -111,7 +112,7 @@ module _
         bytes = r .bytes;
         host = r .host;
         room = r .room;
-        sound = r .sound;
+        stop = r .stop;
         signal = r .signal;
       }
 
@@ -290,7 +291,7 @@ module _
         (λ e. refl))
 
     pub transfer-free : (s : Run H) → transferMore A v s ≡ true → A .idle (s .queue) ≡ true
-    transfer-free s e = and-eq-true-iff (s .sound && ltb 0 (s .room)) (A .idle (s .queue)) .0 e .1
+    transfer-free s e = and-eq-true-iff (going (s .stop) && ltb 0 (s .room)) (A .idle (s .queue)) .0 e .1
 
     transferMore-same : (s : Run H) → transferMore D v (lower s) ≡ transferMore A v s
     unfolding lower
@@ -318,7 +319,7 @@ module _
     Kept s = I w (s .queue)
 
     pub release-free : (s : Run H) → releaseMore A v s ≡ true → A .idle (s .queue) ≡ true
-    release-free s e = and-eq-true-iff (s .sound) (A .idle (s .queue)) .0 e .1
+    release-free s e = and-eq-true-iff (going (s .stop)) (A .idle (s .queue)) .0 e .1
 
     releaseMore-same : (s : Run H) → releaseMore D v (lower s) ≡ releaseMore A v s
     unfolding lower
@@ -345,18 +346,18 @@ module _
     pub found-same : (q : H) (m : List ℕ) → found D v (f q) m ≡ found A v q m
     found-same q m = rw (L .new-same q (indexOf m (v .page) (queueSize v)), L .idle-same q)
 
-    transferredBy-low : (g : Registers) (s : Run H) → transferredBy g (lower s) ≡ lowTransferred f (transferredBy g s)
+    transferredBy-low : (n : ℕ) (g : Registers) (s : Run H) → transferredBy n g (lower s) ≡ lowTransferred f (transferredBy n g s)
     unfolding lower lowTransferred
-    transferredBy-low g s = refl
+    transferredBy-low n g s = refl
 
     pub transferredBy-same :
-        (g : Registers) (k : ℕ) (q : H) (m host : List ℕ)
+        (n : ℕ) (g : Registers) (k : ℕ) (q : H) (m host : List ℕ)
         → I w q
-        → transferredBy g (transferRun D v k (begun (f q) m host))
-        ≡ lowTransferred f (transferredBy g (transferRun A v k (begun q m host)))
-    transferredBy-same g k q m host i =
+        → transferredBy n g (transferRun D v k (begun (f q) m host))
+        ≡ lowTransferred f (transferredBy n g (transferRun A v k (begun q m host)))
+    transferredBy-same n g k q m host i =
         rw (begun-same q m host, transferRun-alike w host k (begun q m host) (begun-moved w host q m i) .0)
-        (transferredBy-low g (transferRun A v k (begun q m host)))
+        (transferredBy-low n g (transferRun A v k (begun q m host)))
 
     pub transfer-keeps : (k : ℕ) (q : H) (m host : List ℕ) → I w q → Moved w host (transferRun A v k (begun q m host))
     transfer-keeps k q m host i = transferRun-alike w host k (begun q m host) (begun-moved w host q m i) .1

@@ -1,6 +1,6 @@
 -- What the account alone says, whatever the rules share with it: a Release that breaks nothing takes every new entry and leaves no
 -- message in work, and so does a transfer that ends with room left.
-use mathlib.Core.Path.{_≡_, refl, sym, _∙_}
+use mathlib.Core.Path.{_≡_, refl, sym, ap, _∙_}
 use mathlib.Core.Bool.{Bool, true, false, cond, _&&_, not, false≢true, true≢false, and-eq-true-iff}
 use mathlib.Core.List.{List}
 use Prim.Native.Nat.{ℕ, zero, suc, _+_, _-_, _≤_, _<_}
@@ -13,6 +13,7 @@ use Rattle.ranges.proofs.Laws.{length-upFrom}
 use Rattle.registers.proofs.Keeps.{by-cond}
 use Rattle.ring.specs.Rules.{headAt}
 use Rattle.ring.specs.declared.Head.{Head}
+use Rattle.rules.specs.Answers.{going}
 use Rattle.rules.specs.Claim.{Good, queueOf, card, account}
 use Rattle.rules.specs.Device.{Virtqueue, queueSize, Taking, Ending, finished, released, illFormed}
 use Rattle.rules.specs.Histories as history
@@ -30,12 +31,12 @@ size s = length (s .queue .takings)
 -- work takes nothing and breaks nothing; where `C` holds after it, it leaves no message in work
 record Left (C : Run History → Type 0) (s u : Run History) : Type 0 where
   size-is : size u ≡ size s
-  sound-is : u .sound ≡ s .sound
+  stop-is : u .stop ≡ s .stop
   free-is : C u → free (u .queue) ≡ true
 
 -- the next entry is taken, unless its head is bad
 record One (s u : Run History) : Type 0 where
-  one-is : u .sound ≡ true → size u ≡ size s + 1
+  one-is : going (u .stop) ≡ true → size u ≡ size s + 1
 
 module _ (v : Virtqueue) where
   abbrev ops : Ops History
@@ -69,7 +70,7 @@ module _ (v : Virtqueue) where
       → Left C s (completed ops v e s)
   unfolding completed history.entered
   completed-left C e s o =
-      record { size-is = refl; sound-is = refl; free-is = λ c. rw length-append (le-leb (size s) (number (s .queue) + 1) (omega arith)) }
+      record { size-is = refl; stop-is = refl; free-is = λ c. rw length-append (le-leb (size s) (number (s .queue) + 1) (omega arith)) }
 
   -- ---- the loop
 
@@ -79,25 +80,25 @@ module _ (v : Virtqueue) where
       (P C : Run History → Type 0)
       (w-left : (s : Run History) → P s → Left C s (work s))
       (w-keeps : (s : Run History) → P s → P (work s))
-      (m-sound : (s : Run History) → more s ≡ true → s .sound ≡ true)
-      (m-holds : (s : Run History) → s .sound ≡ true → C s → free (s .queue) ≡ true → more s ≡ true)
+      (m-going : (s : Run History) → more s ≡ true → going (s .stop) ≡ true)
+      (m-holds : (s : Run History) → going (s .stop) ≡ true → C s → free (s .queue) ≡ true → more s ≡ true)
       (n-keeps : (s : Run History) → P s → more s ≡ true → P (next ops v s)) where
     abbrev run : ℕ → Run History → Run History
     run k s = loop work more (next ops v) k s
 
     -- what is broken stays so
-    broken-stays : (k : ℕ) (s : Run History) → P s → s .sound ≡ false → run k s .sound ≡ false
+    broken-stays : (k : ℕ) (s : Run History) → P s → going (s .stop) ≡ false → going (run k s .stop) ≡ false
     unfolding loop
-    broken-stays zero s p e = w-left s p .sound-is ∙ e
+    broken-stays zero s p e = ap going (w-left s p .stop-is) ∙ e
     broken-stays (suc k) s p e =
-        by-cond (λ (u : Run History). u .sound ≡ false) (more (work s))
-        (λ m. absurd (true≢false (sym (m-sound (work s) m) ∙ w-left s p .sound-is ∙ e))) (λ m. w-left s p .sound-is ∙ e)
+        by-cond (λ (u : Run History). going (u .stop) ≡ false) (more (work s))
+        (λ m. absurd (true≢false (sym (m-going (work s) m) ∙ ap going (w-left s p .stop-is) ∙ e))) (λ m. ap going (w-left s p .stop-is) ∙ e)
 
     takes-all :
         (k : ℕ) (s : Run History)
         → P s
-        → s .sound ≡ true
-        → run k s .sound ≡ true
+        → going (s .stop) ≡ true
+        → going (run k s .stop) ≡ true
         → C (run k s)
         → (size (run k s) ≡ size s + k) × (free (run k s .queue) ≡ true)
     unfolding loop
@@ -113,10 +114,10 @@ module _ (v : Virtqueue) where
         -- of the next entry
         after-one :
             (b : Bool)
-            → onward .sound ≡ b
+            → going (onward .stop) ≡ b
             → P onward
-            → (onward .sound ≡ true → (size (run k onward) ≡ size onward + k) × (free (run k onward .queue) ≡ true))
-            → run k onward .sound ≡ true
+            → (going (onward .stop) ≡ true → (size (run k onward) ≡ size onward + k) × (free (run k onward .queue) ≡ true))
+            → going (run k onward .stop) ≡ true
             → (size (run k onward) ≡ size s + suc k) × (free (run k onward .queue) ≡ true)
         after-one true d pv ih q = (omega (arith, ih d .0, next-one u .one-is d, w-left s p .size-is), ih d .1)
         after-one false d pv ih q = absurd (false≢true (sym (broken-stays k onward pv d) ∙ q))
@@ -124,15 +125,15 @@ module _ (v : Virtqueue) where
         go :
             (b : Bool)
             → more u ≡ b
-            → (P onward → onward .sound ≡ true → run k onward .sound ≡ true → C (run k onward) → (size (run k onward) ≡ size onward + k) × (free (run k onward .queue) ≡ true))
-            → cond b (run k onward) u .sound ≡ true
+            → (P onward → going (onward .stop) ≡ true → going (run k onward .stop) ≡ true → C (run k onward) → (size (run k onward) ≡ size onward + k) × (free (run k onward .queue) ≡ true))
+            → going (cond b (run k onward) u .stop) ≡ true
             → C (cond b (run k onward) u)
             → (size (cond b (run k onward) u) ≡ size s + suc k) × (free (cond b (run k onward) u .queue) ≡ true)
         go true m ih q d =
             let pv : P onward = n-keeps u (w-keeps s p) m in
-            after-one (onward .sound) refl pv (λ o. ih pv o q d) q
+            after-one (going (onward .stop)) refl pv (λ o. ih pv o q d) q
         go false m ih q d =
-            absurd (true≢false (sym (m-holds u (w-left s p .sound-is ∙ e) d (w-left s p .free-is d)) ∙ m))
+            absurd (true≢false (sym (m-holds u (ap going (w-left s p .stop-is) ∙ e) d (w-left s p .free-is d)) ∙ m))
 
   -- ---- a Release
 
@@ -145,14 +146,14 @@ module _ (v : Virtqueue) where
 
     give-left : (s : Run History) → Kept s → Left Always s (givenUp ops v s)
     give-left s g =
-        by-cond (Left Always s) (free (s .queue)) (λ e. record { size-is = refl; sound-is = refl; free-is = λ c. e })
+        by-cond (Left Always s) (free (s .queue)) (λ e. record { size-is = refl; stop-is = refl; free-is = λ c. e })
         (λ e. completed-left Always released s (g .one))
 
     pub release-takes-all :
         (k : ℕ) (s : Run History)
         → Good (v .direction) w (s .queue)
-        → s .sound ≡ true
-        → releaseRun ops v k s .sound ≡ true
+        → going (s .stop) ≡ true
+        → going (releaseRun ops v k s .stop) ≡ true
         → (size (releaseRun ops v k s) ≡ size s + k)
         × (free (releaseRun ops v k s .queue) ≡ true)
     unfolding releaseRun
@@ -160,7 +161,7 @@ module _ (v : Virtqueue) where
         takes-all (givenUp ops v) (releaseMore ops v) Kept Always
         give-left
         (give-keeps ops (card (v .direction)) v queueOf (Good (v .direction)) (alike (v .direction)) (λ o. w))
-        (λ s m. and-eq-true-iff (s .sound) (free (s .queue)) .0 m .0)
+        (λ s m. and-eq-true-iff (going (s .stop)) (free (s .queue)) .0 m .0)
         (λ s q c f. rw (q, f))
         (λ s g m.
         next-keeps ops (card (v .direction)) v queueOf (Good (v .direction)) (alike (v .direction)) (λ o. w) s g
@@ -199,7 +200,7 @@ module _ (v : Virtqueue) where
 
       moved-on : (u : Run History) → Left Roomy now u → Left Roomy s u
       unfolding moved noted
-      moved-on u l = record { size-is = l .size-is; sound-is = l .sound-is; free-is = l .free-is }
+      moved-on u l = record { size-is = l .size-is; stop-is = l .stop-is; free-is = l .free-is }
 
       moved-one : size s ≤ suc (number (s .queue)) → size now ≤ suc (number (now .queue))
       unfolding moved noted
@@ -209,19 +210,19 @@ module _ (v : Virtqueue) where
       settled-left o =
           moved-on (settled ops v now)
           (by-cond (Left Roomy now) (isNil (ops .left (now .queue))) (λ e. completed-left Roomy finished now (moved-one o))
-          (λ e. record { size-is = refl; sound-is = refl; free-is = λ c. absurd (true≢false (sym (all-moved c) ∙ e)) }))
+          (λ e. record { size-is = refl; stop-is = refl; free-is = λ c. absurd (true≢false (sym (all-moved c) ∙ e)) }))
 
     worked-left : (s : Run History) → Played s → Left Roomy s (worked ops v s)
     worked-left s g =
         by-cond (Left Roomy s) (ltb 0 (s .room) && not (free (s .queue))) (λ e. settled-left s (g .kept .one))
         (λ e.
-        record { size-is = refl; sound-is = refl; free-is = λ c. not-false (free (s .queue)) (rw (lt-ltb 0 (s .room) c) at e) })
+        record { size-is = refl; stop-is = refl; free-is = λ c. not-false (free (s .queue)) (rw (lt-ltb 0 (s .room) c) at e) })
 
     pub transfer-takes-all :
         (k : ℕ) (s : Run History)
         → Played s
-        → s .sound ≡ true
-        → transferRun ops v k s .sound ≡ true
+        → going (s .stop) ≡ true
+        → going (transferRun ops v k s .stop) ≡ true
         → 0 < transferRun ops v k s .room
         → (size (transferRun ops v k s) ≡ size s + k)
         × (free (transferRun ops v k s .queue) ≡ true)
@@ -231,8 +232,8 @@ module _ (v : Virtqueue) where
         worked-left
         (worked-keeps ops (card (v .direction)) v queueOf (Good (v .direction)) (alike (v .direction)) w host)
         (λ s m.
-        and-eq-true-iff (s .sound) (ltb 0 (s .room)) .0
-        (and-eq-true-iff (s .sound && ltb 0 (s .room)) (free (s .queue)) .0 m .0) .0)
+        and-eq-true-iff (going (s .stop)) (ltb 0 (s .room)) .0
+        (and-eq-true-iff (going (s .stop) && ltb 0 (s .room)) (free (s .queue)) .0 m .0) .0)
         (λ s q c f. rw (q, lt-ltb 0 (s .room) c, f))
         (λ s g m.
         moved-next ops (card (v .direction)) v queueOf (Good (v .direction)) (alike (v .direction)) w host s g

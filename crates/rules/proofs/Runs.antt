@@ -16,6 +16,7 @@ use Rattle.registers.proofs.Keeps.{by-cond}
 use Rattle.ring.specs.Rules.{baseOf, headAt}
 use Rattle.ring.specs.declared.Head.{Head}
 use Rattle.rules.specs.Account.{InOrder, memoryAfter}
+use Rattle.rules.specs.Answers.{going}
 use Rattle.rules.specs.Claim.{Good, queueOf, card}
 use Rattle.rules.specs.Device.{output, Virtqueue, Form, wellFormed, refused, silent, unwalked, Taking, Ending, finished, released, illFormed}
 use Rattle.rules.specs.Histories as history
@@ -236,7 +237,7 @@ module _ (lies : Virtqueue) (m : List ℕ) (h : History) (w host : List ℕ) whe
 
   some-room : (s : Run History) → transferMore over vq s ≡ true → s .room ≡ 0 → ⊥
   some-room s e z =
-      let r = and-eq-true-iff (s .sound) (ltb 0 (s .room)) .0 (and-eq-true-iff (s .sound && ltb 0 (s .room)) (free (s .queue)) .0 e .0) .1 in
+      let r = and-eq-true-iff (going (s .stop)) (ltb 0 (s .room)) .0 (and-eq-true-iff (going (s .stop) && ltb 0 (s .room)) (free (s .queue)) .0 e .0) .1 in
       omega (arith, ltb-true 0 (s .room) r)
 
   next-playing : (s : Run History) → Playing s → transferMore over vq s ≡ true → Playing (next over vq s)

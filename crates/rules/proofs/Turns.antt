@@ -10,11 +10,14 @@ use native.Mathlib.Omega.{arith}
 use borrow.Author.Tests.{ne-eqb, leb-true, leb-false, lt-leb}
 use lib.Dec.{eqb, leb}
 use lib.ListN.{length, List·getD-append}
-use Rattle.registers.specs.Answers.{done, lengthDiffers, notLive, notRunning}
+use Rattle.registers.specs.Answers.{done, lengthDiffers, notLive, notRunning, plain}
 use Rattle.registers.specs.Map.{sizeOf}
 use Rattle.registers.specs.Rules.{live, writeOf, signalled}
 use Rattle.registers.specs.declared.Registers.{Registers}
+use Rattle.registers.specs.declared.answers.Answer.{Answer}
+use Rattle.ring.specs.declared.Cause.{Cause}
 use Rattle.ring.specs.declared.Check.{Check}
+use Rattle.ring.specs.declared.Stop.{Stop}
 use Rattle.rules.specs.Account.{takingAt, entryAt, entriesWritten, Answered, Adds, ifNew, ordersRelease, addsBy, startsAnew, releaseReplied, Turn, Book, end}
 use Rattle.rules.specs.Calls.{Request, ReadRegister, WriteRegister, Control, Play, Capture, Event, Call, Told, Order, Done, ReleaseFirst, Pending, Emptied, emptiedFound, emptied, virtqueueOf, clearsQueue, orderOf, replied, releasedOf, Transferred, untouched, isRunning, transferFound, transferred, readStep, writeStep, releaseStep, transferStep, ordered, asked}
 use Rattle.rules.specs.Claim.{Good, clears, account}
@@ -88,7 +91,7 @@ module _ (w : List ℕ) (h : History) (g : Good output w h) (b : Book h) where
           → Adds (virtqueueOf r output) finished m h (t .queue) (t .bytes) × (t .mem ≡ entriesWritten (pageOf r playQueue) h (t .queue) m)
       book : Book (t .queue)
 
-    unplayed : (answer : ℕ) (x : Registers) → Played (untouched answer x h m) none
+    unplayed : (answer : Answer) (x : Registers) → Played (untouched answer x h m) none
     unplayed answer x = record { same = λ e. refl; adds = λ e. absurd (none-some finished e); book = b }
 
     found-played : (c : Check) → Played (transferFound (account output) output r h m host c) (ifNew finished c)
@@ -111,7 +114,7 @@ module _ (w : List ℕ) (h : History) (g : Good output w h) (b : Book h) where
             (x y z : Bool)
             → Played
             (cond x (cond y (cond z (transferFound (account output) output r h m host (found (account output) (virtqueueOf r output) h m))
-            (untouched notRunning (r .registers) h m)) (untouched notLive (r .registers) h m)) (untouched lengthDiffers (r .registers) h m))
+            (untouched (plain notRunning) (r .registers) h m)) (untouched (plain notLive) (r .registers) h m)) (untouched (plain lengthDiffers) (r .registers) h m))
             (cond (x && y && z) (ifNew finished (found (account output) (virtqueueOf r output) h m)) none)
         go true true true = found-played (found (account output) (virtqueueOf r output) h m)
         go true true false = unplayed _ _
@@ -149,12 +152,14 @@ module _ (w : List ℕ) (h : History) (g : Good output w h) (b : Book h) where
 
 -- the memory that a Release leaves, by whether its queue broke
 release-memory :
-    (p : Pending) (m : List ℕ) (sound signal : Bool)
-    → releasedOf 0 p m sound signal .mem ≡ cond (eqb (releasedOf 0 p m sound signal .answer) done) (releaseReplied p m) m
+    (p : Pending) (m : List ℕ) (stop : Stop) (signal : Bool)
+    → releasedOf 0 p m stop signal .mem ≡ cond (eqb (releasedOf 0 p m stop signal .answer .number) done) (releaseReplied p m) m
 unfolding releasedOf replied bytesOf sizeOf signalled
-release-memory p m true true = refl
-release-memory p m true false = refl
-release-memory p m false signal = refl
+release-memory p m Stop.Going true = refl
+release-memory p m Stop.Going false = refl
+release-memory p m (Stop.Broke Cause.Region) signal = refl
+release-memory p m (Stop.Broke Cause.Entries) signal = refl
+release-memory p m (Stop.Broke Cause.Head) signal = refl
 
 play-no-release : (x : Bool) (c : Check) → cond x (ifNew finished c) none ≡ some released → ⊥
 play-no-release true c e = play-or-none c e
@@ -241,13 +246,13 @@ module _ (w : List ℕ) (b : Device History) (g : Good output w (b .play)) (k : 
       → let s = ordered account (orderOf (b .rest) m) b m in
       let x : List ℕ = entriesWritten (pageOf (p .rest) playQueue) h (s .state .play) m in
       Adds (virtqueueOf (p .rest) output) released m h (s .state .play) []
-      × (s .told .memory ≡ cond (eqb (s .told .answer) done) (releaseReplied p x) x)
+      × (s .told .memory ≡ cond (eqb (s .told .answer .number) done) (releaseReplied p x) x)
   unfolding releaseStep
   released-turn p o e =
       let q = given w h g k p m in
       let a = q .adds (rw o at e) in
       let l = emptied (account output) (virtqueueOf (p .rest) output) h m in
-      rw o (a .0, release-memory p (l .mem) (l .sound) (l .signal) ∙ rw (a .1))
+      rw o (a .0, release-memory p (l .mem) (l .stop) (l .signal) ∙ rw (a .1))
 
   write-anew : (offset width v : ℕ) → clearsQueue output (writeOf (b .rest .registers) offset width v .effect) ≡ startsAnew (WriteRegister offset width v) (b .rest)
   unfolding clears

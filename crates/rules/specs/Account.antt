@@ -183,7 +183,7 @@ pub record Turn (r : Rest) (h : History) (c : Call) (t : Told) (n : History) : T
       → orderOf r (c .lent) ≡ ReleaseFirst 0 p
       → addsBy (c .asked) r h (c .lent) ≡ some released
       → let m : List ℕ = entriesWritten (pageOf (p .rest) playQueue) h n (c .lent) in
-      Adds (virtqueueOf (p .rest) output) released (c .lent) h n [] × (t .memory ≡ cond (eqb (t .answer) done) (releaseReplied p m) m)
+      Adds (virtqueueOf (p .rest) output) released (c .lent) h n [] × (t .memory ≡ cond (eqb (t .answer .number) done) (releaseReplied p m) m)
 
 -- ---- what holds of a history
 

@@ -10,7 +10,7 @@ use lib.Seq.{sets}
 use Rattle.chain.specs.Walk.{Outcome, whole, faulted, walkOf}
 use Rattle.ranges.specs.Ranges.{total, places, bytesAt, putAt, allInside}
 use Rattle.ranges.specs.declared.Range.{Range}
-use Rattle.registers.specs.Answers.{done, lengthDiffers, notLive, notRunning, eventNotAllowed, noEventBuffer, queueBroken}
+use Rattle.registers.specs.Answers.{done, lengthDiffers, notLive, notRunning, eventNotAllowed, noEventBuffer, noQueue, plain}
 use Rattle.registers.specs.Map.{sizeOf}
 use Rattle.registers.specs.Rules.{readOf, writeOf, live, broken, hasBit}
 use Rattle.registers.specs.declared.Config.{Config}
@@ -19,12 +19,16 @@ use Rattle.registers.specs.declared.Effect.the-variants.{Nothing, Reset, Based,
 use Rattle.registers.specs.declared.Read.{Read}
 use Rattle.registers.specs.declared.Registers.{Registers}
 use Rattle.registers.specs.declared.Written.{Written}
+use Rattle.registers.specs.declared.answers.Answer.{Answer}
 use Rattle.ring.specs.Rules.{baseOf, checkOf, headOf, postedOf, interrupts}
+use Rattle.ring.specs.declared.Cause.{Cause}
 use Rattle.ring.specs.declared.Check.{Check}
 use Rattle.ring.specs.declared.Head.{Head}
+use Rattle.ring.specs.declared.Stop.{Stop}
 use Rattle.card.specs.Card.{noCounters, runningState, releasedState}
 use Rattle.card.specs.Rules.{jackReset, streamReset, rungOf}
 use Rattle.card.specs.declared.Jack.{Jack}
+use Rattle.rules.specs.Answers.{brokenAnswer, byStop, answerBy, brokenBy}
 use Rattle.rules.specs.Control.{Served, Reply, Release, served, status, noJack, withState, withStream}
 use Rattle.rules.specs.Device.{Direction, output, input, streamNumber, queueNumber, directionOf, Virtqueue, Rest, Device, queueFor, withQueue, withRegisters, withJacks, withControl, withEvent, pageOf, streamAt, signalledIf, oneTaken, oneCompleted, bytesOf}
 use Rattle.rules.specs.Numbers.{controlQueue, eventQueue, jackConnected, jackDisconnected, pcmXrun, sOk, sBadMsg}
@@ -49,7 +53,7 @@ pub record Call : Type 0 where
 -- "count": messages completed for control, bytes for play and capture; "bytes" are those a play handed on or a capture consumed;
 -- "host" is the host buffer after a play
 pub record Told : Type 0 where
-  pub answer : ℕ
+  pub answer : Answer
   pub value : ℕ
   pub rung : ℕ
   pub count : ℕ
@@ -64,17 +68,18 @@ pub record Step (S : Type 0) : Type 0 where
 -- what a call does to all but the stream queues
 pub record Result : Type 0 where
   pub rest : Rest
-  pub answer : ℕ
+  pub answer : Answer
   pub count : ℕ
   pub mem : List ℕ
 
 -- "nothing changed"
 abbrev pub refused : ℕ → Rest → List ℕ → Result
-refused answer r m = record { rest = r; answer = answer; count = 0; mem = m }
+refused number r m = record { rest = r; answer = plain number; count = 0; mem = m }
 
--- answer 9: "NEEDS_RESET and ISR bit 1 set"
-abbrev pub broke : Rest → List ℕ → Result
-broke r m = record { rest = withRegisters (broken (r .registers)) r; answer = queueBroken; count = 0; mem = m }
+-- a queue is broken: "NEEDS_RESET and ISR bit 1 set"
+abbrev pub broke : ℕ → Cause → Rest → List ℕ → Result
+broke queue cause r m =
+    record { rest = withRegisters (broken (r .registers)) r; answer = brokenAnswer queue cause; count = 0; mem = m }
 
 -- "1 RAM length differs from power-up", "5 device not live"
 abbrev pub admitted : {A : Type 0} → Rest → List ℕ → (ℕ → A) → A → A
@@ -152,7 +157,7 @@ replied p bytes m =
       rest =
           withRegisters (signalledIf (interrupts after base (sizeOf controlQueue)) (p .rest .registers))
           (withControl (oneCompleted (p .rest .control)) (p .rest));
-      answer = done;
+      answer = plain done;
       count = 1;
       mem = after;
     }
@@ -180,11 +185,11 @@ abbrev pub controlHead : Rest → List ℕ → Head → Order
 controlHead r m (Head.At n) =
     readMessage (withControl (oneTaken (r .control)) r) m (n .0)
     (walkOf m (baseOf (pageOf r controlQueue)) (sizeOf controlQueue) (n .0) (indirect r))
-controlHead r m (Head.Broken cause) = Done (broke r m)
+controlHead r m (Head.Broken cause) = Done (broke controlQueue cause r m)
 
 abbrev pub controlFound : Rest → List ℕ → Check → Order
 controlFound r m Check.Idle = Done (refused done r m)
-controlFound r m (Check.Broken cause) = Done (broke r m)
+controlFound r m (Check.Broken cause) = Done (broke controlQueue cause r m)
 controlFound r m (Check.New zero) = Done (refused done r m)
 controlFound r m (Check.New (suc n)) = controlHead r m (headOf m (pageOf r controlQueue) (sizeOf controlQueue) (r .control .taken))
 
@@ -199,16 +204,16 @@ orderOf r m =
 pub record Emptied (Q : Type 0) : Type 0 where
   pub queue : Q
   pub mem : List ℕ
-  pub sound : Bool
+  pub stop : Stop
   pub signal : Bool
 
 abbrev pub emptiedBy : {Q : Type 0} → Run Q → Emptied Q
-emptiedBy r = record { queue = r .queue; mem = r .mem; sound = r .sound; signal = r .signal }
+emptiedBy r = record { queue = r .queue; mem = r .mem; stop = r .stop; signal = r .signal }
 
 module _ {Q : Type 0} (ops : Ops Q) (v : Virtqueue) where
   abbrev pub emptiedFound : Q → List ℕ → Check → Emptied Q
-  emptiedFound q m Check.Idle = record { queue = q; mem = m; sound = true; signal = false }
-  emptiedFound q m (Check.Broken cause) = record { queue = q; mem = m; sound = false; signal = false }
+  emptiedFound q m Check.Idle = record { queue = q; mem = m; stop = Stop.Going; signal = false }
+  emptiedFound q m (Check.Broken cause) = record { queue = q; mem = m; stop = Stop.Broke cause; signal = false }
   emptiedFound q m (Check.New n) = emptiedBy (releaseRun ops v n (begun q m []))
 
   -- "RELEASE checks that stream's queue (idle: nothing pending), completes its message in work, then takes and completes all
@@ -217,10 +222,11 @@ module _ {Q : Type 0} (ops : Ops Q) (v : Virtqueue) where
   emptied q m = emptiedFound q m (found ops v q m)
 
 -- ".. then replies." "If the queue breaks, the control message stays taken, uncompleted, and the stream keeps its state."
-unfoldable pub releasedOf : ℕ → Pending → List ℕ → Bool → Bool → Result
-releasedOf id p m sound signal =
+unfoldable pub releasedOf : ℕ → Pending → List ℕ → Stop → Bool → Result
+releasedOf id p m stop signal =
     let r : Rest = withRegisters (signalledIf signal (p .rest .registers)) (p .rest) in
-    cond sound (replied (withRest (withStream r id (withState releasedState (streamAt r id))) p) (status sOk) m) (broke r m)
+    byStop stop (replied (withRest (withStream r id (withState releasedState (streamAt r id))) p) (status sOk) m)
+    (λ cause. broke (queueNumber (directionOf id)) cause r m)
 
 -- ---- play and capture
 
@@ -228,24 +234,22 @@ releasedOf id p m sound signal =
 pub record Transferred (Q : Type 0) : Type 0 where
   pub queue : Q
   pub registers : Registers
-  pub answer : ℕ
+  pub answer : Answer
   pub bytes : List ℕ
   pub mem : List ℕ
 
-abbrev pub brokenUnless : Bool → Registers → Registers
-brokenUnless sound r = cond sound r (broken r)
-
-abbrev pub transferredBy : {Q : Type 0} → Registers → Run Q → Transferred Q
-transferredBy g r =
+-- .. on this queue
+abbrev pub transferredBy : {Q : Type 0} → ℕ → Registers → Run Q → Transferred Q
+transferredBy queue g r =
     record {
       queue = r .queue;
-      registers = brokenUnless (r .sound) (signalledIf (r .signal) g);
-      answer = cond (r .sound) done queueBroken;
+      registers = brokenBy (r .stop) (signalledIf (r .signal) g);
+      answer = answerBy queue (r .stop);
       bytes = r .bytes;
       mem = r .mem;
     }
 
-abbrev pub untouched : {Q : Type 0} → ℕ → Registers → Q → List ℕ → Transferred Q
+abbrev pub untouched : {Q : Type 0} → Answer → Registers → Q → List ℕ → Transferred Q
 untouched answer g q m = record { queue = q; registers = g; answer = answer; bytes = []; mem = m }
 
 -- "stream absent or not Running"
@@ -254,18 +258,19 @@ isRunning r id = ltb id (length (r .streams)) && eqb (streamAt r id .state) runn
 
 module _ {Q : Type 0} (ops : Ops Q) (d : Direction) where
   abbrev pub transferFound : Rest → Q → List ℕ → List ℕ → Check → Transferred Q
-  transferFound r q m host Check.Idle = untouched done (r .registers) q m
-  transferFound r q m host (Check.Broken cause) = untouched queueBroken (broken (r .registers)) q m
+  transferFound r q m host Check.Idle = untouched (plain done) (r .registers) q m
+  transferFound r q m host (Check.Broken cause) =
+      untouched (brokenAnswer (queueNumber d) cause) (broken (r .registers)) q m
   transferFound r q m host (Check.New n) =
-      transferredBy (r .registers) (transferRun ops (virtqueueOf r d) n (begun q m host))
+      transferredBy (queueNumber d) (r .registers) (transferRun ops (virtqueueOf r d) n (begun q m host))
 
   -- "Play and capture: 1, 5, 6, 9."
   unfoldable pub transferred : Rest → Q → List ℕ → List ℕ → Transferred Q
   transferred r q m host =
-      admitted r m (λ answer. untouched answer (r .registers) q m)
+      admitted r m (λ number. untouched (plain number) (r .registers) q m)
       (cond (isRunning r (streamNumber d))
       (transferFound r q m host (found ops (virtqueueOf r d) q m))
-      (untouched notRunning (r .registers) q m))
+      (untouched (plain notRunning) (r .registers) q m))
 
 -- ---- events
 
@@ -297,7 +302,7 @@ eventPosted r m head reply bytes =
       rest =
           withRegisters (signalledIf (interrupts after base (sizeOf eventQueue)) (r .registers))
           (withEvent (oneCompleted (oneTaken (r .event))) r);
-      answer = done;
+      answer = plain done;
       count = 0;
       mem = after;
     }
@@ -320,7 +325,7 @@ module _ (code data′ : ℕ) where
   eventChain r m head none = Further (eventPosted r m head [] [])
 
   abbrev pub eventHead : Rest → List ℕ → Head → Tried
-  eventHead r m (Head.Broken cause) = Ended (broke r m)
+  eventHead r m (Head.Broken cause) = Ended (broke eventQueue cause r m)
   eventHead r m (Head.At n) =
       eventChain r m (n .0) (eventRoom m (walkOf m (baseOf (pageOf r eventQueue)) (sizeOf eventQueue) (n .0) (indirect r)))
 
@@ -338,7 +343,7 @@ module _ (code data′ : ℕ) where
 -- "An idle queue is answer 8."
 abbrev pub eventFound : ℕ → ℕ → Rest → List ℕ → Check → Result
 eventFound code data′ r m Check.Idle = refused noEventBuffer r m
-eventFound code data′ r m (Check.Broken cause) = broke r m
+eventFound code data′ r m (Check.Broken cause) = broke eventQueue cause r m
 eventFound code data′ r m (Check.New n) = eventRun code data′ n r m
 
 -- "Event: 1, 5, 7, then 8 or 9."
@@ -352,13 +357,13 @@ eventOf r code data′ m =
 
 -- ---- a call
 
-abbrev pub toldAll : ℕ → ℕ → ℕ → ℕ → List ℕ → List ℕ → List ℕ → Told
+abbrev pub toldAll : Answer → ℕ → ℕ → ℕ → List ℕ → List ℕ → List ℕ → Told
 toldAll answer value rung count bytes host mem =
     record { answer = answer; value = value; rung = rung; count = count; bytes = bytes; host = host; memory = mem }
 
 -- nothing rung
 abbrev pub nothingRung : ℕ
-nothingRung = 255
+nothingRung = noQueue
 
 -- a result that leaves the stream queues as they are
 abbrev pub ended : {Q : Type 0} → Result → Device Q → Step (Device Q)
@@ -373,13 +378,13 @@ readStep offset width b m =
     let r : Read = readOf (b .rest .registers) (configOf (b .rest)) offset width in
     record {
       state = record { rest = withRegisters (r .registers) (b .rest); play = b .play; capture = b .capture };
-      told = toldAll (r .answer) (r .value) nothingRung 0 [] [] m;
+      told = toldAll (plain (r .answer)) (r .value) nothingRung 0 [] [] m;
     }
 
 -- a Release past its checks, once its stream's queue is emptied
 unfoldable pub releaseStep : {Q : Type 0} → ℕ → Pending → Device Q → Emptied Q → Step (Device Q)
 releaseStep id p b e =
-    let o : Result = releasedOf id p (e .mem) (e .sound) (e .signal) in
+    let o : Result = releasedOf id p (e .mem) (e .stop) (e .signal) in
     record {
       state = withQueue (directionOf id) (o .rest) (e .queue) b;
       told = toldAll (o .answer) 0 nothingRung (o .count) [] [] (o .mem);
@@ -408,7 +413,7 @@ module _ {Q : Type 0} (ops : Direction → Ops Q) where
               play = cond (clearsQueue output (w .effect)) (ops output .empty) (b .play);
               capture = cond (clearsQueue input (w .effect)) (ops input .empty) (b .capture);
             };
-        told = toldAll (w .answer) 0 (rungOf (w .effect)) 0 [] [] m;
+        told = toldAll (plain (w .answer)) 0 (rungOf (w .effect)) 0 [] [] m;
       }
 
   abbrev pub ordered : Order → Device Q → List ℕ → Step (Device Q)

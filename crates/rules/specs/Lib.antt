@@ -1,5 +1,6 @@
 -- Document 01 as definitions: the rules of each call, the account, and the claim about any list of calls.
 pub mod Numbers
+pub mod Answers
 pub mod Device
 pub mod Loop
 pub mod Transfer

@@ -11,8 +11,11 @@ use Rattle.ranges.specs.Ranges.{total, places, bytesAt, putAt, allInside}
 use Rattle.ranges.specs.declared.Range.{Range}
 use Rattle.chain.specs.Walk.{Outcome, whole, faulted, walkOf}
 use Rattle.ring.specs.Rules.{baseOf, indexOf, foundOf, headAt, postedAt, interrupts}
+use Rattle.ring.specs.declared.Cause.{Cause}
 use Rattle.ring.specs.declared.Check.{Check}
 use Rattle.ring.specs.declared.Head.{Head}
+use Rattle.ring.specs.declared.Stop.{Stop}
+use Rattle.rules.specs.Answers.{going}
 use Rattle.rules.specs.Device.{Direction, output, input, streamNumber, Virtqueue, queueSize, Form, wellFormed, refused, silent, unwalked, Taking, Ending, finished, released, illFormed, bytesOf}
 use Rattle.rules.specs.Loop.{loop}
 use Rattle.rules.specs.Numbers.{sOk, sIoErr}
@@ -99,18 +102,18 @@ pub record Ops (Q : Type 0) : Type 0 where
   pub hand : List ℕ → List ℕ → Q → Q  -- the bytes moved, and their addresses
   pub complete : Ending → Q → Q
 
--- a queue within a call: memory now, the bytes moved, host bytes and host room left, no bad head met, an interrupt wanted
+-- a queue within a call: memory now, the bytes moved, host bytes and host room left, whether the queue broke, an interrupt wanted
 pub record Run (Q : Type 0) : Type 0 where
   pub queue : Q
   pub mem : List ℕ
   pub bytes : List ℕ
   pub host : List ℕ
   pub room : ℕ
-  pub sound : Bool
+  pub stop : Stop
   pub signal : Bool
 
 abbrev pub begun : {Q : Type 0} → Q → List ℕ → List ℕ → Run Q
-begun q m host = record { queue = q; mem = m; bytes = []; host = host; room = length host; sound = true; signal = false }
+begun q m host = record { queue = q; mem = m; bytes = []; host = host; room = length host; stop = Stop.Going; signal = false }
 
 abbrev pub isNil : List ℕ → Bool
 isNil [] = true
@@ -140,7 +143,7 @@ module _ {Q : Type 0} (ops : Ops Q) (v : Virtqueue) where
         bytes = r .bytes;
         host = r .host;
         room = r .room;
-        sound = r .sound;
+        stop = r .stop;
         signal = r .signal || interrupts after (baseOf (v .page)) (queueSize v);
       }
 
@@ -153,7 +156,7 @@ module _ {Q : Type 0} (ops : Ops Q) (v : Virtqueue) where
         bytes = r .bytes ++ bytesMoved (v .direction) xs (r .host) (r .mem);
         host = drop (length xs) (r .host);
         room = r .room - length xs;
-        sound = r .sound;
+        stop = r .stop;
         signal = r .signal;
       }
 
@@ -176,13 +179,21 @@ module _ {Q : Type 0} (ops : Ops Q) (v : Virtqueue) where
         bytes = r .bytes;
         host = r .host;
         room = r .room;
-        sound = r .sound;
+        stop = r .stop;
         signal = r .signal;
       }
 
-  abbrev pub stopped : Run Q → Run Q
-  stopped r =
-      record { queue = r .queue; mem = r .mem; bytes = r .bytes; host = r .host; room = r .room; sound = false; signal = r .signal }
+  abbrev pub stopped : Cause → Run Q → Run Q
+  stopped cause r =
+      record {
+        queue = r .queue;
+        mem = r .mem;
+        bytes = r .bytes;
+        host = r .host;
+        room = r .room;
+        stop = Stop.Broke cause;
+        signal = r .signal;
+      }
 
   -- an entry is taken; an ill-formed message is completed at once
   unfoldable pub entered : Taking → Run Q → Run Q
@@ -190,7 +201,7 @@ module _ {Q : Type 0} (ops : Ops Q) (v : Virtqueue) where
 
   abbrev pub met : Head → Run Q → Run Q
   met (Head.At n) r = entered (takingOf v (r .mem) (n .0)) r
-  met (Head.Broken cause) r = stopped r
+  met (Head.Broken cause) r = stopped cause r
 
   -- the next new entry: "a head is ≥ N (that entry is not taken)"
   unfoldable pub next : Run Q → Run Q
@@ -198,10 +209,10 @@ module _ {Q : Type 0} (ops : Ops Q) (v : Virtqueue) where
 
   -- "While host room (or bytes) is left and a message is in work or new: work it."
   abbrev pub transferMore : Run Q → Bool
-  transferMore r = r .sound && ltb 0 (r .room) && ops .idle (r .queue)
+  transferMore r = going (r .stop) && ltb 0 (r .room) && ops .idle (r .queue)
 
   abbrev pub releaseMore : Run Q → Bool
-  releaseMore r = r .sound && ops .idle (r .queue)
+  releaseMore r = going (r .stop) && ops .idle (r .queue)
 
   unfoldable pub transferRun : ℕ → Run Q → Run Q
   transferRun new r = loop worked transferMore next new r

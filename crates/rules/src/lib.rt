@@ -1,6 +1,11 @@
 // Document 01 as definitions (specs/) and what is proved of them (proofs/). The code of the calls is in the crates above; here stand
 // the numbers of the texts (001, Device Operation; VIRTIO 1.2, Sound Device) for it, as specs/Numbers has them for the rules.
 
+ghost use mathlib.Core.Path.{_≡_};
+ghost use Rattle.rules.specs.Answers.{brokenAnswer};
+use registers::Answer;
+use ring::Cause;
+
 // Control requests.
 pub const JACK_INFO: u32 = 1;
 
@@ -35,3 +40,18 @@ pub const JACK_CONNECTED: u32 = 4096;
 pub const JACK_DISCONNECTED: u32 = 4097;
 
 pub const PCM_XRUN: u32 = 4353;
+
+// The answer of a call whose queue is broken: the cause's number, and the queue.
+pub fn broken_answer(queue: u8, cause: Cause) -> Answer
+    ensures { λ r. ⌜ r ≡ brokenAnswer queue cause ⌝ }
+{
+    let number = match cause {
+        Cause::Region => registers::QUEUE_BROKEN,
+        Cause::Entries => registers::QUEUE_BROKEN,
+        Cause::Head => registers::QUEUE_BROKEN,
+    };
+    Answer {
+        number: number,
+        queue: queue,
+    }
+}

@@ -10,7 +10,8 @@ use Rattle.card.specs.Fit.{Fit, FitMessage}
 use Rattle.card.specs.declared.Card.{Card}
 use Rattle.message.specs.declared.Direction.{Direction}
 use Rattle.message.specs.declared.Direction.the-variants.{Output, Input}
-use Rattle.rules.specs.Calls.{brokenUnless}
+use Rattle.ring.specs.declared.Stop.{Stop}
+use Rattle.rules.specs.Answers.{brokenBy}
 use Rattle.rules.specs.Device.{signalledIf}
 use Rattle.flow.specs.declared.Flow.{Flow}
 use Rattle.stream.specs.Queue.{withRegisters, withFlow, messageIn}
@@ -19,9 +20,9 @@ pub signal-fit : (b : Bool) (g : Registers) → FitRegisters g → FitRegisters 
 signal-fit true g f = signalled-fit g f
 signal-fit false g f = f
 
-pub unless-fit : (b : Bool) (g : Registers) → FitRegisters g → FitRegisters (brokenUnless b g)
-unless-fit true g f = f
-unless-fit false g f = broken-fit g f
+pub broken-by-fit : (s : Stop) (g : Registers) → FitRegisters g → FitRegisters (brokenBy s g)
+broken-by-fit Stop.Going g f = f
+broken-by-fit (Stop.Broke cause) g f = broken-fit g f
 
 pub with-registers-fit : (c : Card) (g : Registers) → Fit c → FitRegisters g → Fit (withRegisters g c)
 with-registers-fit c g f h = record { registers = h; parts = f .parts; four = f .four; play = f .play; capture = f .capture }

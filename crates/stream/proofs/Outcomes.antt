@@ -7,6 +7,7 @@ use lib.ListN.{length}
 use Rattle.ring.specs.Rules.{checkOf}
 use Rattle.ring.specs.declared.Check.{Check}
 use Rattle.ring.specs.declared.Cause.{Cause}
+use Rattle.ring.specs.declared.Stop.{Stop}
 use Rattle.card.specs.Fit.{Fit}
 use Rattle.card.specs.declared.Card.{Card}
 use Rattle.meaning.specs.Card.{queueOf, restOf, deviceOf}
@@ -55,7 +56,7 @@ module _ (c : Card) (d : Direction) (m : List ℕ) (f : Fit c) where
   unfolding deviceOf
   own-device = with-own-queue way (deviceOf c)
 
-  pub empties-idle : checked ≡ Check.Idle → Empties way c m m (record { sound = true; signal = false; card = c })
+  pub empties-idle : checked ≡ Check.Idle → Empties way c m m (record { stop = Stop.Going; signal = false; card = c })
   empties-idle h =
       record {
         run = by-check Check.Idle h;
@@ -67,7 +68,7 @@ module _ (c : Card) (d : Direction) (m : List ℕ) (f : Fit c) where
         long = refl;
       }
 
-  pub empties-broken : (cause : Cause) → checked ≡ Check.Broken cause → Empties way c m m (record { sound = false; signal = false; card = c })
+  pub empties-broken : (cause : Cause) → checked ≡ Check.Broken cause → Empties way c m m (record { stop = Stop.Broke cause; signal = false; card = c })
   empties-broken cause h =
       record {
         run = by-check (Check.Broken cause) h;
@@ -89,7 +90,7 @@ module _ (c : Card) (d : Direction) (m : List ℕ) (f : Fit c) where
     began : begun own m [] ≡ runOf (freshFlow (countersIn c d) (messageIn c d)) m []
     began = rw (queue-in c d) (sym (fresh-run (countersIn c d) (messageIn c d) m []))
 
-    pub empties-new : Empties way c m m′ (record { sound = g .sound; signal = g .signal; card = withFlow d g c })
+    pub empties-new : Empties way c m m′ (record { stop = g .stop; signal = g .signal; card = withFlow d g c })
     unfolding runOf
     empties-new =
         record {

@@ -23,7 +23,7 @@ module _ (c : Card) (m m′ : List ℕ) (r : Emptied) where
   module _ (id : ℕ) (p : Pending) (same : p .rest ≡ restOf c) where
     -- what is left to do
     abbrev pub answered : Result
-    answered = releasedOf id (withRest (restOf (r .card)) p) m′ (r .sound) (r .signal)
+    answered = releasedOf id (withRest (restOf (r .card)) p) m′ (r .stop) (r .signal)
 
     -- with its queue put back, the device is the card's after
     put-back : (d : rules.Direction) (x : rules.Rest)
@@ -39,4 +39,4 @@ module _ (c : Card) (m m′ : List ℕ) (r : Emptied) where
     unfolding releaseStep
     released-ordered d n e =
         let back : withRest (restOf (r .card)) p ≡ p = ap (λ v. withRest v p) (rest-kept d e ∙ sym same) in
-        rw (back, n, same, e .run, put-back d (releasedOf id (withRest (restOf c) p) m′ (r .sound) (r .signal) .rest) e)
+        rw (back, n, same, e .run, put-back d (releasedOf id (withRest (restOf c) p) m′ (r .stop) (r .signal) .rest) e)

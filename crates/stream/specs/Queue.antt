@@ -68,9 +68,9 @@ withFlow Input f c =
 -- ---- a queue emptied: the card and memory before, memory and the card after
 
 pub record Empties (d : rules.Direction) (c : Card) (m m′ : List ℕ) (r : Emptied) : Type 0 where
-  -- queue, memory, sound and signal are the rules'
+  -- queue, memory, stop and signal are the rules'
   pub run : emptied (countersOf d) (virtqueueOf (restOf c) d) (rules.queueFor d (deviceOf c)) m
-      ≡ record { queue = rules.queueFor d (deviceOf (r .card)); mem = m′; sound = r .sound; signal = r .signal }
+      ≡ record { queue = rules.queueFor d (deviceOf (r .card)); mem = m′; stop = r .stop; signal = r .signal }
   -- the card is as it was but for that queue
   pub device : deviceOf (r .card) ≡ rules.withQueue d (restOf c) (rules.queueFor d (deviceOf (r .card))) (deviceOf c)
   pub ram : r .card .«ram_len» ≡ c .«ram_len»

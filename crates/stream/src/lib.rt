@@ -4,7 +4,7 @@ ghost use mathlib.Core.Path.{_≡_};
 ghost use lib.ListN.{length};
 ghost use Rattle.card.specs.Fit.{Fit};
 ghost use Rattle.message.specs.Message.{directionOf};
-ghost use Rattle.rules.specs.Calls.{brokenUnless};
+ghost use Rattle.rules.specs.Answers.{brokenBy};
 ghost use Rattle.rules.specs.Device.{signalledIf};
 ghost use Rattle.stream.specs.Queue.{queueIn, countersIn, messageIn, withFlow, Empties};
 use card::Card;
@@ -13,11 +13,12 @@ use card::Message;
 use message::Direction;
 use message::Virtqueue;
 use registers::Registers;
+use ring::Stop;
 use transfer::Flow;
 
-// What a RELEASE made of a stream's queue: no bad head met, an interrupt wanted, the card.
+// What a RELEASE made of a stream's queue: where it stands, an interrupt wanted, the card.
 pub struct Emptied {
-    pub sound: bool,
+    pub stop: Stop,
     pub signal: bool,
     pub card: Card,
 }
@@ -32,14 +33,14 @@ pub fn signal_if(wanted: bool, registers: Registers) -> Registers
     registers
 }
 
-// A breakdown, where a bad head was met.
-pub fn break_unless(sound: bool, registers: Registers) -> Registers
-    ensures { λ r. ⌜ r ≡ brokenUnless sound registers ⌝ }
+// A breakdown, where the queue is broken.
+pub fn break_by(stop: Stop, registers: Registers) -> Registers
+    ensures { λ r. ⌜ r ≡ brokenBy stop registers ⌝ }
 {
-    if sound {
-        return registers;
+    match stop {
+        Stop::Going => registers,
+        Stop::Broke(_) => registers.break_down(),
     }
-    registers.break_down()
 }
 
 // The queue of a stream as the guest laid it out.
@@ -116,19 +117,20 @@ pub fn empty(card: Card, m: &mut [u8], direction: Direction) -> Emptied
     let size = message::queue_size(direction);
     match ring::check_queue(m, q.page, size, counters.taken, message.count) {
         ring::Check::Idle => Emptied {
-            sound: true,
+            stop: Stop::Going,
             signal: false,
             card: card,
         },
-        ring::Check::Broken(_) => Emptied {
-            sound: false,
+        ring::Check::Broken(cause) => Emptied {
+            stop: Stop::Broke(cause),
             signal: false,
             card: card,
         },
         ring::Check::New(new) => {
             let f = transfer::release(m, q, counters, message, new);
+            let stop = f.stop;
             Emptied {
-                sound: f.sound,
+                stop: stop,
                 signal: f.signal,
                 card: with_flow(card, direction, f),
             }

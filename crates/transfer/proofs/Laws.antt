@@ -14,6 +14,7 @@ use Rattle.card.specs.declared.Message.{Message}
 use Rattle.flow.specs.Flow.{runOf, freshFlow, FitFlow}
 use Rattle.flow.specs.declared.Flow.{Flow}
 use Rattle.meaning.specs.Card.{takingIn}
+use Rattle.rules.specs.Answers.{going}
 use Rattle.rules.specs.Counters.{countersOf, isNone}
 use Rattle.rules.specs.Device as rules
 use Rattle.rules.specs.Transfer.{transferMore, releaseMore}
@@ -41,10 +42,10 @@ module _ (v : rules.Virtqueue) (m host : List ℕ) (f : Flow) where
   release-goes-on = rw (none-when (eqb (f .message .count) 0) (record { taking = takingIn (f .message); done = f .message .done }))
 
 pub release-goes-idle : (f : Flow) → releaseGoesOn f ≡ true → f .message .count ≡ 0
-release-goes-idle f h = eqb-true (f .message .count) 0 (and-eq-true-iff (f .sound) (eqb (f .message .count) 0) .0 h .1)
+release-goes-idle f h = eqb-true (f .message .count) 0 (and-eq-true-iff (going (f .stop)) (eqb (f .message .count) 0) .0 h .1)
 
 pub goes-idle : (f : Flow) (room : ℕ) → goesOn f room ≡ true → f .message .count ≡ 0
-goes-idle f room h = eqb-true (f .message .count) 0 (and-eq-true-iff (f .sound && ltb (f .moved) room) (eqb (f .message .count) 0) .0 h .1)
+goes-idle f room h = eqb-true (f .message .count) 0 (and-eq-true-iff (going (f .stop) && ltb (f .moved) room) (eqb (f .message .count) 0) .0 h .1)
 
 pub fresh-fit : (len room : ℕ) (c : Counters) (message : Message) → FitMessage len message → FitFlow len room (freshFlow c message)
 fresh-fit len room c message g = record { message = g; inside = omega arith }

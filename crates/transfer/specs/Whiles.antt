@@ -3,6 +3,7 @@ use mathlib.Core.Bool.{Bool, cond, _&&_}
 use Prim.Native.Nat.{ℕ, zero, suc}
 use lib.Dec.{eqb, ltb}
 use Rattle.flow.specs.declared.Flow.{Flow}
+use Rattle.rules.specs.Answers.{going}
 use Rattle.rules.specs.Counters.{countersOf}
 use Rattle.rules.specs.Device as rules
 use Rattle.rules.specs.Transfer.{Run, worked, givenUp, transferMore, releaseMore, next}
@@ -23,10 +24,10 @@ module _ (v : rules.Virtqueue) where
 
 -- a transfer goes on with the next entry
 abbrev pub goesOn : Flow → ℕ → Bool
-goesOn f room = f .sound && ltb (f .moved) room && eqb (f .message .count) 0
+goesOn f room = going (f .stop) && ltb (f .moved) room && eqb (f .message .count) 0
 
 abbrev pub releaseGoesOn : Flow → Bool
-releaseGoesOn f = f .sound && eqb (f .message .count) 0
+releaseGoesOn f = going (f .stop) && eqb (f .message .count) 0
 
 -- the next entry, then work on it
 abbrev pub turned : (Run rules.Queue → Run rules.Queue) → (Run rules.Queue → Run rules.Queue) → Run rules.Queue → Run rules.Queue

@@ -15,6 +15,7 @@ use card::Message;
 pub use flow::Flow;
 use message::Direction;
 use message::Virtqueue;
+use ring::Stop;
 
 // The next entry taken and worked.
 fn play_turn(m: &mut [u8], host: &mut [u8], q: Virtqueue, f: Flow) -> Flow
@@ -55,18 +56,19 @@ fn begun_flow(counters: Counters, message: Message) -> Flow
         counters: counters,
         message: message,
         moved: 0,
-        sound: true,
+        stop: Stop::Going,
         signal: false,
     }
 }
 
-// Whether a transfer goes on with the next entry: no bad head met, host room left, none in work.
+// Whether a transfer goes on with the next entry: the queue not broken, host room left, none in work.
 fn transfer_more(f: Flow, room: usize) -> bool
     ensures { λ r. ⌜ r ≡ goesOn f room ⌝ }
 {
-    if !f.sound {
+    let stop = f.stop;
+    let Stop::Going = stop else {
         return false;
-    }
+    };
     if room <= f.moved {
         return false;
     }
@@ -146,13 +148,14 @@ pub fn capture(
     capture_rest(m, host, q, first, new)
 }
 
-// Whether a Release goes on with the next entry: no bad head met, none in work.
+// Whether a Release goes on with the next entry: the queue not broken, none in work.
 fn release_more(f: Flow) -> bool
     ensures { λ r. ⌜ r ≡ releaseGoesOn f ⌝ }
 {
-    if !f.sound {
+    let stop = f.stop;
+    let Stop::Going = stop else {
         return false;
-    }
+    };
     if f.message.count == 0 {
         return true;
     }

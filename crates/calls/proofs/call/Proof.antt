@@ -12,11 +12,17 @@ enum-known-request c = search needs
 read-register-requires : tie.Need-read-register-requires
 read-register-requires c κs = search needs
 
+plain-requires : tie.Need-plain-requires
+plain-requires c κs = search needs
+
 enum-known-request-2 : tie.Need-enum-known-request-2
 enum-known-request-2 c = search needs
 
 write-register-requires : tie.Need-write-register-requires
 write-register-requires c κs = search needs
+
+plain-requires-2 : tie.Need-plain-requires-2
+plain-requires-2 c κs = search needs
 
 enum-told : tie.Need-enum-told
 enum-told c = search needs
@@ -56,19 +62,27 @@ queue-outcome-requires-4 c κs = search needs
 
 returns : tie.Need-returns
 returns c =
-    let s = c .before .before .before .before .before .before .before in
+    let r = c .before .before in
+    let s = r .before .before .before .before .before .before in
     let a = s .args in
-    rw (c .before .before .before .request .given .1) (
-      record { says = rw (c .before .read-register .ensures .0) (read-step (a .card) (s .pre) _ _ (a .m .now)); fit = c .before .read-register .ensures .1 },
+    rw (c .plain .ensures, r .before .before .request .given .1) (
+      record {
+        says = rw (r .read-register .ensures .0) (read-step (a .card) (s .pre) _ _ (a .m .now));
+        fit = r .read-register .ensures .1;
+      },
       refl,
     )
 
 returns-2 : tie.Need-returns-2
 returns-2 c =
-    let s = c .before .before .before .before .before .before .before in
+    let w = c .before .before in
+    let s = w .before .before .before .before .before .before in
     let a = s .args in
-    rw (c .before .before .before .request2 .given .1) (
-      record { says = rw (c .before .write-register .ensures .0) (write-step (a .card) (s .pre) _ _ _ (a .m .now)); fit = c .before .write-register .ensures .1 },
+    rw (c .plain2 .ensures, w .before .before .request2 .given .1) (
+      record {
+        says = rw (w .write-register .ensures .0) (write-step (a .card) (s .pre) _ _ _ (a .m .now));
+        fit = w .write-register .ensures .1;
+      },
       refl,
     )
 
@@ -120,8 +134,10 @@ call-spec =
     (tie.spec
     enum-known-request
     read-register-requires
+    plain-requires
     enum-known-request-2
     write-register-requires
+    plain-requires-2
     enum-told
     control-requires
     queue-outcome-requires

@@ -1,4 +1,4 @@
--- The registers break down; all else stays.
+-- Only the registers change.
 use borrow.Author.Needs.{needs}
 use Rattle.controlq.proofs.broken_down.Statement.{statement}
 use Rattle.controlq.proofs.broken_down.Tie as tie
@@ -6,8 +6,11 @@ use Rattle.controlq.proofs.broken_down.Tie as tie
 break-down-requires : tie.Need-break-down-requires
 break-down-requires c κs = search needs
 
+broken-answer-requires : tie.Need-broken-answer-requires
+broken-answer-requires c κs = search needs
+
 returns : tie.Need-returns
-returns c = rw (c .break-down .ensures)
+returns c = rw (c .broken-answer .ensures, c .before .break-down .ensures)
 
 pub broken-down-spec : {M : Type 1} → statement M
-broken-down-spec = tie.close (tie.spec break-down-requires returns)
+broken-down-spec = tie.close (tie.spec break-down-requires broken-answer-requires returns)

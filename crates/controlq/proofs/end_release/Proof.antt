@@ -1,11 +1,10 @@
--- A broken queue is answer 9; else the stream is Released and the message answered.
+-- A broken queue is answered for its cause; else the stream is Released and the message answered.
 use mathlib.Core.Path.{_∙_}
-use borrow.Author.Needs.{needs}
-use borrow.Author.Tests.{not-true, not-false}
 use Rattle.card.specs.Fit.{Fit}
 use Rattle.ranges.specs.Ranges.{rangesOf}
 use Rattle.stream.proofs.Fits.{signal-fit, with-registers-fit, broken-card-fit}
 use Rattle.controlq.proofs.Laws.{end-broken, end-replied}
+use borrow.Author.Needs.{needs}
 use Rattle.controlq.proofs.end_release.Statement.{statement}
 use Rattle.controlq.proofs.end_release.Tie as tie
 
@@ -18,16 +17,17 @@ signalled-fit c =
 signal-card-requires : tie.Need-signal-card-requires
 signal-card-requires c κs = search needs
 
+enum-known-stop : tie.Need-enum-known-stop
+enum-known-stop c = search needs
+
+queue-of-requires : tie.Need-queue-of-requires
+queue-of-requires c κs = search needs
+
 broken-down-requires : tie.Need-broken-down-requires
 broken-down-requires c κs = search needs
 
-returns : tie.Need-returns
-returns c =
-    let a = c .before .before .before .before .before .before .args in
-    let e = a .emptied in
-    let f = rw (c .before .before .before .signal-card .ensures) at (signalled-fit (c .before .before .before)) in
-    rw (c .broken-down .ensures, c .before .before .before .signal-card .ensures, not-true (e .sound) (c .before .if1 .taken))
-    (end-broken (e .card) (a .head) (rangesOf (a .reply)) (a .id) (e .signal) (a .m .now), broken-card-fit _ f)
+enum-told : tie.Need-enum-told
+enum-told c = search needs
 
 mark-released-requires : tie.Need-mark-released-requires
 mark-released-requires c κs = signalled-fit (c .before .before .before)
@@ -35,16 +35,27 @@ mark-released-requires c κs = signalled-fit (c .before .before .before)
 reply-status-requires : tie.Need-reply-status-requires
 reply-status-requires c κs = search needs
 
+returns : tie.Need-returns
+returns c =
+    let k = c .before .before .before .before .before in
+    let a = k .before .before .before .args in
+    let e = a .emptied in
+    let f = rw (k .signal-card .ensures) at (signalled-fit k) in
+    rw (c .broken-down .ensures, c .before .queue-of .ensures, k .signal-card .ensures, c .before .before .before .stop .given .1)
+    (end-broken (e .card) (a .head) (rangesOf (a .reply)) (a .id) (e .signal) (a .m .now) _, broken-card-fit _ f)
+
 same-length : tie.Need-same-length
 same-length c = search needs
 
 returns-2 : tie.Need-returns-2
 returns-2 c =
-    let a = c .before .before .before .before .before .before .before .before .before .before .args in
+    let n = c .before .before .before in
+    let k = n .before .before .before .before in
+    let a = k .before .before .before .args in
     let e = a .emptied in
-    let n = c .before .before .before .mark-released in
-    rw (not-false (e .sound) (c .before .before .before .before .before .if1 .left)) (
-      end-replied (e .card) (a .head) (rangesOf (a .reply)) (a .id) (e .signal) (a .m .now) (n .result) (rw (c .before .before .before .before .before .before .before .signal-card .ensures) at (n .ensures .0))
+    let marked = rw (k .signal-card .ensures) at (n .mark-released .ensures .0) in
+    rw (n .before .before .enum-told .given .1) (
+      end-replied (e .card) (a .head) (rangesOf (a .reply)) (a .id) (e .signal) (a .m .now) (n .mark-released .result) marked
           ∙ c .before .before .reply-status .ensures .0,
       c .before .before .reply-status .ensures .1,
     )
@@ -54,9 +65,12 @@ end-release-spec =
     tie.close
     (tie.spec
     signal-card-requires
+    enum-known-stop
+    queue-of-requires
     broken-down-requires
-    returns
+    enum-told
     mark-released-requires
     reply-status-requires
+    returns
     same-length
     returns-2)

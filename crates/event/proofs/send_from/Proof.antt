@@ -19,10 +19,12 @@ same-length c = search needs
 
 returns : tie.Need-returns
 returns c =
-    let s = c .before .before .before .before .before .before .before .before .before in
-    let a = s .args in
-    let o = c .before .before .before .before .send in
-    (sent-leaves (a .t1) (s .pre) (o .result) (a .code) (a .«data») (a .m .now) (o .last .0) (o .ensures .0 (restOf (a .t1))), held-fit (a .t1) (s .pre) (o .result) (o .ensures .1))
+    let o = c .before .before .before .before .before in
+    let s = o .before .before .before .before .before in
+    let a = s .args in (
+      sent-leaves (a .t1) (s .pre) (o .send .result) (a .code) (a .«data») (a .m .now) (o .send .last .0) (o .send .ensures .0 (restOf (a .t1))),
+      held-fit (a .t1) (s .pre) (o .send .result) (o .send .ensures .1),
+    )
 
 pub send-from-spec : {M : Type 1} → statement M
 send-from-spec =

@@ -1,23 +1,18 @@
 -- What the check finds is the rule's; new entries are tried.
 use mathlib.Core.Path.{_≡_, _∙_, refl, sym}
-use borrow.Author.Needs.{needs}
 use lib.ListN.{getD}
-use Rattle.registers.proofs.Keeps.{broken-fit}
-use Rattle.registers.specs.Fit.{FitRegisters}
 use Rattle.registers.specs.Map.{sizeOf}
 use Rattle.ring.specs.Rules.{checkOf}
 use Rattle.rules.specs.Numbers.{eventQueue}
+use borrow.Author.Needs.{needs}
 use Rattle.event_queue.proofs.send.Statement.{statement}
 use Rattle.event_queue.proofs.send.Tie as tie
 
 checked : (c : tie.After-check-queue)
     → let a = c .before .before .before .before .before .args in
-    c .check-queue .result ≡ checkOf (a .m .now) (getD (a .t2 .pages) eventQueue (record { 0 = 0 })) (sizeOf eventQueue) (a .counters .taken) 0
+    c .check-queue .result
+    ≡ checkOf (a .m .now) (getD (a .t2 .pages) eventQueue (record { 0 = 0 })) (sizeOf eventQueue) (a .counters .taken) 0
 checked c = c .check-queue .ensures ∙ rw (c .before .before .queue-size .ensures)
-
--- the register file at the start, which is fit
-fit-file : (c : tie.After-check-queue) → FitRegisters (c .before .before .before .before .before .args .t2)
-fit-file c = c .before .before .before .before .before .pre
 
 element-copy-out-page : tie.Need-element-copy-out-page
 element-copy-out-page c = search needs
@@ -31,14 +26,17 @@ check-queue-requires c κs = search needs
 enum-told : tie.Need-enum-told
 enum-told c = search needs
 
-enum-told-2 : tie.Need-enum-told-2
-enum-told-2 c = search needs
+without-buffer-requires : tie.Need-without-buffer-requires
+without-buffer-requires c κs = search needs
 
-break-down-requires : tie.Need-break-down-requires
-break-down-requires c κs = search needs
+enum-known-cause : tie.Need-enum-known-cause
+enum-known-cause c = search needs
 
-enum-known-found : tie.Need-enum-known-found
-enum-known-found c = search needs
+halted-requires : tie.Need-halted-requires
+halted-requires c κs = search needs
+
+enum-known-new : tie.Need-enum-known-new
+enum-known-new c = search needs
 
 try-entries-requires : tie.Need-try-entries-requires
 try-entries-requires c κs = search needs
@@ -47,15 +45,19 @@ same-length : tie.Need-same-length
 same-length c = search needs
 
 returns : tie.Need-returns
-returns c = (λ rest. rw (sym (checked (c .before .before)) ∙ c .enum-told .given .1), fit-file (c .before .before), refl)
+returns c =
+    let k = c .before .before .before in
+    rw (c .without-buffer .ensures)
+    (λ rest. rw (sym (checked k) ∙ c .before .enum-told .given .1), k .before .before .before .before .before .pre, refl)
 
 same-length-2 : tie.Need-same-length-2
 same-length-2 c = search needs
 
 returns-2 : tie.Need-returns-2
 returns-2 c =
-    rw (c .break-down .ensures)
-    (λ rest. rw (sym (checked (c .before .before .before)) ∙ c .before .enum-told2 .given .1), broken-fit _ (fit-file (c .before .before .before)), refl)
+    let k = c .before .before .before .before in
+    let h = c .halted .ensures in
+    rw (h .0) (λ rest. rw (sym (checked k) ∙ c .before .before .cause .given .1), rw (h .0) at (h .1), refl)
 
 same-length-3 : tie.Need-same-length-3
 same-length-3 c = search needs
@@ -64,7 +66,7 @@ returns-3 : tie.Need-returns-3
 returns-3 c =
     let k = c .before .before .before .before .before in
     let t = c .before .before .try-entries in (
-      λ rest. rw (sym (checked (k .before .before)) ∙ k .found .given .1) (t .ensures .0 rest),
+      λ rest. rw (sym (checked (k .before .before)) ∙ k .new .given .1) (t .ensures .0 rest),
       t .ensures .1,
       t .ensures .2,
     )
@@ -77,9 +79,10 @@ send-spec =
     queue-size-requires
     check-queue-requires
     enum-told
-    enum-told-2
-    break-down-requires
-    enum-known-found
+    without-buffer-requires
+    enum-known-cause
+    halted-requires
+    enum-known-new
     try-entries-requires
     same-length
     returns

@@ -1,5 +1,6 @@
 -- What is left to be tried from here on gives what the whole gives; an attempt that ended is its result.
 use mathlib.Core.Path.{_≡_, _∙_, sym, refl}
+use borrow.Author.Needs.{needs}
 use Prim.Native.Nat.{_-_}
 use native.Mathlib.Omega.{arith}
 use lib.ListN.{length}
@@ -62,13 +63,17 @@ loop-again c =
       t .ensures .1,
     )
 
+without-buffer-requires : tie.Need-without-buffer-requires Inv-loop μ-loop
+without-buffer-requires c κs = search needs
+
 same-length-2 : tie.Need-same-length-2 Inv-loop μ-loop
-same-length-2 c = c .before .loop .inv .0
+same-length-2 c = c .before .before .loop .inv .0
 
 returns-2 : tie.Need-returns-2 Inv-loop μ-loop
 returns-2 c =
-    let l = c .before .loop in
-    let a = c .before .before .before .args in (
+    let l = c .before .before .loop in
+    let a = c .before .before .before .before .args in
+    rw (c .without-buffer .ensures) (
       λ rest. sym (l .inv .1 rest) ∙ run-none (a .code) (a .«data») (l .left) (holding (l .file) (l .counts) rest) (l .m) (omega arith),
       l .inv .2,
       refl,
@@ -87,5 +92,6 @@ try-entries-spec =
     sub-left
     loop-less
     loop-again
+    without-buffer-requires
     same-length-2
     returns-2)

@@ -1,15 +1,28 @@
 -- The next head is looked up; its chain's room decides which completion is posted.
 use mathlib.Core.Path.{_≡_, _∙_, sym}
-use borrow.Author.Needs.{needs}
 use Rattle.ranges.specs.Ranges.{rangesOf}
-use Rattle.registers.proofs.Keeps.{broken-fit}
+use Rattle.ring.specs.declared.Head.{Head}
 use Rattle.event_queue.proofs.Laws.{nextHead, tried-broken, tried-delivered, tried-passed}
+use borrow.Author.Needs.{needs}
 use Rattle.event_queue.proofs.try_entry.Statement.{statement}
 use Rattle.event_queue.proofs.try_entry.Tie as tie
 
+-- where the function starts, the head it finds, and where the chain's room is known
+abbrev start : tie.After-next-head → tie.Start
+start c = c .before .before .before .before .before
+
 head-found : (c : tie.After-next-head)
-    → let a = c .before .before .before .before .before .args in c .next-head .result ≡ nextHead (a .code) (a .«data») (a .t2) (a .counters) (a .m .now)
+    → let a = c .before .before .before .before .before .args in
+    c .next-head .result ≡ nextHead (a .code) (a .«data») (a .t2) (a .counters) (a .m .now)
 head-found c = c .next-head .ensures ∙ rw (c .before .before .queue-size .ensures)
+
+abbrev looked : tie.After-room-at → tie.After-next-head
+looked c = c .before .before .before .before .before
+
+head-at : (c : tie.After-room-at)
+    → let a = start (looked c) .args in
+    nextHead (a .code) (a .«data») (a .t2) (a .counters) (a .m .now) ≡ Head.At (c .before .before .before .head .given .0 .0)
+head-at c = sym (head-found (looked c)) ∙ c .before .before .before .head .given .1
 
 element-copy-out-page : tie.Need-element-copy-out-page
 element-copy-out-page c = search needs
@@ -20,24 +33,14 @@ queue-size-requires c κs = search needs
 next-head-requires : tie.Need-next-head-requires
 next-head-requires c κs = search needs
 
-enum-known-next : tie.Need-enum-known-next
-enum-known-next c = search needs
+enum-known-cause : tie.Need-enum-known-cause
+enum-known-cause c = search needs
 
-enum-told : tie.Need-enum-told
-enum-told c = search needs
+halted-requires : tie.Need-halted-requires
+halted-requires c κs = search needs
 
-break-down-requires : tie.Need-break-down-requires
-break-down-requires c κs = search needs
-
-same-length : tie.Need-same-length
-same-length c = search needs
-
-returns : tie.Need-returns
-returns c =
-    let s = c .before .before .before .before .before .before .before .before in
-    let a = s .args in
-    rw (c .break-down .ensures)
-    (tried-broken (a .code) (a .«data») (a .t2) (a .counters) (a .m .now) _ (sym (head-found (c .before .before .before)) ∙ c .before .enum-told .given .1), broken-fit (a .t2) (s .pre))
+enum-known-head : tie.Need-enum-known-head
+enum-known-head c = search needs
 
 room-at-requires : tie.Need-room-at-requires
 room-at-requires c κs = search needs
@@ -48,18 +51,19 @@ deliver-requires c κs = search needs
 counted-requires : tie.Need-counted-requires
 counted-requires c κs = search needs
 
-same-length-2 : tie.Need-same-length-2
-same-length-2 c = search needs
+same-length : tie.Need-same-length
+same-length c = search needs
 
-returns-2 : tie.Need-returns-2
-returns-2 c =
-    let a = c .before .before .before .before .before .before .before .before .before .before .before .before .before .before .before .before .args in
-    let k = c .before .before .before .before .before .before .room-at in
-    let d = c .before .before .before .deliver in (
-      rw (c .counted .ensures .0)
-          (tried-delivered (a .code) (a .«data») (a .t2) (a .counters) (a .m .now) (c .before .before .before .before .before .before .before .before .before .next .given .0 .0) (d .result) (d .last .0) (rangesOf (k .result .reply))
-          (sym (head-found (c .before .before .before .before .before .before .before .before .before .before .before)) ∙ c .before .before .before .before .before .before .before .before .before .next .given .1, rw (c .before .before .before .before .before .if1 .taken) at (k .ensures)) (d .ensures)),
-      c .counted .ensures .1,
+returns : tie.Need-returns
+returns c =
+    let k = c .before .before .before .before .before .before in
+    let a = start (looked k) .args in
+    let d = c .before .before .before .deliver in
+    let room = rw (c .before .before .before .before .before .if1 .taken) at (k .room-at .ensures) in
+    rw (c .counted .ensures .0) (
+      tried-delivered (a .code) (a .«data») (a .t2) (a .counters) (a .m .now) _ (d .result) (d .last .0)
+          (rangesOf (k .room-at .result .reply)) (head-at k, room) (d .ensures),
+      rw (c .counted .ensures .0) at (c .counted .ensures .1),
     )
 
 pass-over-requires : tie.Need-pass-over-requires
@@ -68,18 +72,30 @@ pass-over-requires c κs = search needs
 counted-requires-2 : tie.Need-counted-requires-2
 counted-requires-2 c κs = search needs
 
+same-length-2 : tie.Need-same-length-2
+same-length-2 c = search needs
+
+returns-2 : tie.Need-returns-2
+returns-2 c =
+    let k = c .before .before .before .before in
+    let a = start k .args in
+    rw (c .halted .ensures .0) (
+      tried-broken (a .code) (a .«data») (a .t2) (a .counters) (a .m .now) _ (sym (head-found k) ∙ c .before .before .cause .given .1),
+      rw (c .halted .ensures .0) at (c .halted .ensures .1),
+    )
+
 same-length-3 : tie.Need-same-length-3
 same-length-3 c = search needs
 
 returns-3 : tie.Need-returns-3
 returns-3 c =
-    let a = c .before .before .before .before .before .before .before .before .before .before .before .before .before .before .before .before .args in
-    let k = c .before .before .before .before .before .before .room-at in
-    let d = c .before .before .before .pass-over in (
-      rw (c .counted2 .ensures .0)
-          (tried-passed (a .code) (a .«data») (a .t2) (a .counters) (a .m .now) (c .before .before .before .before .before .before .before .before .before .next .given .0 .0) (d .result) (d .last .0)
-          (sym (head-found (c .before .before .before .before .before .before .before .before .before .before .before)) ∙ c .before .before .before .before .before .before .before .before .before .next .given .1, rw (c .before .before .before .before .before .if1 .left) at (k .ensures)) (d .ensures)),
-      c .counted2 .ensures .1,
+    let k = c .before .before .before .before .before .before in
+    let a = start (looked k) .args in
+    let d = c .before .before .before .pass-over in
+    let room = rw (c .before .before .before .before .before .if1 .left) at (k .room-at .ensures) in
+    rw (c .counted2 .ensures .0) (
+      tried-passed (a .code) (a .«data») (a .t2) (a .counters) (a .m .now) _ (d .result) (d .last .0) (head-at k, room) (d .ensures),
+      rw (c .counted2 .ensures .0) at (c .counted2 .ensures .1),
     )
 
 pub try-entry-spec : {M : Type 1} → statement M
@@ -89,17 +105,17 @@ try-entry-spec =
     element-copy-out-page
     queue-size-requires
     next-head-requires
-    enum-known-next
-    enum-told
-    break-down-requires
-    same-length
-    returns
+    enum-known-cause
+    halted-requires
+    enum-known-head
     room-at-requires
     deliver-requires
     counted-requires
-    same-length-2
-    returns-2
+    same-length
+    returns
     pass-over-requires
     counted-requires-2
+    same-length-2
+    returns-2
     same-length-3
     returns-3)

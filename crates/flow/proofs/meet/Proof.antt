@@ -3,12 +3,18 @@ use mathlib.Core.Path.{_≡_, _∙_, sym, refl}
 use borrow.Author.Needs.{needs}
 use Rattle.message.specs.Message.{virtqueueIn, directionOf}
 use Rattle.ring.specs.Rules.{headOf}
-use Rattle.ring.specs.declared.Head.{Head}
 use Rattle.registers.specs.Map.{sizeOf}
 use Rattle.rules.specs.Device as rules
 use Rattle.flow.proofs.Laws.{next-taken, next-stopped}
 use Rattle.flow.proofs.meet.Statement.{statement}
 use Rattle.flow.proofs.meet.Tie as tie
+
+-- the head that the code reads is the rules'
+head-found : (c : tie.After-next-head)
+    → let a = c .before .before .before .before .before .args in
+    c .next-head .result
+    ≡ headOf (a .m .now) (a .q .page) (sizeOf (rules.queueNumber (directionOf (a .q .direction)))) (a .f .counters .taken)
+head-found c = rw (← (c .before .before .queue-size .ensures)) (c .next-head .ensures)
 
 queue-size-requires : tie.Need-queue-size-requires
 queue-size-requires c κs = search needs
@@ -16,47 +22,53 @@ queue-size-requires c κs = search needs
 next-head-requires : tie.Need-next-head-requires
 next-head-requires c κs = search needs
 
+enum-known-cause : tie.Need-enum-known-cause
+enum-known-cause c = search needs
+
+halt-requires : tie.Need-halt-requires
+halt-requires c κs = search needs
+
 enum-known-number : tie.Need-enum-known-number
 enum-known-number c = search needs
 
-enum-told : tie.Need-enum-told
-enum-told c = search needs
+take-chain-requires : tie.Need-take-chain-requires
+take-chain-requires c κs = search needs
+
+enter-requires : tie.Need-enter-requires
+enter-requires c κs =
+    let s = c .before .before .before .before .before .before .before .before .before .before .before in
+    (s .pre .0, c .before .take-chain .ensures .1, s .pre .1)
 
 same-length : tie.Need-same-length
 same-length c = search needs
 
 returns : tie.Need-returns
 returns c =
-    let s = c .before .before .before .before .before .before .before in
+    let n = c .before .before .before .before in
+    let s = n .before .before .before .before .before in
     let a = s .args in
-    let h : headOf (a .m .now) (a .q .page) (sizeOf (rules.queueNumber (directionOf (a .q .direction)))) (a .f .counters .taken) ≡ Head.Broken (c .enum-told .given .0 .0) =
-    rw (← (c .before .before .before .before .queue-size .ensures)) (sym (c .before .before .next-head .ensures) ∙ c .enum-told .given .1) in
-    record {
+    let h = sym (head-found n) ∙ c .before .before .cause .given .1 in
+    rw (c .halt .ensures)
+    (record {
       run = λ host. sym (next-stopped (virtqueueIn (a .q)) (a .m .now) host (a .f) _ h);
       message = s .pre .1;
       moved = refl;
       long = refl;
-    }
-
-take-chain-requires : tie.Need-take-chain-requires
-take-chain-requires c κs = search needs
-
-enter-requires : tie.Need-enter-requires
-enter-requires c κs = let s = c .before .before .before .before .before .before .before .before .before .before .before in (s .pre .0, c .before .take-chain .ensures .1, s .pre .1)
+    })
 
 same-length-2 : tie.Need-same-length-2
 same-length-2 c = search needs
 
 returns-2 : tie.Need-returns-2
 returns-2 c =
-    let s = c .before .before .before .before .before .before .before .before .before .before .before .before .before .before in
-    let a = s .args in
-    let n = c .before .before .before .before .before .before .before .number .given .0 .0 in
-    let h : headOf (a .m .now) (a .q .page) (sizeOf (rules.queueNumber (directionOf (a .q .direction)))) (a .f .counters .taken) ≡ Head.At n =
-    rw (← (c .before .before .before .before .before .before .before .before .before .before .before .queue-size .ensures)) (sym (c .before .before .before .before .before .before .before .before .before .next-head .ensures) ∙ c .before .before .before .before .before .before .before .number .given .1) in
-    let t = rw (c .before .before .before .before .take-chain .ensures .0) at (c .before .before .enter .ensures) in
+    let e = c .before .before in
+    let k = e .before .before .before .before .before in
+    let n = k .before .before in
+    let a = n .before .before .before .before .before .args in
+    let h = sym (head-found n) ∙ k .number .given .1 in
+    let t = rw (e .before .before .take-chain .ensures .0) at (e .enter .ensures) in
     record {
-      run = λ host. t .run host ∙ sym (next-taken (virtqueueIn (a .q)) (a .m .now) host (a .f) n h);
+      run = λ host. t .run host ∙ sym (next-taken (virtqueueIn (a .q)) (a .m .now) host (a .f) _ h);
       message = t .message;
       moved = t .moved;
       long = t .long;
@@ -68,11 +80,12 @@ meet-spec =
     (tie.spec
     queue-size-requires
     next-head-requires
+    enum-known-cause
+    halt-requires
     enum-known-number
-    enum-told
-    same-length
-    returns
     take-chain-requires
     enter-requires
+    same-length
+    returns
     same-length-2
     returns-2)

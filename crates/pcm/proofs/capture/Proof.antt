@@ -13,31 +13,44 @@ use Rattle.pcm.proofs.Outcomes.{checked, transfer-refused, transfer-idl
 use Rattle.pcm.proofs.capture.Statement.{statement}
 use Rattle.pcm.proofs.capture.Tie as tie
 
--- the checks 1, 5, 6 are passed
-passed : (c : tie.Else1) → let a = c .before .before .before .before .args in refusalOf (restOf (a .card)) (length (a .m .now)) 1 ≡ 0
+-- where the function starts, and where the checks 1, 5, 6 are passed
+abbrev start : tie.Else1 → tie.Start
+start c = c .before .before .before .before
+
+abbrev tested : tie.After-check-queue → tie.Else1
+tested c = c .before .before .before .before .before .before .before
+
+passed : (c : tie.Else1) → let a = start c .args in refusalOf (restOf (a .card)) (length (a .m .now)) 1 ≡ 0
 passed c = sym (c .before .refusal .ensures) ∙ c .if1 .left
 
 -- the code's check of the queue is the rules'
 checks : (c : tie.After-check-queue)
-    → let p = c .before .before .before .before .before .before .before in
-    let s = p .before .before .before .before in
-    c .check-queue .result ≡ checked Input (s .args .card) (s .args .m .now) (s .args .host .now) (s .pre) (passed p)
+    → let s = start (tested c) in
+    c .check-queue .result ≡ checked Input (s .args .card) (s .args .m .now) (s .args .host .now) (s .pre) (passed (tested c))
 unfolding restOf
 checks c =
-    rw (c .before .before .before .before .before .before .virtqueue .ensures, c .before .before .queue-size .ensures) at (c .check-queue .ensures)
+    rw (c .before .before .before .before .before .before .virtqueue .ensures, c .before .before .queue-size .ensures)
+    at (c .check-queue .ensures)
 
 -- the message in work is fit
-in-work-fit : (c : tie.Else1) → let s = c .before .before .before .before in FitMessage (length (s .args .m .now)) (s .args .card .capture)
-in-work-fit c = let s = c .before .before .before .before in rw (passed-length (s .args .card) (length (s .args .m .now)) 1 (passed c)) (s .pre .capture)
+in-work-fit : (c : tie.Else1) → let a = start c .args in FitMessage (length (a .m .now)) (a .card .capture)
+in-work-fit c =
+    let s = start c in
+    rw (passed-length (s .args .card) (length (s .args .m .now)) 1 (passed c)) (s .pre .capture)
 
 refusal-requires : tie.Need-refusal-requires
 refusal-requires c κs = search needs
 
+untouched-requires : tie.Need-untouched-requires
+untouched-requires c κs = search needs
+
 returns : tie.Need-returns
 returns c =
-    let s = c .before .before .before .before in
+    let i = c .before in
+    let s = i .before .before .before .before in
     let a = s .args in
-    (transfer-refused Input (a .card) (a .m .now) (a .host .now) _ (sym (c .before .refusal .ensures)) (c .if1 .taken), s .pre)
+    rw (c .untouched .ensures)
+    (transfer-refused Input (a .card) (a .m .now) (a .host .now) _ (sym (i .before .refusal .ensures)) (i .if1 .taken), s .pre)
 
 virtqueue-requires : tie.Need-virtqueue-requires
 virtqueue-requires c κs = search needs
@@ -54,8 +67,11 @@ check-queue-requires c κs = search needs
 enum-told : tie.Need-enum-told
 enum-told c = search needs
 
-enum-told-2 : tie.Need-enum-told-2
-enum-told-2 c = search needs
+untouched-requires-2 : tie.Need-untouched-requires-2
+untouched-requires-2 c κs = search needs
+
+enum-known-cause : tie.Need-enum-known-cause
+enum-known-cause c = search needs
 
 broken-down-requires : tie.Need-broken-down-requires
 broken-down-requires c κs = search needs
@@ -64,7 +80,9 @@ enum-known-new : tie.Need-enum-known-new
 enum-known-new c = search needs
 
 capture-requires : tie.Need-capture-requires
-capture-requires c κs = let k = c .before .before .before .before in (rw (k .before .before .before .before .before .before .virtqueue .ensures), in-work-fit (k .before .before .before .before .before .before .before))
+capture-requires c κs =
+    let k = c .before .before .before .before in
+    (rw (k .before .before .before .before .before .before .virtqueue .ensures), in-work-fit (tested k))
 
 transferred-requires : tie.Need-transferred-requires
 transferred-requires c κs = search needs
@@ -74,43 +92,42 @@ same-length c = search needs
 
 returns-2 : tie.Need-returns-2
 returns-2 c =
-    let k = c .before .before in
-    let p = k .before .before .before .before .before .before .before in
-    let s = p .before .before .before .before in
+    let k = c .before .before .before in
+    let s = start (tested k) in
     let a = s .args in
-    (transfer-idle Input (a .card) (a .m .now) (a .host .now) (s .pre) (passed p) (sym (checks k) ∙ c .enum-told .given .1), s .pre)
+    rw (c .untouched2 .ensures)
+    (transfer-idle Input (a .card) (a .m .now) (a .host .now) (s .pre) (passed (tested k)) (sym (checks k) ∙ c .before .enum-told .given .1), s .pre)
 
 same-length-2 : tie.Need-same-length-2
 same-length-2 c = search needs
 
 returns-3 : tie.Need-returns-3
 returns-3 c =
-    let k = c .before .before .before in
-    let p = k .before .before .before .before .before .before .before in
-    let s = p .before .before .before .before in
+    let k = c .before .before .before .before in
+    let s = start (tested k) in
     let a = s .args in
-    rw (c .broken-down .ensures) (
-      transfer-broken Input (a .card) (a .m .now) (a .host .now) (s .pre) (passed p) _ (sym (checks k) ∙ c .before .enum-told2 .given .1),
-      broken-card-fit (a .card) (s .pre),
-    )
+    let h = sym (checks k) ∙ c .before .before .cause .given .1 in
+    rw (c .broken-down .ensures)
+    (transfer-broken Input (a .card) (a .m .now) (a .host .now) (s .pre) (passed (tested k)) _ h, broken-card-fit (a .card) (s .pre))
 
 same-length-3 : tie.Need-same-length-3
 same-length-3 c = search needs
 
 returns-4 : tie.Need-returns-4
 returns-4 c =
-    let k = c .before .before .before .before .before .before .before .before in
-    let p = k .before .before .before .before .before .before .before in
-    let s = p .before .before .before .before in
+    let g = c .before .before .before in
+    let new = g .before .before .before in
+    let k = new .before .before in
+    let s = start (tested k) in
     let a = s .args in
-    let new = c .before .before .before .before .before .before .new in
-    let g = c .before .before .before .capture in
-    let t = rw (k .before .before .before .before .before .before .virtqueue .ensures, virtqueue-in (a .card) Input) at (g .ensures) in
+    let f = g .capture .result in
+    let t = rw (k .before .before .before .before .before .before .virtqueue .ensures, virtqueue-in (a .card) Input) at (g .capture .ensures) in
     let fresh = fresh-run (countersAt (a .card) 3) (a .card .capture) (a .m .now) (a .host .now) in
+    let fit = rw (passed-length (a .card) (length (a .m .now)) 1 (passed (tested k))) at (t .fit .message) in
     rw (c .transferred .ensures) (
-      transfer-new Input (a .card) (a .m .now) (a .host .now) (s .pre) (passed p) (new .given .0 .0) (sym (checks k) ∙ new .given .1)
-          _ _ (g .result) (t .run ∙ rw fresh) (t .fit .inside) (t .host-long),
-      flowed-fit Input (g .result) (a .card) (s .pre) (rw (passed-length (a .card) (length (a .m .now)) 1 (passed p)) at (t .fit .message)),
+      transfer-new Input (a .card) (a .m .now) (a .host .now) (s .pre) (passed (tested k)) (new .new .given .0 .0)
+          (sym (checks k) ∙ new .new .given .1) _ _ f (t .run ∙ rw fresh) (t .fit .inside) (t .host-long),
+      flowed-fit Input f (a .card) (s .pre) fit,
     )
 
 pub capture-spec : {M : Type 1} → statement M
@@ -118,13 +135,15 @@ capture-spec =
     tie.close
     (tie.spec
     refusal-requires
+    untouched-requires
     returns
     virtqueue-requires
     array-copy-out-counters
     queue-size-requires
     check-queue-requires
     enum-told
-    enum-told-2
+    untouched-requires-2
+    enum-known-cause
     broken-down-requires
     enum-known-new
     capture-requires

@@ -6,14 +6,14 @@ use Rattle.pcm.proofs.flowed.Tie as tie
 signal-if-requires : tie.Need-signal-if-requires
 signal-if-requires c κs = search needs
 
-break-unless-requires : tie.Need-break-unless-requires
-break-unless-requires c κs = search needs
+break-by-requires : tie.Need-break-by-requires
+break-by-requires c κs = search needs
 
 with-flow-requires : tie.Need-with-flow-requires
 with-flow-requires c κs = search needs
 
 returns : tie.Need-returns
-returns c = rw (c .with-flow .ensures, c .before .break-unless .ensures, c .before .before .signal-if .ensures)
+returns c = rw (c .with-flow .ensures, c .before .break-by .ensures, c .before .before .signal-if .ensures)
 
 pub flowed-spec : {M : Type 1} → statement M
-flowed-spec = tie.close (tie.spec signal-if-requires break-unless-requires with-flow-requires returns)
+flowed-spec = tie.close (tie.spec signal-if-requires break-by-requires with-flow-requires returns)

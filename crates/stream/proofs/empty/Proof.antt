@@ -8,10 +8,13 @@ use Rattle.stream.proofs.Outcomes.{checked, empties-idle, empties-broke
 use Rattle.stream.proofs.empty.Statement.{statement}
 use Rattle.stream.proofs.empty.Tie as tie
 
+-- where the function starts
+abbrev start : tie.After-check-queue → tie.Start
+start c = c .before .before .before .before .before .before .before
+
 -- the code's check is the rules'
 checks : (c : tie.After-check-queue)
-    → let a = c .before .before .before .before .before .before .before .args in
-    c .check-queue .result ≡ checked (a .card) (a .direction) (a .m .now) (c .before .before .before .before .before .before .before .pre .0)
+    → let s = start c in c .check-queue .result ≡ checked (s .args .card) (s .args .direction) (s .args .m .now) (s .pre .0)
 unfolding restOf
 checks c =
     rw (
@@ -39,8 +42,8 @@ check-queue-requires c κs = search needs
 enum-told : tie.Need-enum-told
 enum-told c = search needs
 
-enum-told-2 : tie.Need-enum-told-2
-enum-told-2 c = search needs
+enum-known-cause : tie.Need-enum-known-cause
+enum-known-cause c = search needs
 
 enum-known-new : tie.Need-enum-known-new
 enum-known-new c = search needs
@@ -58,36 +61,39 @@ same-length c = search needs
 
 returns : tie.Need-returns
 returns c =
-    let s = c .before .before .before .before .before .before .before .before .before in
-    empties-idle (s .args .card) (s .args .direction) (s .args .m .now) (s .pre .0) (sym (checks (c .before .before)) ∙ c .enum-told .given .1)
+    let k = c .before .before in
+    let s = start k in
+    empties-idle (s .args .card) (s .args .direction) (s .args .m .now) (s .pre .0) (sym (checks k) ∙ c .enum-told .given .1)
 
 same-length-2 : tie.Need-same-length-2
 same-length-2 c = search needs
 
 returns-2 : tie.Need-returns-2
 returns-2 c =
-    let s = c .before .before .before .before .before .before .before .before .before in
-    empties-broken (s .args .card) (s .args .direction) (s .args .m .now) (s .pre .0) _ (sym (checks (c .before .before)) ∙ c .enum-told2 .given .1)
+    let k = c .before .before .before in
+    let s = start k in
+    empties-broken (s .args .card) (s .args .direction) (s .args .m .now) (s .pre .0) _ (sym (checks k) ∙ c .before .cause .given .1)
 
 same-length-3 : tie.Need-same-length-3
 same-length-3 c = search needs
 
 returns-3 : tie.Need-returns-3
 returns-3 c =
-    let s = c .before .before .before .before .before .before .before .before .before .before .before .before .before .before .before in
+    let f = c .before .before .before in
+    let new = f .before .before .before in
+    let k = new .before .before in
+    let s = start k in
     let a = s .args in
-    let new = c .before .before .before .before .before .before .new in
-    let f = c .before .before .before .release in
     let t =
     rw (
-      c .before .before .before .before .before .before .before .before .before .before .before .message-of .ensures,
-      c .before .before .before .before .before .before .before .before .before .before .before .before .counters-of .ensures,
-      c .before .before .before .before .before .before .before .before .before .before .before .before .before .virtqueue .ensures,
+      k .before .before .before .message-of .ensures,
+      k .before .before .before .before .counters-of .ensures,
+      k .before .before .before .before .before .virtqueue .ensures,
       virtqueue-in (a .card) (a .direction),
-    ) at (f .ensures) in
+    ) at (f .release .ensures) in
     rw (c .with-flow .ensures)
-    (empties-new (a .card) (a .direction) (a .m .now) (s .pre .0) (new .given .0 .0)
-    (sym (checks (c .before .before .before .before .before .before .before .before)) ∙ new .given .1) (s .pre .1) _ (f .result) t)
+    (empties-new (a .card) (a .direction) (a .m .now) (s .pre .0) (new .new .given .0 .0) (sym (checks k) ∙ new .new .given .1) (s .pre .1) _
+    (f .release .result) t)
 
 pub empty-spec : {M : Type 1} → statement M
 empty-spec =
@@ -99,7 +105,7 @@ empty-spec =
     queue-size-requires
     check-queue-requires
     enum-told
-    enum-told-2
+    enum-known-cause
     enum-known-new
     release-requires
     with-flow-requires
