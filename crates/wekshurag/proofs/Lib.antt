@@ -1,2 +1,3 @@
 -- Laws of the boundary to C.
 pub mod Sizes
+pub mod Demand3
