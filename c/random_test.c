@@ -8,7 +8,9 @@
  * copy of the card and of memory does the same. Card, memory and host buffer each end at a page that can't be touched and begin behind
  * bytes that must keep their value. At the end: every answer was seen, and bytes were played and recorded.
  */
+#ifndef _DEFAULT_SOURCE
 #define _DEFAULT_SOURCE
+#endif
 #include "wekshurag.h"
 
 #include <stdio.h>

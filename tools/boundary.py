@@ -1,7 +1,7 @@
 #!/usr/bin/env python3
-"""boundary.py: writes crates/wekshurag/proofs/ENTRY/Proof.antt for each entry that takes the card behind `&mut`.
+"""boundary.py: writes crates/wekshurag/proofs/ENTRY/Proof.antt for each entry that takes the card behind `&mut`. Run `rt fmt` after it.
 
-Such an entry has this form, and the proof that it meets its contract is a walk of its MIR which is the same for all of them:
+Such an entry has this form, and the proof that it meets its contract is a walk of its MIR that is the same for all of them:
 
     pub extern "C" fn ENTRY(card: &mut Card, PARAMS..) -> RESULT {
         let before = *card;
@@ -10,10 +10,13 @@ Such an entry has this form, and the proof that it meets its contract is a walk 
         RESULT { .. fields of after .. }
     }
 
-A row of ENTRIES below says: the entry, the callee and its crate, the struct that the callee returns with its fields, RESULT with the fields of it
-that it holds, the parameters, the definitions that the contract names, and the contract itself. In the contract, c is the card at entry, NAME
-a parameter (the number, or the list at entry), NAME' the list at exit, r what the callee returns. Both functions require `Fit c`.
-PARAMS: NAME:KIND, KIND one of mut (`&mut [u8]`), shared (`&[u8]`), u32, u64.
+A row of ENTRIES says: the entry; the callee and its crate; the struct that the callee returns, with its fields; RESULT, with the fields
+that it holds (a count that the callee does not return is 0); the parameters; the definitions that the contract names; the contract. In
+the contract, c is the card at entry, NAME a parameter (the number, or the list at entry), NAME' the list at exit, r what the callee
+returns. Both functions require `Fit c`. PARAMS are NAME:KIND, KIND one of mut (`&mut [u8]`), shared (`&[u8]`), u32, u64.
+
+Where types are compared the walk cites an equation that was proved apart (`after-is`, `at-..`): compared in place, types as large as the
+card's take the checker past its limit of steps.
 """
 import os
 import re
@@ -22,25 +25,29 @@ import textwrap
 ROOT = os.path.dirname(os.path.dirname(os.path.abspath(__file__)))
 CARD = ('card', '')
 CARDS = ['Rattle.card.specs.Rules.{readCard, writeCard}', 'Rattle.card.specs.Fit.{Fit}']
-STEPS = ['lib.ListN.{take}', 'Rattle.meaning.specs.Card.{stepOf, leaves}', 'Rattle.rules.specs.Calls.{Request, Event}', 'Rattle.card.specs.Fit.{Fit}']
+STEPS = ['lib.ListN.{take}', 'Rattle.meaning.specs.Card.{stepOf, leaves}', 'Rattle.rules.specs.Calls.{Request, Event}',
+         'Rattle.card.specs.Fit.{Fit}']
+ANSWER, COUNT = ('answer', 'u8'), ('count', 'usize')
 
 ENTRIES = [
-    dict(entry='wekshurag_read', lib='card', callee='read_register', after='ReadAnswer', fields=[('answer', 'u8'), ('value', 'u32'), CARD],
+    dict(entry='wekshurag_read', lib='card', callee='read_register', after='ReadAnswer', fields=[ANSWER, ('value', 'u32'), CARD],
          result='ReadResult', holds=['answer', 'value'], params='offset:u64 width:u64', names=CARDS,
          contract='(r ≡ readCard c offset width) × Fit (r .card)'),
-    dict(entry='wekshurag_write', lib='card', callee='write_register', after='WriteAnswer', fields=[('answer', 'u8'), ('rung', 'u8'), CARD],
+    dict(entry='wekshurag_write', lib='card', callee='write_register', after='WriteAnswer', fields=[ANSWER, ('rung', 'u8'), CARD],
          result='WriteResult', holds=['answer', 'rung'], params='offset:u64 width:u64 value:u64', names=CARDS,
          contract='(r ≡ writeCard c offset width value) × Fit (r .card)'),
-    dict(entry='wekshurag_control', lib='controlq', callee='control', after='ControlAnswer', fields=[('answer', 'u8'), ('count', 'usize'), CARD],
+    dict(entry='wekshurag_control', lib='controlq', callee='control', after='ControlAnswer', fields=[ANSWER, COUNT, CARD],
          result='CallResult', holds=['answer', 'count'], params='ram:mut', names=STEPS,
          contract="(stepOf c Request.Control ram ≡ leaves (r .card) (r .answer) (r .count) [] [] ram') × Fit (r .card)"),
-    dict(entry='wekshurag_play', lib='pcm', callee='play', after='TransferAnswer', fields=[('answer', 'u8'), ('count', 'usize'), CARD],
+    dict(entry='wekshurag_play', lib='pcm', callee='play', after='TransferAnswer', fields=[ANSWER, COUNT, CARD],
          result='CallResult', holds=['answer', 'count'], params='ram:mut host:mut', names=STEPS,
-         contract="(stepOf c (Request.Play host) ram ≡ leaves (r .card) (r .answer) (r .count) (take (r .count) host') host' ram') × Fit (r .card)"),
-    dict(entry='wekshurag_capture', lib='pcm', callee='capture', after='TransferAnswer', fields=[('answer', 'u8'), ('count', 'usize'), CARD],
+         contract="(stepOf c (Request.Play host) ram ≡ leaves (r .card) (r .answer) (r .count) (take (r .count) host') host' ram')"
+                  ' × Fit (r .card)'),
+    dict(entry='wekshurag_capture', lib='pcm', callee='capture', after='TransferAnswer', fields=[ANSWER, COUNT, CARD],
          result='CallResult', holds=['answer', 'count'], params='ram:mut host:shared', names=STEPS,
-         contract="(stepOf c (Request.Capture host) ram ≡ leaves (r .card) (r .answer) (r .count) (take (r .count) host) [] ram') × Fit (r .card)"),
-    dict(entry='wekshurag_event', lib='event', callee='event', after='EventAnswer', fields=[('answer', 'u8'), CARD],
+         contract="(stepOf c (Request.Capture host) ram ≡ leaves (r .card) (r .answer) (r .count) (take (r .count) host) [] ram')"
+                  ' × Fit (r .card)'),
+    dict(entry='wekshurag_event', lib='event', callee='event', after='EventAnswer', fields=[ANSWER, CARD],
          result='CallResult', holds=['answer', 'count'], params='ram:mut code:u32 data:u32', names=STEPS,
          contract="(stepOf c (Event code data) ram ≡ leaves (r .card) (r .answer) 0 [] [] ram') × Fit (r .card)"),
 ]

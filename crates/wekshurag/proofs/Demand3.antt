@@ -9,8 +9,8 @@ use Rattle.card.specs.Rules.{readCard, writeCard}
 use Rattle.card.specs.declared.Card.{Card}
 use Rattle.card.specs.declared.ReadAnswer.{ReadAnswer}
 use Rattle.card.specs.declared.WriteAnswer.{WriteAnswer}
-use Rattle.message.specs.Card.{deviceOf, stepOf, leaves}
-use Rattle.message.proofs.Steps.{read-step, write-step}
+use Rattle.meaning.specs.Card.{deviceOf, stepOf, leaves}
+use Rattle.meaning.proofs.Steps.{read-step, write-step}
 use Rattle.rules.specs.Calls.{Request, ReadRegister, WriteRegister, Control, Play, Capture, Event, Step, toldAll, nothingRung}
 use Rattle.rules.specs.Device as rules
 use Rattle.calls.specs.Calls.{Does}
