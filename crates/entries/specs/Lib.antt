@@ -1,0 +1,2 @@
+-- An answer's number and queue side by side.
+pub mod Entries
