@@ -20,7 +20,9 @@ use Rattle.chain.specs.declared.End.the-variants.{Whole, Faulted}
 use Rattle.chain.specs.declared.Descriptor.{Descriptor}
 use Rattle.chain.specs.declared.Chain.{Chain}
 use Rattle.chain.specs.declared.Walked.{Walked}
-use Rattle.chain.specs.Walk.{descriptorAt, descriptors, noDescriptor, hasNext, isWritable, isIndirect, rangeOf, Outcome, whole, faulted, andThen, byEnd, joinedOf, enterOf, onward, inTable, direct, walkOf, emptyChain, SoundChain, Joins}
+use Rattle.chain.specs.Walk.{descriptorAt, descriptors, noDescriptor, hasNext, isWritable, isIndirect, rangeOf, Outcome, whole}
+use Rattle.chain.specs.Walk.{faulted, andThen, byEnd, joinedOf, enterOf, onward, inTable, direct, walkOf, emptyChain, SoundChain}
+use Rattle.chain.specs.Walk.{Joins}
 
 -- ---- tables
 

@@ -10,7 +10,8 @@ use Rattle.memory.specs.Bytes.{le, insideOf}
 use Rattle.ranges.specs.Ranges.{noRanges, rangesOf, total, Sound}
 use Rattle.ranges.specs.declared.Range.{Range}
 use Rattle.chain.specs.declared.Fault.{Fault}
-use Rattle.chain.specs.declared.Fault.the-variants.{PastTable, TooMany, Order, TooLong, NotNegotiated, WithNext, Nested, TableLength, TableOutside}
+use Rattle.chain.specs.declared.Fault.the-variants.{PastTable, TooMany, Order, TooLong, NotNegotiated, WithNext, Nested}
+use Rattle.chain.specs.declared.Fault.the-variants.{TableLength, TableOutside}
 use Rattle.chain.specs.declared.End.{End}
 use Rattle.chain.specs.declared.End.the-variants.{Whole, Faulted}
 use Rattle.chain.specs.declared.Descriptor.{Descriptor}

@@ -3,7 +3,8 @@
 ghost use mathlib.Core.Path.{_≡_};
 ghost use Prim.Native.Nat.{_+_, _*_, _<_};
 ghost use Rattle.chain.specs.declared.End.the-variants.{Faulted};
-ghost use Rattle.chain.specs.Walk.{descriptorAt, hasNext, isWritable, isIndirect, rangeOf, enterOf, SoundChain, emptyChain, Joins, Follows, Walks};
+ghost use Rattle.chain.specs.Walk.{descriptorAt, hasNext, isWritable, isIndirect, rangeOf, enterOf, SoundChain, emptyChain};
+ghost use Rattle.chain.specs.Walk.{Joins, Follows, Walks};
 use counts::DescriptorNumber;
 use counts::GuestAddress;
 use memory::get16;

@@ -3,7 +3,8 @@ ghost use mathlib.Core.Path.{_≡_};
 ghost use Prim.Native.Nat.{_+_, _≤_, _<_};
 ghost use lib.ListN.{take};
 ghost use Rattle.description.specs.Nothing.{nothingDescribed};
-ghost use Rattle.description.specs.Lawful.{every, lawful, lawfulJack, lawfulMap, lawfulStream, lawfulChannels, lawfulPositions, lawfulPosition, inBits};
+ghost use Rattle.description.specs.Lawful.{every, lawful, lawfulJack, lawfulMap, lawfulStream, lawfulChannels, lawfulPositions};
+ghost use Rattle.description.specs.Lawful.{lawfulPosition, inBits};
 
 #[repr(C)]
 pub struct JackInfo {

@@ -292,7 +292,12 @@ module _ (m : List ℕ) (a n p k : ℕ) (at : p ≡ min a (length m)) (inside : 
   pub gather-place :
       (dst : List ℕ) (d : ℕ)
       → sets dst d (bytesAt m (upFrom a n)) ≡ sets (sets dst d (bytesAt m (upFrom p k))) (d + k) (replicate (n - k) 0)
-  gather-place dst d = rw (upFrom-place, gather-next m p k (upFrom (a + k) (n - k)) dst d, bytesAt-past (n - k) m (a + k) (λ h. omega arith))
+  gather-place dst d =
+      rw (
+        upFrom-place,
+        gather-next m p k (upFrom (a + k) (n - k)) dst d,
+        bytesAt-past (n - k) m (a + k) (λ h. omega arith),
+      )
 
   pub scatter-place :
       (src : List ℕ) (f : ℕ)
@@ -313,7 +318,13 @@ module _ (m : List ℕ) (n k : ℕ) (as′ : List ℕ) where
       (dst : List ℕ) (at : ℕ)
       → k ≡ min n (length dst - at)
       → sets dst at (bytesAt m (take k as′)) ≡ sets dst at (bytesAt m (take n as′))
-  gather-room dst at h = rw (h, take-min, map-take _ (length dst - at), sets-take (length dst - at) (bytesAt m (take n as′)) dst at (omega arith))
+  gather-room dst at h =
+      rw (
+        h,
+        take-min,
+        map-take _ (length dst - at),
+        sets-take (length dst - at) (bytesAt m (take n as′)) dst at (omega arith),
+      )
 
   pub scatter-room :
       (src : List ℕ) (from : ℕ)

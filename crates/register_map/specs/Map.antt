@@ -3,7 +3,8 @@ use mathlib.Core.Bool.{cond, _&&_, _||_}
 use Prim.Native.Nat.{ℕ, _+_, _-_}
 use lib.Dec.{eqb, leb}
 use Rattle.register_map.specs.declared.Register.{Register}
-use Rattle.register_map.specs.declared.Register.the-variants.{HostFeatures, GuestFeatures, QueuePfn, QueueNum, QueueSel, QueueNotify, Status, Isr, DeviceConfig, Absent}
+use Rattle.register_map.specs.declared.Register.the-variants.{HostFeatures, GuestFeatures, QueuePfn, QueueNum, QueueSel}
+use Rattle.register_map.specs.declared.Register.the-variants.{QueueNotify, Status, Isr, DeviceConfig, Absent}
 
 abbrev pub exactly : ℕ → ℕ → Register → Register
 exactly width size r = cond (eqb width size) r Absent

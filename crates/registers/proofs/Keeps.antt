@@ -8,10 +8,13 @@ use lib.Dec.{eqb, ltb}
 use lib.ListN.{length-set}
 use Rattle.registers.specs.Fit.{FitRegisters}
 use Rattle.register_map.specs.Map.{registerAt}
-use Rattle.registers.specs.Rules.{readOf, writeOf, readRegister, writeRegister, powerOn, signalled, broken, isrRead, wroteFeatures, wrotePage, wroteSelector, wroteNotify, wroteStatus, fitting, storedStatus, onlyOffered, featuresOk, hasBit, withBit, withStatus, withIsr}
+use Rattle.registers.specs.Rules.{readOf, writeOf, readRegister, writeRegister, powerOn, signalled, broken, isrRead}
+use Rattle.registers.specs.Rules.{wroteFeatures, wrotePage, wroteSelector, wroteNotify, wroteStatus, fitting, storedStatus}
+use Rattle.registers.specs.Rules.{onlyOffered, featuresOk, hasBit, withBit, withStatus, withIsr}
 use Rattle.registers.specs.declared.Config.{Config}
 use Rattle.register_map.specs.declared.Register.{Register}
-use Rattle.register_map.specs.declared.Register.the-variants.{HostFeatures, GuestFeatures, QueuePfn, QueueNum, QueueSel, QueueNotify, Status, Isr, DeviceConfig, Absent}
+use Rattle.register_map.specs.declared.Register.the-variants.{HostFeatures, GuestFeatures, QueuePfn, QueueNum, QueueSel, QueueNotify}
+use Rattle.register_map.specs.declared.Register.the-variants.{Status, Isr, DeviceConfig, Absent}
 use Rattle.registers.specs.declared.Registers.{Registers}
 use Rattle.registers.specs.declared.Written.{Written}
 

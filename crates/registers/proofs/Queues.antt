@@ -5,11 +5,13 @@ use native.Mathlib.Omega.{arith}
 use borrow.Author.Tests.{ltb-true}
 use lib.Dec.{eqb, ltb}
 use Rattle.register_map.specs.Map.{registerAt}
-use Rattle.registers.specs.Rules.{writeOf, writeRegister, wroteFeatures, wrotePage, wroteSelector, wroteNotify, wroteStatus, fitting, driverOk}
+use Rattle.registers.specs.Rules.{writeOf, writeRegister, wroteFeatures, wrotePage, wroteSelector, wroteNotify, wroteStatus}
+use Rattle.registers.specs.Rules.{fitting, driverOk}
 use Rattle.registers.specs.declared.Effect.{Effect}
 use Rattle.registers.specs.declared.Effect.the-variants.{Nothing, Reset, Based, Rung}
 use Rattle.register_map.specs.declared.Register.{Register}
-use Rattle.register_map.specs.declared.Register.the-variants.{HostFeatures, GuestFeatures, QueuePfn, QueueNum, QueueSel, QueueNotify, Status, Isr, DeviceConfig, Absent}
+use Rattle.register_map.specs.declared.Register.the-variants.{HostFeatures, GuestFeatures, QueuePfn, QueueNum, QueueSel, QueueNotify}
+use Rattle.register_map.specs.declared.Register.the-variants.{Status, Isr, DeviceConfig, Absent}
 use Rattle.registers.specs.declared.Registers.{Registers}
 use Rattle.registers.specs.declared.Written.{Written}
 use Rattle.registers.proofs.Keeps.{by-cond}

@@ -8,7 +8,8 @@ use Rattle.memory.specs.Bytes.{le, put}
 use Rattle.registers.specs.Answers.{done, noSuchAccess, wrongDirection, valueTooWide}
 use Rattle.register_map.specs.Map.{registerAt, sizeOf}
 use Rattle.register_map.specs.declared.Register.{Register}
-use Rattle.register_map.specs.declared.Register.the-variants.{HostFeatures, GuestFeatures, QueuePfn, QueueNum, QueueSel, QueueNotify, Status, Isr, DeviceConfig, Absent}
+use Rattle.register_map.specs.declared.Register.the-variants.{HostFeatures, GuestFeatures, QueuePfn, QueueNum, QueueSel, QueueNotify}
+use Rattle.register_map.specs.declared.Register.the-variants.{Status, Isr, DeviceConfig, Absent}
 use Rattle.registers.specs.declared.Effect.{Effect}
 use Rattle.registers.specs.declared.Effect.the-variants.{Nothing, Reset, Based, Rung}
 use Rattle.registers.specs.declared.Registers.{Registers}

@@ -39,8 +39,9 @@ stopped-requires c κs = search needs
 returns : tie.Need-returns
 unfolding joinedOf
 returns c =
-    let p = c .before .before .before .before .before .before .before .before .before .pre in
-    let a = c .before .before .before .before .before .before .before .before .before .args in
+    let back6 = c .before .before .before .before .before .before in
+    let p = back6 .before .before .before .pre in
+    let a = back6 .before .before .before .args in
     stops (p .0) (c .stopped .ensures)
     (rw (
       sym (c .before .before .before .before .before .is-writable .ensures) ∙ c .before .before .before .before .if1 .taken,
@@ -54,8 +55,9 @@ with-requires c κs = search needs
 returns-2 : tie.Need-returns-2
 unfolding joinedOf
 returns-2 c =
-    let p = c .before .before .before .before .before .before .before .before .before .pre in
-    let a = c .before .before .before .before .before .before .before .before .before .args in
+    let back6 = c .before .before .before .before .before .before in
+    let p = back6 .before .before .before .pre in
+    let a = back6 .before .before .before .args in
     let g = longer (a .chain .reply) (rangeOf (a .d)) (c .with .result) (p .0 .reply) (omega arith) (omega arith)
     (rw (← (c .before .before .before .before .before .before .range .ensures)) (c .with .ensures)) in
     record {
@@ -75,8 +77,9 @@ stopped-requires-2 c κs = search needs
 returns-3 : tie.Need-returns-3
 unfolding joinedOf
 returns-3 c =
-    let p = c .before .before .before .before .before .before .before .before .pre in
-    let r = c .before .before .before .before .before .before .before .before .args .chain .reply in
+    let back6 = c .before .before .before .before .before .before in
+    let p = back6 .before .before .pre in
+    let r = back6 .before .before .args .chain .reply in
     stops (p .0) (c .stopped2 .ensures)
     (rw (
       sym (c .before .before .before .before .is-writable .ensures) ∙ c .before .before .before .if1 .left,
@@ -93,11 +96,12 @@ stopped-requires-3 c κs = search needs
 returns-4 : tie.Need-returns-4
 unfolding joinedOf
 returns-4 c =
-    let p = c .before .before .before .before .before .before .before .before .before .before .before .pre in
-    let a = c .before .before .before .before .before .before .before .before .before .before .before .args in
+    let back6 = c .before .before .before .before .before .before in
+    let p = back6 .before .before .before .before .before .pre in
+    let a = back6 .before .before .before .before .before .args in
     stops (p .0) (c .stopped3 .ensures)
     (rw (
-      sym (c .before .before .before .before .before .before .before .is-writable .ensures) ∙ c .before .before .before .before .before .before .if1 .left,
+      sym (back6 .before .is-writable .ensures) ∙ c .before .before .before .before .before .before .if1 .left,
       length-rangesOf (a .chain .reply) (p .0 .reply),
       eq-eqb (a .chain .reply .count) 0 (omega arith),
       ← (p .0 .request .sum),
@@ -110,13 +114,14 @@ with-requires-2 c κs = search needs
 returns-5 : tie.Need-returns-5
 unfolding joinedOf
 returns-5 c =
-    let p = c .before .before .before .before .before .before .before .before .before .before .before .pre in
-    let a = c .before .before .before .before .before .before .before .before .before .before .before .args in
+    let back6 = c .before .before .before .before .before .before in
+    let p = back6 .before .before .before .before .before .pre in
+    let a = back6 .before .before .before .before .before .args in
     let g = longer (a .chain .request) (rangeOf (a .d)) (c .with2 .result) (p .0 .request) (omega arith) (omega arith)
-    (rw (← (c .before .before .before .before .before .before .before .before .range .ensures)) (c .with2 .ensures)) in
+    (rw (← (back6 .before .before .range .ensures)) (c .with2 .ensures)) in
     record {
       outcome = rw (
-        sym (c .before .before .before .before .before .before .before .is-writable .ensures) ∙ c .before .before .before .before .before .before .if1 .left,
+        sym (back6 .before .is-writable .ensures) ∙ c .before .before .before .before .before .before .if1 .left,
         length-rangesOf (a .chain .reply) (p .0 .reply),
         eq-eqb (a .chain .reply .count) 0 (omega arith),
         ← (p .0 .request .sum),

@@ -16,11 +16,22 @@ returns-2 c = rw (le-leb _ _ (c .before .before .if1 .left), lt-leb _ _ (c .if2 
 
 returns-3 : tie.Need-returns-3
 unfolding lawful lawfulCounts
-returns-3 c = rw (le-leb _ _ (c .before .before .before .before .if1 .left), le-leb _ _ (c .before .before .if2 .left), ne-eqb _ _ (c .if3 .taken))
+returns-3 c =
+    rw (
+      le-leb _ _ (c .before .before .before .before .if1 .left),
+      le-leb _ _ (c .before .before .if2 .left),
+      ne-eqb _ _ (c .if3 .taken),
+    )
 
 returns-4 : tie.Need-returns-4
 unfolding lawful lawfulCounts
-returns-4 c = rw (le-leb _ _ (c .before .before .before .before .before .before .if1 .left), le-leb _ _ (c .before .before .before .before .if2 .left), eq-eqb _ _ (c .before .before .if3 .left), lt-leb _ _ (c .if4 .taken))
+returns-4 c =
+    rw (
+      le-leb _ _ (c .before .before .before .before .before .before .if1 .left),
+      le-leb _ _ (c .before .before .before .before .if2 .left),
+      eq-eqb _ _ (c .before .before .if3 .left),
+      lt-leb _ _ (c .if4 .taken),
+    )
 
 cast-jacks-lawful : tie.Need-cast-jacks-lawful
 cast-jacks-lawful c = search needs
@@ -31,9 +42,10 @@ jacks-lawful-requires c κs = search needs
 returns-5 : tie.Need-returns-5
 unfolding lawful lawfulCounts
 returns-5 c =
+    let back6 = c .before .before .before .before .before .before in
     rw (
-      le-leb _ _ (c .before .before .before .before .before .before .before .before .before .before .if1 .left),
-      le-leb _ _ (c .before .before .before .before .before .before .before .before .if2 .left),
+      le-leb _ _ (back6 .before .before .before .before .if1 .left),
+      le-leb _ _ (back6 .before .before .if2 .left),
       eq-eqb _ _ (c .before .before .before .before .before .before .if3 .left),
       le-leb _ _ (c .before .before .before .before .if4 .left),
       sym (c .before .jacks-lawful .ensures) ∙ not-true _ (c .if5 .taken),
@@ -48,11 +60,13 @@ maps-lawful-requires c κs = search needs
 returns-6 : tie.Need-returns-6
 unfolding lawful lawfulCounts
 returns-6 c =
+    let back6 = c .before .before .before .before .before .before in
+    let back12 = back6 .before .before .before .before .before .before in
     rw (
-      le-leb _ _ (c .before .before .before .before .before .before .before .before .before .before .before .before .before .before .if1 .left),
-      le-leb _ _ (c .before .before .before .before .before .before .before .before .before .before .before .before .if2 .left),
-      eq-eqb _ _ (c .before .before .before .before .before .before .before .before .before .before .if3 .left),
-      le-leb _ _ (c .before .before .before .before .before .before .before .before .if4 .left),
+      le-leb _ _ (back12 .before .before .if1 .left),
+      le-leb _ _ (back12 .if2 .left),
+      eq-eqb _ _ (back6 .before .before .before .before .if3 .left),
+      le-leb _ _ (back6 .before .before .if4 .left),
       sym (c .before .before .before .before .before .jacks-lawful .ensures) ∙ not-false _ (c .before .before .before .before .if5 .left),
       sym (c .before .maps-lawful .ensures) ∙ not-true _ (c .if6 .taken),
     )
@@ -69,12 +83,14 @@ streams-lawful-requires c κs = search needs
 returns-7 : tie.Need-returns-7
 unfolding lawful lawfulCounts
 returns-7 c =
+    let back6 = c .before .before .before .before .before .before in
+    let back12 = back6 .before .before .before .before .before .before in
     rw (
-      le-leb _ _ (c .before .before .before .before .before .before .before .before .before .before .before .before .before .before .before .before .before .if1 .left),
-      le-leb _ _ (c .before .before .before .before .before .before .before .before .before .before .before .before .before .before .before .if2 .left),
-      eq-eqb _ _ (c .before .before .before .before .before .before .before .before .before .before .before .before .before .if3 .left),
-      le-leb _ _ (c .before .before .before .before .before .before .before .before .before .before .before .if4 .left),
-      sym (c .before .before .before .before .before .before .before .before .jacks-lawful .ensures) ∙ not-false _ (c .before .before .before .before .before .before .before .if5 .left),
+      le-leb _ _ (back12 .before .before .before .before .before .if1 .left),
+      le-leb _ _ (back12 .before .before .before .if2 .left),
+      eq-eqb _ _ (back12 .before .if3 .left),
+      le-leb _ _ (back6 .before .before .before .before .before .if4 .left),
+      sym (back6 .before .before .jacks-lawful .ensures) ∙ not-false _ (back6 .before .if5 .left),
       sym (c .before .before .before .before .maps-lawful .ensures) ∙ not-false _ (c .before .before .before .if6 .left),
     )
     (c .streams-lawful .ensures)

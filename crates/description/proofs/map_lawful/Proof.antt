@@ -15,7 +15,12 @@ returns-2 c = rw (le-leb _ _ (c .before .before .if1 .left), lt-leb _ _ (c .if2 
 
 returns-3 : tie.Need-returns-3
 unfolding lawfulMap
-returns-3 c = rw (le-leb _ _ (c .before .before .before .before .if1 .left), le-leb _ _ (c .before .before .if2 .left), lt-leb _ _ (c .if3 .taken))
+returns-3 c =
+    rw (
+      le-leb _ _ (c .before .before .before .before .if1 .left),
+      le-leb _ _ (c .before .before .if2 .left),
+      lt-leb _ _ (c .if3 .taken),
+    )
 
 positions-lawful-requires : tie.Need-positions-lawful-requires
 positions-lawful-requires c κs = search needs
@@ -23,7 +28,12 @@ positions-lawful-requires c κs = search needs
 returns-4 : tie.Need-returns-4
 unfolding lawfulMap
 returns-4 c =
-    rw (le-leb _ _ (c .before .before .before .before .before .before .if1 .left), le-leb _ _ (c .before .before .before .before .if2 .left), le-leb _ _ (c .before .before .if3 .left)) (c .positions-lawful .ensures)
+    rw (
+      le-leb _ _ (c .before .before .before .before .before .before .if1 .left),
+      le-leb _ _ (c .before .before .before .before .if2 .left),
+      le-leb _ _ (c .before .before .if3 .left),
+    )
+    (c .positions-lawful .ensures)
 
 pub map-lawful-spec : {M : Type 1} → statement M
 map-lawful-spec =

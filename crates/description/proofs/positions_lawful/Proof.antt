@@ -28,7 +28,11 @@ returns : tie.Need-returns Inv-loop μ-loop
 returns c =
     let l = c .before .before .before .loop in
     let a = c .before .before .before .before .args in
-    rw (← (l .inv .1), positions-more (a .channels) (a .t1) (l .i) (omega arith), sym (c .before .position-lawful .ensures) ∙ not-true _ (c .if1 .taken))
+    rw (
+      ← (l .inv .1),
+      positions-more (a .channels) (a .t1) (l .i) (omega arith),
+      sym (c .before .position-lawful .ensures) ∙ not-true _ (c .if1 .taken),
+    )
 
 add-i : tie.Need-add-i Inv-loop μ-loop
 add-i c = omega arith
@@ -41,7 +45,11 @@ loop-again c =
     let l = c .before .before .before .loop in
     let a = c .before .before .before .before .args in (
       omega arith,
-      rw (← (l .inv .1), positions-more (a .channels) (a .t1) (l .i) (omega arith), sym (c .before .position-lawful .ensures) ∙ not-false _ (c .if1 .left)),
+      rw (
+        ← (l .inv .1),
+        positions-more (a .channels) (a .t1) (l .i) (omega arith),
+        sym (c .before .position-lawful .ensures) ∙ not-false _ (c .if1 .left),
+      ),
     )
 
 returns-2 : tie.Need-returns-2 Inv-loop μ-loop

@@ -19,7 +19,10 @@ in-bits-requires-2 c κs = search needs
 returns-2 : tie.Need-returns-2
 unfolding lawfulStream
 returns-2 c =
-    rw (sym (c .before .before .before .in-bits .ensures) ∙ not-false _ (c .before .before .if1 .left), sym (c .before .in-bits2 .ensures) ∙ not-true _ (c .if2 .taken))
+    rw (
+      sym (c .before .before .before .in-bits .ensures) ∙ not-false _ (c .before .before .if1 .left),
+      sym (c .before .in-bits2 .ensures) ∙ not-true _ (c .if2 .taken),
+    )
 
 channels-lawful-requires : tie.Need-channels-lawful-requires
 channels-lawful-requires c κs = search needs
@@ -36,8 +39,9 @@ returns-3 c =
 returns-4 : tie.Need-returns-4
 unfolding lawfulStream
 returns-4 c =
+    let back6 = c .before .before .before .before .before .before in
     rw (
-      sym (c .before .before .before .before .before .before .before .in-bits .ensures) ∙ not-false _ (c .before .before .before .before .before .before .if1 .left),
+      sym (back6 .before .in-bits .ensures) ∙ not-false _ (c .before .before .before .before .before .before .if1 .left),
       sym (c .before .before .before .before .before .in-bits2 .ensures) ∙ not-false _ (c .before .before .before .before .if2 .left),
       sym (c .before .before .before .channels-lawful .ensures) ∙ not-false _ (c .before .before .if3 .left),
       eq-eqb _ _ (c .if4 .taken),
@@ -46,9 +50,10 @@ returns-4 c =
 returns-5 : tie.Need-returns-5
 unfolding lawfulStream
 returns-5 c =
+    let back6 = c .before .before .before .before .before .before in
     rw (
-      sym (c .before .before .before .before .before .before .before .before .before .in-bits .ensures) ∙ not-false _ (c .before .before .before .before .before .before .before .before .if1 .left),
-      sym (c .before .before .before .before .before .before .before .in-bits2 .ensures) ∙ not-false _ (c .before .before .before .before .before .before .if2 .left),
+      sym (back6 .before .before .before .in-bits .ensures) ∙ not-false _ (back6 .before .before .if1 .left),
+      sym (back6 .before .in-bits2 .ensures) ∙ not-false _ (c .before .before .before .before .before .before .if2 .left),
       sym (c .before .before .before .before .before .channels-lawful .ensures) ∙ not-false _ (c .before .before .before .before .if3 .left),
       ne-eqb _ _ (c .before .before .if4 .left),
       eq-eqb _ _ (c .if5 .taken),
@@ -57,9 +62,10 @@ returns-5 c =
 returns-6 : tie.Need-returns-6
 unfolding lawfulStream
 returns-6 c =
+    let back6 = c .before .before .before .before .before .before in
     rw (
-      sym (c .before .before .before .before .before .before .before .before .before .in-bits .ensures) ∙ not-false _ (c .before .before .before .before .before .before .before .before .if1 .left),
-      sym (c .before .before .before .before .before .before .before .in-bits2 .ensures) ∙ not-false _ (c .before .before .before .before .before .before .if2 .left),
+      sym (back6 .before .before .before .in-bits .ensures) ∙ not-false _ (back6 .before .before .if1 .left),
+      sym (back6 .before .in-bits2 .ensures) ∙ not-false _ (c .before .before .before .before .before .before .if2 .left),
       sym (c .before .before .before .before .before .channels-lawful .ensures) ∙ not-false _ (c .before .before .before .before .if3 .left),
       ne-eqb _ _ (c .before .before .if4 .left),
       ne-eqb _ _ (c .if5 .left),

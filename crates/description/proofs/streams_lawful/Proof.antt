@@ -32,7 +32,11 @@ returns c =
     let l = c .before .before .before .before .loop in
     let a = c .before .before .before .before .before .args in
     let full : a .n ≤ length (a .t1) = omega arith in
-    rw (← (l .inv .1), every-more lawfulStream (a .t1) (a .n) (l .i) full noStream (omega arith), sym (c .before .stream-lawful .ensures) ∙ not-true _ (c .if1 .taken))
+    rw (
+      ← (l .inv .1),
+      every-more lawfulStream (a .t1) (a .n) (l .i) full noStream (omega arith),
+      sym (c .before .stream-lawful .ensures) ∙ not-true _ (c .if1 .taken),
+    )
 
 add-i : tie.Need-add-i Inv-loop μ-loop
 add-i c = omega arith
@@ -46,7 +50,11 @@ loop-again c =
     let a = c .before .before .before .before .before .args in
     let full : a .n ≤ length (a .t1) = omega arith in (
       omega arith,
-      rw (← (l .inv .1), every-more lawfulStream (a .t1) (a .n) (l .i) full noStream (omega arith), sym (c .before .stream-lawful .ensures) ∙ not-false _ (c .if1 .left)),
+      rw (
+        ← (l .inv .1),
+        every-more lawfulStream (a .t1) (a .n) (l .i) full noStream (omega arith),
+        sym (c .before .stream-lawful .ensures) ∙ not-false _ (c .if1 .left),
+      ),
     )
 
 returns-2 : tie.Need-returns-2 Inv-loop μ-loop

@@ -35,8 +35,9 @@ inside-requires c κs = omega arith
 
 returns : tie.Need-returns Inv-loop μ-loop
 returns c =
+    let back6 = c .before .before .before .before .before .before in
     let l = c .before .before .before .before .before .loop in
-    let a = c .before .before .before .before .before .before .before .args in
+    let a = back6 .before .args in
     rw (← (l .inv), allInside-next (a .t2) (l .i) (omega arith) (a .len), sym (c .before .inside .ensures) ∙ not-true _ (c .if1 .taken))
 
 add-i : tie.Need-add-i Inv-loop μ-loop
@@ -47,8 +48,9 @@ loop-less c = omega arith
 
 loop-again : tie.Need-loop-again Inv-loop μ-loop
 loop-again c =
+    let back6 = c .before .before .before .before .before .before in
     let l = c .before .before .before .before .before .loop in
-    let a = c .before .before .before .before .before .before .before .args in
+    let a = back6 .before .args in
     rw (← (l .inv), allInside-next (a .t2) (l .i) (omega arith) (a .len), sym (c .before .inside .ensures) ∙ not-false _ (c .if1 .left))
 
 returns-2 : tie.Need-returns-2 Inv-loop μ-loop

@@ -80,8 +80,10 @@ loop-less c = omega arith
 
 loop-again : tie.Need-loop-again Inv-loop μ-loop
 loop-again c =
-    let l = c .before .before .before .before .before .before .before .before .before .before .loop in
-    let a = c .before .before .before .before .before .before .before .before .before .before .before .before .before .before .before .before .args in
+    let back6 = c .before .before .before .before .before .before in
+    let back12 = back6 .before .before .before .before .before .before in
+    let l = back6 .before .before .before .before .loop in
+    let a = back12 .before .before .before .before .args in
     let gone = c .before .before .before .before .before .least2 in
     let k = c .before .before .before .before .least3 in
     let g = c .before .before .gather-run in (
@@ -100,8 +102,9 @@ same-length-2 c = omega arith
 
 returns-3 : tie.Need-returns-3 Inv-loop μ-loop
 returns-3 c =
+    let back6 = c .before .before .before .before .before .before in
     let l = c .before .loop in
-    rw (← (l .inv .2), places-none (c .before .before .before .before .before .before .before .args .t2) (l .i) (l .skip) (l .left) (omega arith))
+    rw (← (l .inv .2), places-none (back6 .before .args .t2) (l .i) (l .skip) (l .left) (omega arith))
 
 pub gather-spec : {M : Type 1} → statement M
 gather-spec =

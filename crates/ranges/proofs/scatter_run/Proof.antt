@@ -22,7 +22,8 @@ same-length c = search needs
 
 returns : tie.Need-returns
 returns c =
-    let start = c .before .before .before .before .before .before .before .before in
+    let back6 = c .before .before .before .before .before .before in
+    let start = back6 .before .before in
     let a = start .args in
     let at = c .before .before .before .before .before .place in
     let k = c .before .before .before .before .least in

@@ -33,7 +33,12 @@ sub-if3 c = search needs
 
 returns-3 : tie.Need-returns-3
 unfolding configAt
-returns-3 c = let a = c .before .before .before .args in rw (le-leb _ _ (c .before .before .if1 .left), lt-leb (a .offset + a .width) 256 (omega arith))
+returns-3 c =
+    let a = c .before .before .before .args in
+    rw (
+      le-leb _ _ (c .before .before .if1 .left),
+      lt-leb (a .offset + a .width) 256 (omega arith),
+    )
 
 returns-4 : tie.Need-returns-4
 unfolding configAt
@@ -45,7 +50,12 @@ returns-5 : tie.Need-returns-5
 unfolding configAt
 returns-5 c =
     let a = c .before .before .before .before .before .args in
-    rw (le-leb _ _ (c .before .before .before .before .if1 .left), le-leb (a .offset + a .width) 256 (omega arith), ne-eqb _ _ (c .before .if4 .left), eq-eqb _ _ (c .if5 .taken))
+    rw (
+      le-leb _ _ (c .before .before .before .before .if1 .left),
+      le-leb (a .offset + a .width) 256 (omega arith),
+      ne-eqb _ _ (c .before .if4 .left),
+      eq-eqb _ _ (c .if5 .taken),
+    )
 
 returns-6 : tie.Need-returns-6
 unfolding configAt

@@ -24,7 +24,9 @@ set32-requires-3 c κs = search needs
 
 returns : tie.Need-returns
 unfolding configBytes
-returns c = rw (c .before .set323 .ensures, c .before .before .before .before .set322 .ensures, c .before .before .before .before .before .before .before .set32 .ensures)
+returns c =
+    let back6 = c .before .before .before .before .before .before in
+    rw (c .before .set323 .ensures, c .before .before .before .before .set322 .ensures, back6 .before .set32 .ensures)
 
 pub config-bytes-spec : {M : Type 1} → statement M
 config-bytes-spec =

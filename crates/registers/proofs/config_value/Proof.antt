@@ -32,7 +32,13 @@ cast-result-2 c = search needs
 
 returns-2 : tie.Need-returns-2
 unfolding configValue
-returns-2 c = rw (ne-eqb _ _ (c .before .before .before .if1 .left), eq-eqb _ _ (c .before .before .if2 .taken), c .number16 .ensures, c .before .before .before .before .config-bytes .ensures)
+returns-2 c =
+    rw (
+      ne-eqb _ _ (c .before .before .before .if1 .left),
+      eq-eqb _ _ (c .before .before .if2 .taken),
+      c .number16 .ensures,
+      c .before .before .before .before .config-bytes .ensures,
+    )
 
 slice-aggregate-number32 : tie.Need-slice-aggregate-number32
 slice-aggregate-number32 c = search needs
@@ -42,7 +48,13 @@ number32-requires c κs = search needs
 
 returns-3 : tie.Need-returns-3
 unfolding configValue
-returns-3 c = rw (ne-eqb _ _ (c .before .before .before .if1 .left), ne-eqb _ _ (c .before .before .if2 .left), c .number32 .ensures, c .before .before .before .before .config-bytes .ensures)
+returns-3 c =
+    rw (
+      ne-eqb _ _ (c .before .before .before .if1 .left),
+      ne-eqb _ _ (c .before .before .if2 .left),
+      c .number32 .ensures,
+      c .before .before .before .before .config-bytes .ensures,
+    )
 
 pub config-value-spec : {M : Type 1} → statement M
 config-value-spec =

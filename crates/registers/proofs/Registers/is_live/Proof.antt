@@ -18,7 +18,11 @@ has-bit-requires-2 c κs = search needs
 
 returns-2 : tie.Need-returns-2
 unfolding live
-returns-2 c = rw (sym (c .before .before .before .has-bit .ensures) ∙ not-false _ (c .before .before .if1 .left), sym (c .before .has-bit2 .ensures) ∙ not-true _ (c .if2 .taken))
+returns-2 c =
+    rw (
+      sym (c .before .before .before .has-bit .ensures) ∙ not-false _ (c .before .before .if1 .left),
+      sym (c .before .has-bit2 .ensures) ∙ not-true _ (c .if2 .taken),
+    )
 
 has-bit-requires-3 : tie.Need-has-bit-requires-3
 has-bit-requires-3 c κs = search needs
@@ -38,8 +42,9 @@ has-bit-requires-4 c κs = search needs
 returns-4 : tie.Need-returns-4
 unfolding live
 returns-4 c =
+    let back6 = c .before .before .before .before .before .before in
     rw (
-      sym (c .before .before .before .before .before .before .before .has-bit .ensures) ∙ not-false _ (c .before .before .before .before .before .before .if1 .left),
+      sym (back6 .before .has-bit .ensures) ∙ not-false _ (c .before .before .before .before .before .before .if1 .left),
       sym (c .before .before .before .before .before .has-bit2 .ensures) ∙ not-false _ (c .before .before .before .before .if2 .left),
       sym (c .before .before .before .has-bit3 .ensures) ∙ c .before .before .if3 .left,
       sym (c .before .has-bit4 .ensures) ∙ c .if4 .taken,
@@ -48,8 +53,9 @@ returns-4 c =
 returns-5 : tie.Need-returns-5
 unfolding live
 returns-5 c =
+    let back6 = c .before .before .before .before .before .before in
     rw (
-      sym (c .before .before .before .before .before .before .before .has-bit .ensures) ∙ not-false _ (c .before .before .before .before .before .before .if1 .left),
+      sym (back6 .before .has-bit .ensures) ∙ not-false _ (c .before .before .before .before .before .before .if1 .left),
       sym (c .before .before .before .before .before .has-bit2 .ensures) ∙ not-false _ (c .before .before .before .before .if2 .left),
       sym (c .before .before .before .has-bit3 .ensures) ∙ c .before .before .if3 .left,
       sym (c .before .has-bit4 .ensures) ∙ c .if4 .left,

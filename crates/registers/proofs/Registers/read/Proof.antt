@@ -96,15 +96,29 @@ returns-2 c = rw (sym (c .before .before .before .register-at .ensures) ∙ c .b
 
 returns-3 : tie.Need-returns-3
 unfolding readOf
-returns-3 c = rw (sym (c .before .before .before .before .register-at .ensures) ∙ c .before .before .enum-told3 .given .1, c .value-read2 .ensures, c .before .page .ensures)
+returns-3 c =
+    rw (
+      sym (c .before .before .before .before .register-at .ensures) ∙ c .before .before .enum-told3 .given .1,
+      c .value-read2 .ensures,
+      c .before .page .ensures,
+    )
 
 returns-4 : tie.Need-returns-4
 unfolding readOf
-returns-4 c = rw (sym (c .before .before .before .before .register-at .ensures) ∙ c .before .before .enum-told4 .given .1, c .value-read3 .ensures, c .before .queue-size .ensures)
+returns-4 c =
+    rw (
+      sym (c .before .before .before .before .register-at .ensures) ∙ c .before .before .enum-told4 .given .1,
+      c .value-read3 .ensures,
+      c .before .queue-size .ensures,
+    )
 
 returns-5 : tie.Need-returns-5
 unfolding readOf
-returns-5 c = rw (sym (c .before .before .before .before .register-at .ensures) ∙ c .before .before .enum-told5 .given .1, c .value-read4 .ensures)
+returns-5 c =
+    rw (
+      sym (c .before .before .before .before .register-at .ensures) ∙ c .before .before .enum-told5 .given .1,
+      c .value-read4 .ensures,
+    )
 
 returns-6 : tie.Need-returns-6
 unfolding readOf
@@ -112,7 +126,11 @@ returns-6 c = rw (sym (c .before .before .before .register-at .ensures) ∙ c .b
 
 returns-7 : tie.Need-returns-7
 unfolding readOf
-returns-7 c = rw (sym (c .before .before .before .before .register-at .ensures) ∙ c .before .before .enum-told7 .given .1, c .value-read5 .ensures)
+returns-7 c =
+    rw (
+      sym (c .before .before .before .before .register-at .ensures) ∙ c .before .before .enum-told7 .given .1,
+      c .value-read5 .ensures,
+    )
 
 returns-8 : tie.Need-returns-8
 unfolding readOf
@@ -120,7 +138,12 @@ returns-8 c = rw (sym (c .before .before .before .register-at .ensures) ∙ c .b
 
 returns-9 : tie.Need-returns-9
 unfolding readOf
-returns-9 c = rw (sym (c .before .before .before .before .before .register-at .ensures) ∙ c .before .before .before .register .given .1, c .value-read6 .ensures, c .before .config-value .ensures)
+returns-9 c =
+    rw (
+      sym (c .before .before .before .before .before .register-at .ensures) ∙ c .before .before .before .register .given .1,
+      c .value-read6 .ensures,
+      c .before .config-value .ensures,
+    )
 
 returns-10 : tie.Need-returns-10
 unfolding readOf

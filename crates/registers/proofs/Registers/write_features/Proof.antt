@@ -25,7 +25,11 @@ wrote-with-requires c κs = search needs
 returns-2 : tie.Need-returns-2
 unfolding wroteFeatures
 returns-2 c =
-    rw (lt-ltb _ _ (c .before .before .before .if1 .left), sym (c .before .before .has-bit .ensures) ∙ not-true _ (c .before .if2 .taken)) (c .wrote-with .ensures)
+    rw (
+      lt-ltb _ _ (c .before .before .before .if1 .left),
+      sym (c .before .before .has-bit .ensures) ∙ not-true _ (c .before .if2 .taken),
+    )
+    (c .wrote-with .ensures)
 
 wrote-with-requires-2 : tie.Need-wrote-with-requires-2
 wrote-with-requires-2 c κs = search needs
@@ -33,7 +37,11 @@ wrote-with-requires-2 c κs = search needs
 returns-3 : tie.Need-returns-3
 unfolding wroteFeatures
 returns-3 c =
-    rw (lt-ltb _ _ (c .before .before .before .if1 .left), sym (c .before .before .has-bit .ensures) ∙ not-false _ (c .before .if2 .left)) (c .wrote-with2 .ensures)
+    rw (
+      lt-ltb _ _ (c .before .before .before .if1 .left),
+      sym (c .before .before .has-bit .ensures) ∙ not-false _ (c .before .if2 .left),
+    )
+    (c .wrote-with2 .ensures)
 
 pub write-features-spec : {M : Type 1} → statement M
 write-features-spec =

@@ -29,7 +29,12 @@ wrote-with-requires-2 c κs = search needs
 returns-3 : tie.Need-returns-3
 unfolding wrotePage
 returns-3 c =
-    rw (lt-ltb _ _ (c .before .before .before .before .if1 .left), lt-ltb _ _ (c .before .before .before .if2 .left), sym (c .before .before .has-bit .ensures) ∙ c .before .if3 .taken) (c .wrote-with2 .ensures)
+    rw (
+      lt-ltb _ _ (c .before .before .before .before .if1 .left),
+      lt-ltb _ _ (c .before .before .before .if2 .left),
+      sym (c .before .before .has-bit .ensures) ∙ c .before .if3 .taken,
+    )
+    (c .wrote-with2 .ensures)
 
 cast-at : tie.Need-cast-at
 cast-at c = search needs

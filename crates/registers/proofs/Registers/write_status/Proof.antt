@@ -20,7 +20,13 @@ wrote-with-requires c κs = search needs
 
 returns-2 : tie.Need-returns-2
 unfolding wroteStatus
-returns-2 c = rw (lt-ltb _ _ (c .before .before .before .if1 .left), eq-eqb _ _ (c .before .before .if2 .taken), c .wrote-with .ensures, c .before .power-on .ensures)
+returns-2 c =
+    rw (
+      lt-ltb _ _ (c .before .before .before .if1 .left),
+      eq-eqb _ _ (c .before .before .if2 .taken),
+      c .wrote-with .ensures,
+      c .before .power-on .ensures,
+    )
 
 only-offered-requires : tie.Need-only-offered-requires
 only-offered-requires c κs = search needs
