@@ -2,3 +2,4 @@
 pub mod Card
 pub mod Fit
 pub mod Rules
+pub mod Setters

@@ -5,6 +5,7 @@ ghost use mathlib.Core.List.{map};
 ghost use Rattle.card.specs.Card.{noMessage, freshStream, jackAtPower, partsAtPower, noParts, cardOf};
 ghost use Rattle.card.specs.Rules.{poweredOf, readCard, writeCard, resetCard, basedCard, jackReset, streamReset, partsReset};
 ghost use Rattle.card.specs.Fit.{Fit, FitParts};
+ghost use Rattle.card.specs.Setters.{withJackAt, withStreamAt};
 ghost use Rattle.description.specs.Lawful.{lawful};
 ghost use mathlib.Core.Bool.{true};
 ghost use Prim.Native.Nat.{_<_};
@@ -88,6 +89,28 @@ pub struct Parts {
     pub jacks: [Jack; 4],
     pub maps: [MapInfo; 4],
     pub streams: [Stream; 2],
+}
+
+impl Parts {
+    // The parts with another jack at `i`.
+    pub fn with_jack(self, i: usize, jack: Jack) -> Parts
+        requires { ⌜ i < 4 ⌝ }
+        ensures { λ r. ⌜ r ≡ withJackAt i jack self ⌝ }
+    {
+        let mut next = self;
+        next.jacks[i] = jack;
+        next
+    }
+
+    // The parts with another stream at `i`.
+    pub fn with_stream(self, i: usize, stream: Stream) -> Parts
+        requires { ⌜ i < 2 ⌝ }
+        ensures { λ r. ⌜ r ≡ withStreamAt i stream self ⌝ }
+    {
+        let mut next = self;
+        next.streams[i] = stream;
+        next
+    }
 }
 
 // The queues' counters by their number, the messages in work of the play and the capture queue.

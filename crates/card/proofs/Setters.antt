@@ -1,0 +1,58 @@
+-- Parts with one of them replaced are fit, and so is a card with other parts that are.
+use mathlib.Core.Path.{_≡_, refl, _∙_}
+use mathlib.Core.Bool.{Bool, true, false}
+use mathlib.Core.List.{List}
+use Prim.Native.Nat.{ℕ, _≤_}
+use native.Mathlib.Omega.{arith}
+use borrow.Author.Tests.{ltb-true, ltb-false, eqb-true, eqb-false}
+use lib.Dec.{eqb, ltb}
+use lib.ListN.{length, getD, set, length-set}
+use lib.Seq.{getD-set-same, getD-set-other, set-out}
+use Rattle.card.specs.Card.{noStream}
+use Rattle.card.specs.Fit.{Fit, FitParts}
+use Rattle.card.specs.Setters.{withJackAt, withStreamAt, withParts}
+use Rattle.card.specs.declared.Card.{Card}
+use Rattle.card.specs.declared.Jack.{Jack}
+use Rattle.card.specs.declared.Parts.{Parts}
+use Rattle.card.specs.declared.Stream.{Stream}
+
+pub fit-with-jack : (p : Parts) (i : ℕ) (j : Jack) → FitParts p → FitParts (withJackAt i j p)
+fit-with-jack p i j f =
+    record {
+      jacks = f .jacks;
+      maps = f .maps;
+      streams = f .streams;
+      four-jacks = length-set (p .jacks) i j ∙ f .four-jacks;
+      four-maps = f .four-maps;
+      two-streams = f .two-streams;
+      states = f .states;
+    }
+
+-- one stream replaced by one in one of the six states
+module _ (i : ℕ) (s : Stream) (b : s .state ≤ 5) where
+  states-with : (l : List Stream) → ((k : ℕ) → getD l k noStream .state ≤ 5) → (j : ℕ) → getD (set l i s) j noStream .state ≤ 5
+  states-with l h j = by (eqb j i) refl where
+    by : (t : Bool) → eqb j i ≡ t → getD (set l i s) j noStream .state ≤ 5
+    by true e = same (ltb i (length l)) refl where
+      at : j ≡ i
+      at = eqb-true j i e
+
+      same : (t : Bool) → ltb i (length l) ≡ t → getD (set l i s) j noStream .state ≤ 5
+      same true k = rw (at, getD-set-same l i s noStream (ltb-true i (length l) k)) b
+      same false k = rw (set-out l i s (omega (arith, ltb-false i (length l) k))) (h j)
+    by false e = rw (getD-set-other l i j s noStream (eqb-false j i e)) (h j)
+
+  pub fit-with-stream : (p : Parts) → FitParts p → FitParts (withStreamAt i s p)
+  fit-with-stream p f =
+      record {
+        jacks = f .jacks;
+        maps = f .maps;
+        streams = f .streams;
+        four-jacks = f .four-jacks;
+        four-maps = f .four-maps;
+        two-streams = length-set (p .streams) i s ∙ f .two-streams;
+        states = states-with (p .streams) (f .states);
+      }
+
+pub fit-with-parts : (c : Card) (p : Parts) → Fit c → FitParts p → Fit (withParts p c)
+fit-with-parts c p f g = record { registers = f .registers; parts = g; four = f .four; play = f .play; capture = f .capture }

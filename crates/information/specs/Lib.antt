@@ -1,2 +1,0 @@
--- Lists of items.
-pub mod Information
