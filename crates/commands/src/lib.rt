@@ -1,40 +1,29 @@
-// PCM commands (01, "Control messages"): the lifecycle of a stream, SET_PARAMS, and what a RELEASE
-// asks for.
+// PCM commands (01, "Control messages"), step by step: the lifecycle of a stream, SET_PARAMS, and what a
+// RELEASE asks for. Where a step refuses, the message is completed with the step's status.
 ghost use mathlib.Core.Path.{_≡_};
-ghost use mathlib.Core.Bool.{not};
 ghost use Prim.Native.Nat.{_≤_, _<_};
-ghost use lib.ListN.{length};
-ghost use Rattle.card.specs.Fit.{Fit, FitParts};
-ghost use Rattle.meaning.specs.Card.{restOf};
-ghost use Rattle.requests.specs.Requests.{Serves, checked, foundOf};
-ghost use Rattle.rules.specs.Control.{setParams, moves, lawfully, lawfulFrom, offers as offersOf, paramsOf, word};
-ghost use Rattle.rules.specs.Control.{Release as ReleaseOf};
-ghost use Rattle.rules.specs.Numbers.{pcmPrepare};
-ghost use Rattle.commands.specs.Commands.{lawfulIn, malformed, selects, offered, withStreamAt};
-use card::Card;
+ghost use Rattle.card.specs.Fit.{FitParts};
+ghost use Rattle.meaning.specs.Card.{partsOf};
+ghost use Rattle.reply.specs.Reply.{Serves};
+ghost use Rattle.requests.specs.Requests.{checked};
+ghost use Rattle.rules.specs.Control.{commanded, obeyed, lawfulFrom, moves, setParams, setBy, judgedOffer, paramsOf, streamIn};
+ghost use Rattle.rules.specs.Control.{offers as offersOf, unpadded, sized, periodic, bufferOffered, featuresOffered};
+ghost use Rattle.rules.specs.Control.{channelsOffered, formatOffered, rateOffered};
+ghost use Rattle.rules.specs.declared.Command.the-variants.{Prepare};
 use card::Params;
 use card::Parts;
 use card::Stream;
 use description::StreamInfo;
+use reply::Kind;
+use reply::Pending;
+use reply::Served;
 use requests::Check;
 use requests::Found;
-use requests::Kind;
-use requests::Served;
-
-// The codes of the commands.
-pub const PCM_SET_PARAMS: u32 = 257;
-
-pub const PCM_PREPARE: u32 = 258;
-
-pub const PCM_RELEASE: u32 = 259;
-
-pub const PCM_START: u32 = 260;
-
-pub const PCM_STOP: u32 = 261;
+use rules::Command;
 
 // PREPARE is lawful in Set, Prepared and Released.
 fn is_preparable(state: u8) -> bool
-    ensures { λ r. ⌜ r ≡ lawfulFrom pcmPrepare state ⌝ }
+    ensures { λ r. ⌜ r ≡ lawfulFrom Prepare state ⌝ }
 {
     if state == card::SET {
         return true;
@@ -43,86 +32,96 @@ fn is_preparable(state: u8) -> bool
 }
 
 // The lifecycle of a stream: whether a command is lawful in a state.
-fn is_lawful(command: u32, state: u8) -> bool
+fn allows(command: Command, state: u8) -> bool
     ensures { λ r. ⌜ r ≡ lawfulFrom command state ⌝ }
 {
     match command {
-        PCM_SET_PARAMS => state == card::FRESH || is_preparable(state),
-        PCM_PREPARE => is_preparable(state),
-        PCM_START => state == card::PREPARED || state == card::STOPPED,
-        PCM_STOP => state == card::RUNNING,
-        PCM_RELEASE => state == card::PREPARED || state == card::STOPPED,
-        _ => false,
+        Command::SetParams => state == card::FRESH || is_preparable(state),
+        Command::Prepare => is_preparable(state),
+        Command::Start => state == card::PREPARED || state == card::STOPPED,
+        Command::Stop => state == card::RUNNING,
+        Command::Release => state == card::PREPARED || state == card::STOPPED,
     }
 }
 
-// The stream of a command, where the command is lawful in its state.
-fn stream_for(parts: Parts, command: u32, id: u32) -> Found
-    requires { ⌜ FitParts parts ⌝ }
-    ensures { λ r. ⌜ r ≡ foundOf (lawfulIn parts command id) id ⌝ }
+// The transition of a command is lawful.
+fn is_lawful(command: Command, state: u8) -> Check
+    ensures { λ r. ⌜ r ≡ checked (lawfulFrom command state) ⌝ }
 {
-    let Found::There(i) = requests::find(id, parts.stream_count) else {
-        return Found::Absent;
-    };
-    let stream = parts.streams[i];
-    if is_lawful(command, stream.state) {
-        return Found::There(i);
+    if allows(command, state) {
+        return Check::Passed;
     }
-    Found::Absent
+    Check::Failed
 }
 
-// The card with another stream at `i`.
-fn with_stream(card: Card, i: usize, stream: Stream) -> Card
-    requires { ⌜ i < 2 ⌝ }
-    ensures { λ r. ⌜ r ≡ withStreamAt i stream card ⌝ }
+// SET_PARAMS: padding is 0.
+fn is_unpadded(padding: u8) -> Check
+    ensures { λ r. ⌜ r ≡ checked (unpadded padding) ⌝ }
 {
-    let mut parts = card.parts;
-    parts.streams[i] = stream;
-    let mut next = card;
-    next.parts = parts;
-    next
-}
-
-// PREPARE, START, STOP: the stream goes to `state`.
-pub fn move_stream(card: Card, command: u32, state: u8, request: &[u8], out: &mut [u8]) -> Served
-    requires { ⌜ Fit card × (length (now out) ≡ 132) × (state ≤ 5) ⌝ }
-    ensures { λ r. ⌜ Serves card
-        (lawfully (restOf card) command (word (now (request .entry)) 1) (moves (restOf card) (word (now (request .entry)) 1) state))
-        r (now (out .entry)) (now (out .exit)) ⌝ }
-{
-    let parts = card.parts;
-    let id = memory::number32(request, 4);
-    let Found::There(i) = stream_for(parts, command, id) else {
-        return requests::reply(card, requests::BAD_MSG, out);
-    };
-    let stream = parts.streams[i];
-    let info = stream.info;
-    let params = stream.params;
-    let moved = Stream {
-        info: info,
-        state: state,
-        params: params,
-    };
-    requests::reply(with_stream(card, i, moved), message::OK, out)
-}
-
-// RELEASE: which stream is to be released; nothing is changed or written yet.
-pub fn release(card: Card, command: u32, request: &[u8], out: &mut [u8]) -> Served
-    requires { ⌜ Fit card × (length (now out) ≡ 132) ⌝ }
-    ensures { λ r. ⌜ Serves card
-        (lawfully (restOf card) command (word (now (request .entry)) 1) (ReleaseOf (word (now (request .entry)) 1)))
-        r (now (out .entry)) (now (out .exit)) ⌝ }
-{
-    let parts = card.parts;
-    let id = memory::number32(request, 4);
-    let Found::There(_) = stream_for(parts, command, id) else {
-        return requests::reply(card, requests::BAD_MSG, out);
-    };
-    Served {
-        kind: Kind::Release(id),
-        card: card,
-        len: 0,
+    if padding == 0 {
+        return Check::Passed;
     }
+    Check::Failed
+}
+
+// SET_PARAMS: neither buffer nor period is 0.
+fn is_sized(p: Params) -> Check
+    ensures { λ r. ⌜ r ≡ checked (sized p) ⌝ }
+{
+    if p.buffer_bytes == 0 {
+        return Check::Failed;
+    }
+    if p.period_bytes == 0 {
+        return Check::Failed;
+    }
+    Check::Passed
+}
+
+// SET_PARAMS: the buffer is a multiple of the period.
+fn is_periodic(p: Params) -> Check
+    requires { ⌜ 0 < p .«period_bytes» ⌝ }
+    ensures { λ r. ⌜ r ≡ checked (periodic p) ⌝ }
+{
+    if p.buffer_bytes % p.period_bytes == 0 {
+        return Check::Passed;
+    }
+    Check::Failed
+}
+
+// SET_PARAMS: the buffer is not above the most that is offered.
+fn is_buffer_offered(p: Params) -> Check
+    ensures { λ r. ⌜ r ≡ checked (bufferOffered p) ⌝ }
+{
+    if p.buffer_bytes <= 262144 {
+        return Check::Passed;
+    }
+    Check::Failed
+}
+
+// SET_PARAMS: no features, or those that the stream has.
+fn are_features_offered(info: StreamInfo, p: Params) -> Check
+    ensures { λ r. ⌜ r ≡ checked (featuresOffered info p) ⌝ }
+{
+    if p.features == 0 {
+        return Check::Passed;
+    }
+    if p.features == info.features {
+        return Check::Passed;
+    }
+    Check::Failed
+}
+
+// SET_PARAMS: as many channels as the stream can have.
+fn are_channels_offered(info: StreamInfo, p: Params) -> Check
+    ensures { λ r. ⌜ r ≡ checked (channelsOffered info p) ⌝ }
+{
+    if p.channels < info.channels_min {
+        return Check::Failed;
+    }
+    if info.channels_max < p.channels {
+        return Check::Failed;
+    }
+    Check::Passed
 }
 
 // Whether bit `i` of a mask is set.
@@ -135,51 +134,20 @@ fn offers(mask: u64, i: u8) -> bool
     (mask >> i) % 2 == 1
 }
 
-// SET_PARAMS: padding 0, buffer and period not 0, the buffer a multiple of the period.
-fn well_formed(p: Params, padding: u8) -> Check
-    ensures { λ r. ⌜ r ≡ checked (not (malformed p padding)) ⌝ }
+// SET_PARAMS: a format that the stream offers.
+fn is_format_offered(info: StreamInfo, p: Params) -> Check
+    ensures { λ r. ⌜ r ≡ checked (formatOffered info p) ⌝ }
 {
-    if padding != 0 {
-        return Check::Failed;
+    if offers(info.formats, p.format) {
+        return Check::Passed;
     }
-    if p.buffer_bytes == 0 {
-        return Check::Failed;
-    }
-    if p.period_bytes == 0 {
-        return Check::Failed;
-    }
-    if p.buffer_bytes % p.period_bytes != 0 {
-        return Check::Failed;
-    }
-    Check::Passed
+    Check::Failed
 }
 
-// No features, or those that the stream has.
-fn selectable(features: u32, info: StreamInfo) -> bool
-    ensures { λ r. ⌜ r ≡ selects features (info .features) ⌝ }
+// SET_PARAMS: a rate that the stream offers.
+fn is_rate_offered(info: StreamInfo, p: Params) -> Check
+    ensures { λ r. ⌜ r ≡ checked (rateOffered info p) ⌝ }
 {
-    features == 0 || features == info.features
-}
-
-// SET_PARAMS: what the stream offers.
-fn is_offered(info: StreamInfo, p: Params) -> Check
-    ensures { λ r. ⌜ r ≡ checked (offered info p) ⌝ }
-{
-    if 262144 < p.buffer_bytes {
-        return Check::Failed;
-    }
-    if !selectable(p.features, info) {
-        return Check::Failed;
-    }
-    if p.channels < info.channels_min {
-        return Check::Failed;
-    }
-    if info.channels_max < p.channels {
-        return Check::Failed;
-    }
-    if !offers(info.formats, p.format) {
-        return Check::Failed;
-    }
     if offers(info.rates, p.rate) {
         return Check::Passed;
     }
@@ -200,31 +168,112 @@ fn params_in(request: &[u8]) -> Params
     }
 }
 
-// SET_PARAMS.
-pub fn set_params(card: Card, command: u32, request: &[u8], out: &mut [u8]) -> Served
-    requires { ⌜ Fit card × (length (now out) ≡ 132) ⌝ }
-    ensures { λ r. ⌜ Serves card
-        (lawfully (restOf card) command (word (now (request .entry)) 1) (setParams (restOf card) (now (request .entry))))
-        r (now (out .entry)) (now (out .exit)) ⌝ }
+// SET_PARAMS of well-formed parameters: the stream `i` takes what it offers.
+fn set_offered(m: &mut [u8], parts: Parts, pending: Pending, i: usize, p: Params) -> Served
+    requires { ⌜ FitParts parts × (i < parts .«stream_count») ⌝ }
+    ensures { λ r. ⌜ Serves pending parts (setBy (partsOf parts) i p (judgedOffer (streamIn (partsOf parts) i .info) p))
+        r (now (m .entry)) (now (m .exit)) ⌝ }
 {
-    let parts = card.parts;
-    let id = memory::number32(request, 4);
-    let Found::There(i) = stream_for(parts, command, id) else {
-        return requests::reply(card, requests::BAD_MSG, out);
-    };
     let stream = parts.streams[i];
     let info = stream.info;
-    let params = params_in(request);
-    let Check::Passed = well_formed(params, memory::number8(request, 23)) else {
-        return requests::reply(card, requests::BAD_MSG, out);
+    let Check::Passed = is_buffer_offered(p) else {
+        return reply::answer(m, parts, pending, rules::NOT_SUPP);
     };
-    let Check::Passed = is_offered(info, params) else {
-        return requests::reply(card, requests::NOT_SUPP, out);
+    let Check::Passed = are_features_offered(info, p) else {
+        return reply::answer(m, parts, pending, rules::NOT_SUPP);
+    };
+    let Check::Passed = are_channels_offered(info, p) else {
+        return reply::answer(m, parts, pending, rules::NOT_SUPP);
+    };
+    let Check::Passed = is_format_offered(info, p) else {
+        return reply::answer(m, parts, pending, rules::NOT_SUPP);
+    };
+    let Check::Passed = is_rate_offered(info, p) else {
+        return reply::answer(m, parts, pending, rules::NOT_SUPP);
     };
     let set = Stream {
         info: info,
         state: card::SET,
+        params: p,
+    };
+    reply::answer(m, parts.with_stream(i, set), pending, rules::OK)
+}
+
+// SET_PARAMS of the stream `i`.
+fn set_params(m: &mut [u8], parts: Parts, pending: Pending, i: usize, request: &[u8]) -> Served
+    requires { ⌜ FitParts parts × (i < parts .«stream_count») ⌝ }
+    ensures { λ r. ⌜ Serves pending parts (setParams (partsOf parts) i (now (request .entry))) r (now (m .entry)) (now (m .exit)) ⌝ }
+{
+    let p = params_in(request);
+    let Check::Passed = is_unpadded(memory::number8(request, 23)) else {
+        return reply::answer(m, parts, pending, rules::BAD_MSG);
+    };
+    let Check::Passed = is_sized(p) else {
+        return reply::answer(m, parts, pending, rules::BAD_MSG);
+    };
+    let Check::Passed = is_periodic(p) else {
+        return reply::answer(m, parts, pending, rules::BAD_MSG);
+    };
+    set_offered(m, parts, pending, i, p)
+}
+
+// PREPARE, START, STOP: the stream `i` goes to `state`.
+fn move_stream(m: &mut [u8], parts: Parts, pending: Pending, i: usize, state: u8) -> Served
+    requires { ⌜ FitParts parts × (i < parts .«stream_count») × (state ≤ 5) ⌝ }
+    ensures { λ r. ⌜ Serves pending parts (moves (partsOf parts) i state) r (now (m .entry)) (now (m .exit)) ⌝ }
+{
+    let stream = parts.streams[i];
+    let info = stream.info;
+    let params = stream.params;
+    let moved = Stream {
+        info: info,
+        state: state,
         params: params,
     };
-    requests::reply(with_stream(card, i, set), message::OK, out)
+    reply::answer(m, parts.with_stream(i, moved), pending, rules::OK)
+}
+
+// A lawful command of the stream `i`. Of a RELEASE nothing is done yet.
+fn obey(
+    m: &mut [u8],
+    parts: Parts,
+    pending: Pending,
+    command: Command,
+    i: usize,
+    request: &[u8],
+) -> Served
+    requires { ⌜ FitParts parts × (i < parts .«stream_count») ⌝ }
+    ensures { λ r. ⌜ Serves pending parts (obeyed (partsOf parts) command i (now (request .entry))) r (now (m .entry)) (now (m .exit)) ⌝ }
+{
+    match command {
+        Command::SetParams => set_params(m, parts, pending, i, request),
+        Command::Prepare => move_stream(m, parts, pending, i, card::PREPARED),
+        Command::Start => move_stream(m, parts, pending, i, card::RUNNING),
+        Command::Stop => move_stream(m, parts, pending, i, card::STOPPED),
+        Command::Release => Served {
+            parts: parts,
+            kind: Kind::Release(i as u32),
+        },
+    }
+}
+
+// A PCM command.
+pub fn command(
+    m: &mut [u8],
+    parts: Parts,
+    pending: Pending,
+    asked: Command,
+    request: &[u8],
+) -> Served
+    requires { ⌜ FitParts parts ⌝ }
+    ensures { λ r. ⌜ Serves pending parts (commanded (partsOf parts) asked (now (request .entry))) r (now (m .entry)) (now (m .exit)) ⌝ }
+{
+    let Found::There(i) = requests::find(memory::number32(request, 4), parts.stream_count) else {
+        return reply::answer(m, parts, pending, rules::BAD_MSG);
+    };
+    let stream = parts.streams[i];
+    let Check::Passed = is_lawful(asked, stream.state) else {
+        return reply::answer(m, parts, pending, rules::BAD_MSG);
+    };
+    obey(m, parts, pending, asked, i, request)
 }

@@ -1,11 +1,11 @@
--- Laws of control requests: a request goes by its first bytes, and by its code.
+-- Laws of control requests: a request goes by its first bytes.
 use mathlib.Core.Path.{_≡_, refl, sym, _∙_, ap}
-use mathlib.Core.Bool.{Bool, true, false, cond}
+use mathlib.Core.Bool.{Bool, true, false}
 use mathlib.Core.List.{List, [], _∷_, _++_, map}
 use Prim.Native.Nat.{ℕ, zero, suc, _+_, _-_, _≤_, _<_}
 use native.Mathlib.Omega.{arith}
 use borrow.Author.Tests.{ltb-true, ltb-false}
-use lib.Dec.{eqb, ltb, leb}
+use lib.Dec.{ltb}
 use lib.ListN.{length, getD, take, drop, replicate, length-take, length-map, length-replicate, List·getD-append, List·getD-eq-default}
 use lib.Seq.{sets, sets-eq, getD-append-add, getD-drop, getD-take}
 use Rattle.memory.specs.Bytes.{le}
@@ -13,17 +13,11 @@ use Rattle.memory.proofs.Laws.{le-same}
 use Rattle.ranges.specs.Ranges.{Sound, rangesOf, places, bytesAt}
 use Rattle.ranges.specs.declared.Ranges.{Ranges}
 use Rattle.ranges.proofs.Laws.{length-places}
-use Rattle.card.specs.Card.{preparedState, runningState, stoppedState}
-use Rattle.card.specs.declared.Card.{Card}
-use Rattle.meaning.specs.Card.{restOf}
 use Rattle.rules.specs.Control as rules
-use Rattle.information.specs.declared.Listing.the-variants.{Jacks, Streams, Maps}
-use Rattle.rules.specs.Numbers.{jackInfo, jackRemap, pcmInfo, pcmSetParams, pcmPrepare, pcmRelease, pcmStart, pcmStop, chmapInfo, sBadMsg, sNotSupp}
-use Rattle.control.specs.Control.{decodedOf, layoutOf, answerOf}
-use Rattle.control.specs.declared.Asked.{Asked}
-use Rattle.control.specs.declared.Asked.the-variants.{Information, Remap, SetParams, Move, Release}
-use Rattle.control.specs.declared.Decoded.{Decoded}
-use Rattle.control.specs.declared.Decoded.the-variants.{Known, Unknown}
+use Rattle.rules.specs.declared.Asked.{Asked}
+use Rattle.rules.specs.declared.Asked.the-variants.{Information, Remap, Pcm}
+use Rattle.rules.specs.declared.Command.{Command}
+use Rattle.rules.specs.declared.Command.the-variants as command
 
 -- ---- a request's first bytes
 
@@ -61,77 +55,31 @@ pub words-agree : (m ps : List ℕ) (n at : ℕ) → at + n ≤ 24
 words-agree m ps n at h =
     rw (map-take (λ (a : ℕ). getD m a 0) 24 ps) (le-same n _ (bytesAt m ps) at (λ i a b. first-bytes 24 (bytesAt m ps) i (omega arith)))
 
--- an answer goes by the first 24 bytes
-pub answers-agree : (a : Asked) (c : Card) (code : ℕ) (p q : List ℕ) (room : ℕ)
-    → ((n at : ℕ) → at + n ≤ 24 → le n p at ≡ le n q at) → answerOf a c code p room ≡ answerOf a c code q room
-unfolding answerOf rules.information rules.remap rules.setParams rules.judgedParams
-answers-agree (Information l) c code p q room h = rw (h 4 4 (omega arith), h 4 8 (omega arith), h 4 12 (omega arith))
-answers-agree Remap c code p q room h = rw (h 4 4 (omega arith), h 4 8 (omega arith), h 4 12 (omega arith))
-answers-agree SetParams c code p q room h =
-    rw (
-      h 4 4 (omega arith),
-      h 4 8 (omega arith),
-      h 4 12 (omega arith),
-      h 4 16 (omega arith),
-      h 1 20 (omega arith),
-      h 1 21 (omega arith),
-      h 1 22 (omega arith),
-      h 1 23 (omega arith),
-    )
-answers-agree (Move s) c code p q room h = rw (h 4 4 (omega arith))
-answers-agree Release c code p q room h = rw (h 4 4 (omega arith))
+-- a command goes by the first 24 bytes
+module _ (p : rules.Parts) (xs ys : List ℕ) (h : (n at : ℕ) → at + n ≤ 24 → le n xs at ≡ le n ys at) where
+  obeyed-agree : (c : Command) (id : ℕ) → rules.obeyed p c id xs ≡ rules.obeyed p c id ys
+  unfolding rules.setParams rules.judgedParams
+  obeyed-agree command.SetParams id =
+      rw (
+        h 4 8 (omega arith),
+        h 4 12 (omega arith),
+        h 4 16 (omega arith),
+        h 1 20 (omega arith),
+        h 1 21 (omega arith),
+        h 1 22 (omega arith),
+        h 1 23 (omega arith),
+      )
+  obeyed-agree command.Prepare id = refl
+  obeyed-agree command.Start id = refl
+  obeyed-agree command.Stop id = refl
+  obeyed-agree command.Release id = refl
 
--- ---- a request goes by its code
-
-answeredTo : Card → List ℕ → ℕ → Decoded → rules.Served
-answeredTo c request room (Known a) =
-    rules.laidOut (restOf c) (layoutOf a) request (answerOf a c (rules.word request 0) request room)
-answeredTo c request room Unknown = rules.refusal (restOf c) sNotSupp
-
-module _ (f : Decoded → rules.Served) where
-  by-code : (b : Bool) (x y : Decoded) (t : rules.Served) → f y ≡ t → f (cond b x y) ≡ cond b (f x) t
-  by-code true x y t h = refl
-  by-code false x y t h = h
-
-  by-table :
-      (code : ℕ)
-      → f (decodedOf code)
-      ≡ cond (eqb code jackInfo) (f (Known (Information Jacks)))
-      (cond (eqb code jackRemap) (f (Known Remap))
-      (cond (eqb code pcmInfo) (f (Known (Information Streams)))
-      (cond (eqb code pcmSetParams) (f (Known SetParams))
-      (cond (eqb code pcmPrepare) (f (Known (Move preparedState)))
-      (cond (eqb code pcmRelease) (f (Known Release))
-      (cond (eqb code pcmStart) (f (Known (Move runningState)))
-      (cond (eqb code pcmStop) (f (Known (Move stoppedState)))
-      (cond (eqb code chmapInfo) (f (Known (Information Maps))) (f Unknown)))))))))
-  unfolding decodedOf
-  by-table code =
-      by-code (eqb code jackInfo) _ _ _
-      (by-code (eqb code jackRemap) _ _ _
-      (by-code (eqb code pcmInfo) _ _ _
-      (by-code (eqb code pcmSetParams) _ _ _
-      (by-code (eqb code pcmPrepare) _ _ _
-      (by-code (eqb code pcmRelease) _ _ _
-      (by-code (eqb code pcmStart) _ _ _ (by-code (eqb code pcmStop) _ _ _ (by-code (eqb code chmapInfo) _ _ _ refl))))))))
-
-module _ (c : Card) (request : List ℕ) (room : ℕ) where
-  served-decoded : answeredTo c request room (decodedOf (rules.word request 0)) ≡ rules.served (restOf c) request room
-  unfolding answeredTo rules.served answerOf restOf
-  served-decoded = by-table (answeredTo c request room) (rules.word request 0)
-
-  pub served-unknown : decodedOf (rules.word request 0) ≡ Unknown → rules.served (restOf c) request room ≡ rules.refusal (restOf c) sNotSupp
-  unfolding answeredTo
-  served-unknown h = sym served-decoded ∙ rw h
-
-  module _ (a : Asked) (h : decodedOf (rules.word request 0) ≡ Known a) where
-    pub served-short : leb (layoutOf a) (length request) ≡ false → rules.served (restOf c) request room ≡ rules.refusal (restOf c) sBadMsg
-    unfolding answeredTo
-    served-short s = sym served-decoded ∙ rw (h, s)
-
-    pub served-whole : leb (layoutOf a) (length request) ≡ true → rules.served (restOf c) request room ≡ answerOf a c (rules.word request 0) request room
-    unfolding answeredTo
-    served-whole s = sym served-decoded ∙ rw (h, s)
+  -- and so does any answer
+  pub answers-agree : (a : Asked) (room : ℕ) → rules.answerTo a p xs room ≡ rules.answerTo a p ys room
+  unfolding rules.information rules.remap rules.commanded
+  answers-agree (Information l) room = rw (h 4 4 (omega arith), h 4 8 (omega arith), h 4 12 (omega arith))
+  answers-agree Remap room = rw (h 4 4 (omega arith), h 4 8 (omega arith), h 4 12 (omega arith))
+  answers-agree (Pcm c) room = rw (h 4 4 (omega arith), obeyed-agree c (rules.word ys 1))
 
 pub length-request : (m : List ℕ) (r : Ranges) → Sound r → length (bytesAt m (places (rangesOf r))) ≡ r .bytes
 length-request m r s = rw (length-map, length-places) (sym (s .sum))

@@ -1,67 +1,51 @@
-// Control messages (01, "Control messages"): what a request asks and is answered. The queues, and
-// with them the work of RELEASE, are the caller's.
+// Control messages (01, "Control messages"): a request is decoded and served, step by step. A step that
+// refuses completes the message. The queues, and with them the work of RELEASE, are the caller's.
 ghost use mathlib.Core.Path.{_≡_};
 ghost use lib.Dec.{leb};
-ghost use lib.ListN.{length};
-ghost use Rattle.card.specs.Fit.{Fit};
-ghost use Rattle.meaning.specs.Card.{restOf};
+ghost use Rattle.card.specs.Fit.{FitParts};
+ghost use Rattle.meaning.specs.Card.{partsOf};
 ghost use Rattle.ranges.specs.Ranges.{Sound, rangesOf, places, bytesAt};
-ghost use Rattle.requests.specs.Requests.{Serves, checked};
-ghost use Rattle.rules.specs.Control.{served};
-ghost use Rattle.control.specs.Control.{decodedOf, layoutOf, stateFits, decodedFits, answerOf};
-use card::Card;
-pub use commands::PCM_PREPARE;
-pub use commands::PCM_RELEASE;
-pub use commands::PCM_SET_PARAMS;
-pub use commands::PCM_START;
-pub use commands::PCM_STOP;
-use information::Listing;
+ghost use Rattle.reply.specs.Reply.{Serves};
+ghost use Rattle.requests.specs.Requests.{checked};
+ghost use Rattle.rules.specs.Control.{served, decodedOf, commandLayout, layoutOf, answerTo};
+use card::Parts;
 use ranges::Ranges;
-pub use requests::BAD_MSG;
+use reply::Pending;
+use reply::Served;
 use requests::Check;
-pub use requests::Kind;
-pub use requests::NOT_SUPP;
-pub use requests::Served;
-
-// The codes of the other requests.
-pub const JACK_INFO: u32 = 1;
-
-pub const JACK_REMAP: u32 = 2;
-
-pub const PCM_INFO: u32 = 256;
-
-pub const CHMAP_INFO: u32 = 512;
-
-// What a request asks: PREPARE, START and STOP move a stream to a state.
-enum Asked {
-    Information(Listing),
-    Remap,
-    SetParams,
-    Move(u8),
-    Release,
-}
-
-// A code of 01, or any other.
-enum Decoded {
-    Known(Asked),
-    Unknown,
-}
+use rules::Asked;
+use rules::Command;
+use rules::Decoded;
+use rules::Listing;
 
 // What a request's code asks.
 fn decode(code: u32) -> Decoded
-    ensures { λ r. ⌜ (r ≡ decodedOf code) × decodedFits r ⌝ }
+    ensures { λ r. ⌜ r ≡ decodedOf code ⌝ }
 {
     match code {
-        JACK_INFO => Decoded::Known(Asked::Information(Listing::Jacks)),
-        JACK_REMAP => Decoded::Known(Asked::Remap),
-        PCM_INFO => Decoded::Known(Asked::Information(Listing::Streams)),
-        PCM_SET_PARAMS => Decoded::Known(Asked::SetParams),
-        PCM_PREPARE => Decoded::Known(Asked::Move(card::PREPARED)),
-        PCM_RELEASE => Decoded::Known(Asked::Release),
-        PCM_START => Decoded::Known(Asked::Move(card::RUNNING)),
-        PCM_STOP => Decoded::Known(Asked::Move(card::STOPPED)),
-        CHMAP_INFO => Decoded::Known(Asked::Information(Listing::Maps)),
+        rules::JACK_INFO => Decoded::Known(Asked::Information(Listing::Jacks)),
+        rules::JACK_REMAP => Decoded::Known(Asked::Remap),
+        rules::PCM_INFO => Decoded::Known(Asked::Information(Listing::Streams)),
+        rules::PCM_SET_PARAMS => Decoded::Known(Asked::Pcm(Command::SetParams)),
+        rules::PCM_PREPARE => Decoded::Known(Asked::Pcm(Command::Prepare)),
+        rules::PCM_RELEASE => Decoded::Known(Asked::Pcm(Command::Release)),
+        rules::PCM_START => Decoded::Known(Asked::Pcm(Command::Start)),
+        rules::PCM_STOP => Decoded::Known(Asked::Pcm(Command::Stop)),
+        rules::CHMAP_INFO => Decoded::Known(Asked::Information(Listing::Maps)),
         _ => Decoded::Unknown,
+    }
+}
+
+// The length of a command's layout.
+fn command_layout(command: Command) -> u32
+    ensures { λ r. ⌜ r ≡ commandLayout command ⌝ }
+{
+    match command {
+        Command::SetParams => 24,
+        Command::Prepare => 8,
+        Command::Start => 8,
+        Command::Stop => 8,
+        Command::Release => 8,
     }
 }
 
@@ -72,14 +56,12 @@ fn layout(asked: Asked) -> u32
     match asked {
         Asked::Information(_) => 16,
         Asked::Remap => 16,
-        Asked::SetParams => 24,
-        Asked::Move(_) => 8,
-        Asked::Release => 8,
+        Asked::Pcm(command) => command_layout(command),
     }
 }
 
-// Whether a request has the length of its layout.
-fn laid_out(asked: Asked, len: u32) -> Check
+// A request has the length of its layout.
+fn is_laid_out(asked: Asked, len: u32) -> Check
     ensures { λ r. ⌜ r ≡ checked (leb (layoutOf asked) len) ⌝ }
 {
     if layout(asked) <= len {
@@ -89,34 +71,41 @@ fn laid_out(asked: Asked, len: u32) -> Check
 }
 
 // A request that has the length of its layout.
-fn answer(asked: Asked, card: Card, code: u32, request: &[u8], room: u32, out: &mut [u8]) -> Served
-    requires { ⌜ Fit card × (length (now out) ≡ 132) × stateFits asked ⌝ }
-    ensures { λ r. ⌜ Serves card (answerOf asked card code (now (request .entry)) room) r (now (out .entry)) (now (out .exit)) ⌝ }
+fn act(
+    m: &mut [u8],
+    parts: Parts,
+    pending: Pending,
+    asked: Asked,
+    request: &[u8],
+    room: u32,
+) -> Served
+    requires { ⌜ FitParts parts ⌝ }
+    ensures { λ r. ⌜ Serves pending parts (answerTo asked (partsOf parts) (now (request .entry)) room) r (now (m .entry)) (now (m .exit)) ⌝ }
 {
     match asked {
-        Asked::Information(l) => requests::inform(card, l, request, room, out),
-        Asked::Remap => requests::remap(card, request, out),
-        Asked::SetParams => commands::set_params(card, code, request, out),
-        Asked::Move(state) => commands::move_stream(card, code, state, request, out),
-        Asked::Release => commands::release(card, code, request, out),
+        Asked::Information(l) => requests::inform(m, parts, pending, l, request, room),
+        Asked::Remap => requests::remap(m, parts, pending, request),
+        Asked::Pcm(command) => commands::command(m, parts, pending, command, request),
     }
 }
 
-// A control request, answered: the reply goes to the start of `out`, `room` is the length of its
-// writable side.
-pub fn serve(m: &[u8], card: Card, request: Ranges, room: u32, out: &mut [u8]) -> Served
-    requires { ⌜ Fit card × Sound request × (length (now out) ≡ 132) ⌝ }
-    ensures { λ r. ⌜ Serves card (served (restOf card) (bytesAt (now (m .entry)) (places (rangesOf request))) room) r (now (out .entry)) (now (out .exit)) ⌝ }
+// A control request, served. Its bytes are gathered before anything is written.
+pub fn serve(m: &mut [u8], parts: Parts, pending: Pending, request: Ranges) -> Served
+    requires { ⌜ FitParts parts × Sound request ⌝ }
+    ensures { λ r. ⌜ Serves pending parts
+        (served (partsOf parts) (bytesAt (now (m .entry)) (places (rangesOf request))) (pending .reply .bytes))
+        r (now (m .entry)) (now (m .exit)) ⌝ }
 {
     // no layout is longer
     let mut bytes = [0u8; 24];
     ranges::gather(m, request, 0, &mut bytes, 0, 24);
     let code = memory::number32(&bytes, 0);
     let Decoded::Known(asked) = decode(code) else {
-        return requests::reply(card, requests::NOT_SUPP, out);
+        return reply::answer(m, parts, pending, rules::NOT_SUPP);
     };
-    let Check::Passed = laid_out(asked, request.bytes) else {
-        return requests::reply(card, requests::BAD_MSG, out);
+    let Check::Passed = is_laid_out(asked, request.bytes) else {
+        return reply::answer(m, parts, pending, rules::BAD_MSG);
     };
-    answer(asked, card, code, &bytes, room, out)
+    let reply = pending.reply;
+    act(m, parts, pending, asked, &bytes, reply.bytes)
 }

@@ -1,19 +1,18 @@
 -- What a completion on the control queue leaves of the card, and the control call by its tests.
 use mathlib.Core.Path.{_≡_, _∙_, refl, sym, ap}
 use mathlib.Core.Bool.{Bool, true, false, cond, _&&_}
-use mathlib.Core.List.{List, [], _∷_}
+use mathlib.Core.List.{List, []}
 use Prim.Native.Nat.{ℕ, zero, suc, _≤_, _<_}
 use native.Mathlib.Omega.{arith}
 use borrow.Author.Tests.{eq-eqb, ne-eqb}
 use lib.Dec.{eqb, leb}
-use lib.ListN.{length, getD, set, take, replicate, length-set, length-take}
-use lib.Seq.{getD-set-same, getD-set-other, length-take-le, set-out}
+use lib.ListN.{length, getD, take, length-set, length-take}
+use lib.Seq.{getD-set-same, getD-set-other, length-take-le, set-out, take-set-lt}
 use Rattle.counts.specs.declared.DescriptorNumber.{DescriptorNumber}
 use Rattle.counts.specs.declared.PageNumber.{PageNumber}
-use Rattle.memory.specs.Bytes.{put}
-use Rattle.ranges.specs.Ranges.{places, putAt, bytesAt, total, allInside}
+use Rattle.ranges.specs.Ranges.{rangesOf, places, bytesAt, total, allInside}
 use Rattle.ranges.specs.declared.Range.{Range}
-use Rattle.ranges.proofs.Laws.{putAt-nil}
+use Rattle.ranges.specs.declared.Ranges.{Ranges}
 use Rattle.registers.specs.Answers.{done, lengthDiffers, notLive, plain}
 use Rattle.registers.specs.Fit.{FitRegisters}
 use Rattle.registers.specs.Map.{sizeOf}
@@ -31,38 +30,31 @@ use Rattle.card.specs.Fit.{Fit}
 use Rattle.card.specs.declared.Card.{Card}
 use Rattle.card.specs.declared.Counters.{Counters}
 use Rattle.card.specs.declared.Stream.{Stream}
-use Rattle.meaning.specs.Card.{countersAt, queueOf, restOf, deviceOf, stepOf, leaves}
+use Rattle.meaning.specs.Card.{countersAt, partsOf, restOf, deviceOf, stepOf, leaves}
 use Rattle.rules.specs.Calls as calls
-use Rattle.rules.specs.Calls.{Result, Order, Pending, Step, ended, virtqueueOf, releasedOf, acted, Done, ReleaseFirst, Control, releaseStep, refused, broke, replied, ordered, orderOf, controlFound, indirect}
+use Rattle.rules.specs.Calls.{Result, Order, Pending, Step, ended, virtqueueOf, releasedOf, acted, Done, ReleaseFirst, Control, releaseStep}
+use Rattle.rules.specs.Calls.{refused, broke, replied, withRest, ordered, orderOf, controlFound, indirect}
 use Rattle.rules.specs.Control as rules
 use Rattle.rules.specs.Control.{status, withState}
 use Rattle.rules.specs.Counters.{countersOf}
-use Rattle.rules.specs.Device.{Device, Queue, Rest, Direction, output, input, queueNumber, directionOf, queueFor, withQueue, bytesOf, withRegisters, withControl, pageOf, signalledIf, oneTaken}
+use Rattle.rules.specs.Device.{Device, Queue, Rest, Direction, output, input, queueNumber, directionOf, queueFor, withQueue, withRegisters}
+use Rattle.rules.specs.Device.{withControl, pageOf, signalledIf, oneTaken}
 use Rattle.rules.specs.Numbers.{controlQueue, sOk, sBadMsg}
-use Rattle.control.specs.Control.{withParts}
-use Rattle.commands.specs.Commands.{withStreamAt}
-use Rattle.commands.proofs.Laws.{rest-with-stream, fit-with-stream, stream-at}
+use Rattle.card.specs.Setters.{withParts, withStreamAt}
+use Rattle.card.proofs.Setters.{fit-with-parts, fit-with-stream}
+use Rattle.reply.specs.Reply.{Outcome, Serves, completionOf, closedOf, postedBy}
+use Rattle.reply.specs.declared.Kind.{Kind}
+use Rattle.reply.specs.declared.Kind.the-variants as kinds
+use Rattle.reply.specs.declared.Served.{Served}
+use Rattle.reply.proofs.Laws.{putAt-front, stream-at}
 use Rattle.stream.specs.Queue as stream
 use Rattle.stream.specs.Queue.{Empties}
 use Rattle.stream.specs.declared.Emptied.{Emptied}
 use Rattle.stream.proofs.Fits.{signal-fit}
 use Rattle.stream.proofs.Released.{released-ordered}
 use Rattle.controlq.specs.declared.Side.the-variants.{Usable, Unusable}
-use Rattle.controlq.specs.Control.{sideOf, servedChain, pendingOf, endsOn, says, holding, takenCard, countedOf, untouchedBy, brokenDown, markedOf, walkedAt, headOf}
-
--- ---- bytes
-
--- the front of a byte string fills the front of the places
-pub putAt-front : (n : ℕ) (m as′ bs : List ℕ) → putAt m (take n as′) bs ≡ putAt m as′ (take n bs)
-unfolding putAt
-putAt-front zero m as′ bs = sym (putAt-nil m as′)
-putAt-front (suc n) m [] bs = refl
-putAt-front (suc n) m (a ∷ as′) [] = refl
-putAt-front (suc n) m (a ∷ as′) (b ∷ bs) = putAt-front n (set m a b) as′ bs
-
-pub status-put : (code : ℕ) → take 4 (put 4 (replicate 4 0) 0 code) ≡ bytesOf 4 code
-unfolding put bytesOf
-status-put code = refl
+use Rattle.controlq.specs.Control.{sideOf, servedChain, pendingOf, pendingIn, endsOn, says, holding, takenCard, countedOf}
+use Rattle.controlq.specs.Control.{untouchedBy, brokenDown, markedOf, walkedAt, headOf}
 
 -- ---- the card
 
@@ -90,11 +82,17 @@ resultOn c k =
       mem = k .memory;
     }
 
-replied-on : (c : Card) (head : DescriptorNumber) (reply : List Range) (bytes : List ℕ) (n : ℕ) (m : List ℕ) → n ≤ length bytes
-    → replied (pendingOf c head reply) (take n bytes) m
-    ≡ resultOn c (completedOf m (pageIn c) (sizeOf controlQueue) (countersAt c controlQueue .completed) head n reply 0 bytes n)
-unfolding replied completedOf postOf resultOn restOf
-replied-on c head reply bytes n m h = rw (length-take-le n bytes h, putAt-front n m (places reply) bytes)
+replied-by : (c : Card) (head : DescriptorNumber) (reply : Ranges) (bytes m : List ℕ)
+    → replied (pendingOf c head (rangesOf reply)) bytes m ≡ resultOn c (completionOf (pendingIn c head reply) bytes m)
+unfolding replied closedOf postOf resultOn restOf
+replied-by c head reply bytes m = refl
+
+-- the first n bytes as a reply
+pub completed-front : (c : Card) (head : DescriptorNumber) (reply : Ranges) (bytes : List ℕ) (n : ℕ) (m : List ℕ) → n ≤ length bytes
+    → completedOf m (pageIn c) (sizeOf controlQueue) (countersAt c controlQueue .completed) head n (rangesOf reply) 0 bytes n
+    ≡ completionOf (pendingIn c head reply) (take n bytes) m
+unfolding completedOf closedOf
+completed-front c head reply bytes n m h = rw (length-take-le n bytes h, putAt-front n m (places (rangesOf reply)) bytes)
 
 module _ (c : Card) (f : Fit c) where
   pub held-device : (g : Registers) (q : Counters)
@@ -113,13 +111,12 @@ module _ (c : Card) (f : Fit c) where
       record { registers = h; parts = f .parts; four = length-set (c .queues) controlQueue q ∙ f .four; play = f .play; capture = f .capture }
 
   -- a completion, counted
-  pub counted-says : (head : DescriptorNumber) (reply : List Range) (bytes : List ℕ) (n : ℕ) (m after : List ℕ) (p : Posted) → n ≤ length bytes
-      → completion after p
-      ≡ completedOf m (pageIn c) (sizeOf controlQueue) (countersAt c controlQueue .completed) head n reply 0 bytes n
-      → endsOn c (replied (pendingOf c head reply) (take n bytes) m) ≡ says (countedOf c p) after
+  pub counted-says : (head : DescriptorNumber) (reply : Ranges) (bytes m after : List ℕ) (p : Posted)
+      → completion after p ≡ completionOf (pendingIn c head reply) bytes m
+      → endsOn c (replied (pendingOf c head (rangesOf reply)) bytes m) ≡ says (countedOf c p) after
   unfolding resultOn
-  counted-says head reply bytes n m after p h e =
-      ap (endsOn c) (replied-on c head reply bytes n m h ∙ ap (resultOn c) (sym e))
+  counted-says head reply bytes m after p e =
+      ap (endsOn c) (replied-by c head reply bytes m ∙ ap (resultOn c) (sym e))
       ∙ rw (held-device (signalledIf (p .interrupt) (c .registers)) (record { taken = countersAt c controlQueue .taken; completed = p .completed }))
 
   pub counted-fit : (p : Posted) → Fit (countedOf c p .card)
@@ -143,12 +140,12 @@ module _ (c : Card) (id : ℕ) (f : Fit c) where
     abbrev pub changed : Stream
     changed = withState releasedState (getD (c .parts .streams) id noStream)
 
-    pub marked-there : deviceOf (withStreamAt id changed c) ≡ markedOf id (deviceOf c)
-    unfolding deviceOf
-    marked-there = rw (rest-with-stream c id changed h, stream-at c id h)
+    pub marked-there : deviceOf (withParts (withStreamAt id changed (c .parts)) c) ≡ markedOf id (deviceOf c)
+    unfolding deviceOf restOf
+    marked-there = rw (take-set-lt (c .parts .«stream_count») (c .parts .streams) id changed h, stream-at (c .parts) id h)
 
-    pub marked-fit : Fit (withStreamAt id changed c)
-    marked-fit = fit-with-stream c id changed f (omega arith)
+    pub marked-fit : Fit (withParts (withStreamAt id changed (c .parts)) c)
+    marked-fit = fit-with-parts c (withStreamAt id changed (c .parts)) f (fit-with-stream id changed (omega arith) (c .parts) (f .parts))
 
 -- what a Release leaves to do, by what its queue's emptying left
 module _ (c : Card) (head : DescriptorNumber) (reply : List Range) (id : ℕ) (signal : Bool) (m : List ℕ) where
@@ -200,8 +197,10 @@ module _ (c : Card) (head : DescriptorNumber) (request reply : List Range) (m : 
           unusable (allInside (length m) request && leb 4 (total request)) k,
         )
 
-    pub chain-acted : sideOf (length m) request ≡ Usable → (s : rules.Served) → s ≡ rules.served (restOf c) (bytesAt m (places request)) (total reply)
+    pub chain-acted : sideOf (length m) request ≡ Usable → (s : rules.Served)
+        → s ≡ rules.served (partsOf (c .parts)) (bytesAt m (places request)) (total reply)
         → servedChain c head request reply m ≡ acted s (pendingOf c head reply) m
+    unfolding restOf
     chain-acted k s e =
         rw (
           usable (allInside (length m) reply && leb 4 (total reply)) h,
@@ -214,14 +213,59 @@ pub record SameQueues (b b′ : Device Queue) : Type 0 where
   pub play : b .play ≡ b′ .play
   pub capture : b .capture ≡ b′ .capture
 
--- a request changes parts of the card only
-pub served-queues : (c n : Card) → n ≡ withParts (n .parts) c → SameQueues (deviceOf n) (deviceOf c)
-unfolding deviceOf
-served-queues c n e =
-    record {
-      play = ap (λ (x : Card). queueOf (countersAt x 2) (x .play)) e;
-      capture = ap (λ (x : Card). queueOf (countersAt x 3) (x .capture)) e;
-    }
+released-same : (n id : ℕ) → kinds.Release n ≡ kinds.Release id → n ≡ id
+released-same n id h = cc
+
+-- what a request comes to, ordered: by its kind
+module _ (c : Card) (f : Fit c) (head : DescriptorNumber) (reply : Ranges) (r : Served) (m after : List ℕ) where
+  -- the card after it
+  abbrev pub servedCard : Card
+  servedCard = withParts (r .parts) c
+
+  served-rest : (ps : rules.Parts) → partsOf (r .parts) ≡ ps → restOf servedCard ≡ rules.withParts ps (restOf c)
+  unfolding restOf
+  served-rest ps e = rw (← e)
+
+  served-ended : (ps : rules.Parts) (bytes : List ℕ) → partsOf (r .parts) ≡ ps
+      → ended (replied (withRest (rules.withParts ps (restOf c)) (pendingOf c head (rangesOf reply))) bytes m) (deviceOf c)
+      ≡ endsOn servedCard (replied (pendingOf servedCard head (rangesOf reply)) bytes m)
+  unfolding deviceOf
+  served-ended ps bytes e = rw (served-rest ps e)
+
+  posted-in : Kind → Posted → Posted
+  posted-in (kinds.Completed p) d = p
+  posted-in (kinds.Release id) d = d
+
+  -- the message is completed
+  pub served-completed : (rule : rules.Served) (p : Posted)
+      → Serves (pendingIn c head reply) (c .parts) rule r m after → r .kind ≡ kinds.Completed p
+      → ordered countersOf (acted rule (pendingOf c head (rangesOf reply)) m) (deviceOf c) m ≡ says (countedOf servedCard p) after
+  unfolding posted-in
+  served-completed (rules.Reply ps bytes) p s k =
+      let w = s .whole in
+      let told : kinds.Completed p ≡ kinds.Completed (postedBy (completionOf (pendingIn c head reply) bytes m)) =
+      sym k ∙ ap (λ (o : Outcome). o .served .kind) w in
+      let same : p ≡ postedBy (completionOf (pendingIn c head reply) bytes m) = ap (λ (x : Kind). posted-in x p) told in
+      let e : completion after p ≡ completionOf (pendingIn c head reply) bytes m = rw (same, ap (λ (o : Outcome). o .memory) w) in
+      served-ended ps bytes (s .stand)
+      ∙ counted-says servedCard (fit-with-parts c (r .parts) f (s .fit)) head reply bytes m after p e
+  served-completed (rules.Release id) p s k =
+      let told : kinds.Completed p ≡ kinds.Release id = sym k ∙ ap (λ (o : Outcome). o .served .kind) (s .whole) in
+      let z : _≡_ {A = ℕ} 0 1 = cc in
+      absurd (omega arith)
+
+  -- a stream is released first: memory is as it was
+  pub served-release : (rule : rules.Served) (id : ℕ)
+      → Serves (pendingIn c head reply) (c .parts) rule r m after → r .kind ≡ kinds.Release id
+      → (acted rule (pendingOf c head (rangesOf reply)) m ≡ ReleaseFirst id (pendingOf c head (rangesOf reply))) × (after ≡ m)
+  served-release (rules.Reply ps bytes) id s k =
+      let told : kinds.Release id ≡ kinds.Completed (postedBy (completionOf (pendingIn c head reply) bytes m)) =
+      sym k ∙ ap (λ (o : Outcome). o .served .kind) (s .whole) in
+      let z : _≡_ {A = ℕ} 0 1 = cc in
+      absurd (omega arith)
+  served-release (rules.Release n) id s k =
+      let told : kinds.Release n ≡ kinds.Release id = sym (ap (λ (o : Outcome). o .served .kind) (s .whole)) ∙ k in
+      (rw (released-same n id told), ap (λ (o : Outcome). o .memory) (s .whole))
 
 -- ---- the next message
 

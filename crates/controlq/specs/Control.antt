@@ -3,11 +3,12 @@ use mathlib.Core.Bool.{cond, _&&_}
 use mathlib.Core.List.{List, []}
 use Prim.Native.Nat.{ℕ}
 use lib.Dec.{leb}
-use lib.ListN.{set}
+use lib.ListN.{getD, set}
 use Rattle.chain.specs.Walk.{whole, walkOf}
 use Rattle.counts.specs.declared.DescriptorNumber.{DescriptorNumber}
 use Rattle.ranges.specs.Ranges.{total, allInside}
 use Rattle.ranges.specs.declared.Range.{Range}
+use Rattle.ranges.specs.declared.Ranges.{Ranges}
 use Rattle.registers.specs.Answers.{done, plain}
 use Rattle.registers.specs.Map.{sizeOf}
 use Rattle.registers.specs.Rules.{broken}
@@ -25,6 +26,7 @@ use Rattle.rules.specs.Calls.{Result, Step, Pending, Order, ended, indirect, re
 use Rattle.rules.specs.Control.{withState, withStream}
 use Rattle.rules.specs.Device.{Device, Queue, pageOf, streamAt, signalledIf, oneTaken}
 use Rattle.rules.specs.Numbers.{controlQueue}
+use Rattle.reply.specs.declared.Pending as reply
 use Rattle.stream.specs.Queue.{withRegisters}
 use Rattle.controlq.specs.declared.ControlAnswer.{ControlAnswer}
 use Rattle.controlq.specs.declared.Side.{Side}
@@ -35,6 +37,16 @@ use Rattle.controlq.specs.declared.Side.the-variants.{Usable, Unusable}
 -- a message of the card that is taken; what is left to do is its reply
 abbrev pub pendingOf : Card → DescriptorNumber → List Range → Pending
 pendingOf c head reply = record { rest = restOf c; head = head .0; reply = reply }
+
+-- .. and what its completion needs
+abbrev pub pendingIn : Card → DescriptorNumber → Ranges → reply.Pending
+pendingIn c head ranges =
+    record {
+      page = getD (c .registers .pages) controlQueue (record { 0 = 0 });
+      completed = countersAt c controlQueue .completed;
+      head = head;
+      reply = ranges;
+    }
 
 -- inside RAM, and at least four bytes
 abbrev pub sideOf : ℕ → List Range → Side

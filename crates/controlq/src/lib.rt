@@ -5,6 +5,7 @@ ghost use mathlib.Core.List.{[]};
 ghost use Prim.Native.Nat.{_≤_};
 ghost use lib.ListN.{length, take};
 ghost use Rattle.card.specs.Fit.{Fit};
+ghost use Rattle.card.specs.Setters.{withParts};
 ghost use Rattle.meaning.specs.Card.{deviceOf, stepOf, leaves};
 ghost use Rattle.ranges.specs.Ranges.{Sound, rangesOf};
 ghost use Rattle.registers.specs.Map.{sizeOf};
@@ -14,15 +15,17 @@ ghost use Rattle.rules.specs.Counters.{countersOf};
 ghost use Rattle.rules.specs.Device.{queueNumber, directionOf, signalledIf};
 ghost use Rattle.rules.specs.Numbers.{controlQueue};
 ghost use Rattle.stream.specs.Queue.{withRegisters};
-ghost use Rattle.controlq.specs.Control.{pendingOf, endsOn, says, sideOf, takenCard, countedOf, brokenDown, untouchedBy, markedOf, servedChain, walkedAt, headOf};
+ghost use Rattle.controlq.specs.Control.{pendingOf, pendingIn, endsOn, says, sideOf, takenCard, countedOf, brokenDown, untouchedBy, markedOf, servedChain, walkedAt, headOf};
 use card::Card;
 use card::Counters;
+use card::Parts;
 use chain::End;
-use control::Kind;
 use counts::DescriptorNumber;
 use message::Direction;
 use ranges::Ranges;
 use registers::Answer;
+use reply::Kind;
+use reply::Pending;
 use ring::Cause;
 use ring::Posted;
 use ring::Stop;
@@ -151,6 +154,21 @@ fn complete(
     counted(card, posted)
 }
 
+// What the completion of a message of the control queue needs.
+fn pending_in(card: Card, head: DescriptorNumber, reply: Ranges) -> Pending
+    requires { ⌜ Fit card ⌝ }
+    ensures { λ r. ⌜ r ≡ pendingIn card head reply ⌝ }
+{
+    let registers = card.registers;
+    let counters = card.queues[CONTROL_QUEUE];
+    Pending {
+        page: registers.pages[CONTROL_QUEUE],
+        completed: counters.completed,
+        head: head,
+        reply: reply,
+    }
+}
+
 // A reply of four bytes.
 fn reply_status(
     m: &mut [u8],
@@ -163,9 +181,9 @@ fn reply_status(
     ensures { λ r. ⌜ (endsOn card (replied (pendingOf card head (rangesOf reply)) (status code) (now (m .entry)))
         ≡ says r (now (m .exit))) × Fit (r .card) ⌝ }
 {
-    let mut bytes = [0u8; 4];
-    memory::set32(&mut bytes, 0, code);
-    complete(m, card, head, reply, &bytes, 4)
+    let pending = pending_in(card, head, reply);
+    let posted = reply::complete(m, pending, code);
+    counted(card, posted)
 }
 
 // The card with ISR bit 0, where a stream's queue asked for it.
@@ -249,6 +267,15 @@ fn release(
     end_release(m, emptied, head, reply, id)
 }
 
+// The card with other parts.
+fn with_parts(card: Card, parts: Parts) -> Card
+    ensures { λ r. ⌜ r ≡ withParts parts card ⌝ }
+{
+    let mut next = card;
+    next.parts = parts;
+    next
+}
+
 // A message that was walked whole: its sides are judged, its request is served.
 fn serve_chain(
     m: &mut [u8],
@@ -261,20 +288,24 @@ fn serve_chain(
     ensures { λ r. ⌜ (ordered countersOf (servedChain card head (rangesOf request) (rangesOf reply) (now (m .entry))) (deviceOf card) (now (m .entry))
         ≡ says r (now (m .exit))) × Fit (r .card) ⌝ }
 {
-    let mut out = [0u8; 132];
     let Side::Usable = judge(m.len(), reply) else {
-        return complete(m, card, head, reply, &out, 0);
+        let nothing = [0u8; 4];
+        return complete(m, card, head, reply, &nothing, 0);
     };
     let Side::Usable = judge(m.len(), request) else {
-        return reply_status(m, card, head, reply, control::BAD_MSG);
+        return reply_status(m, card, head, reply, rules::BAD_MSG);
     };
-    let served = control::serve(m, card, request, reply.bytes, &mut out);
-    let next = served.card;
+    let parts = card.parts;
+    let pending = pending_in(card, head, reply);
+    let served = control::serve(m, parts, pending, request);
     let kind = served.kind;
-    let Kind::Release(id) = kind else {
-        return complete(m, next, head, reply, &out, served.len);
-    };
-    release(m, card, head, reply, id)
+    match kind {
+        Kind::Completed(posted) => {
+            let after = served.parts;
+            counted(with_parts(card, after), posted)
+        }
+        Kind::Release(id) => release(m, card, head, reply, id),
+    }
 }
 
 // The message at `head`, taken: one that can't be walked is completed with length 0.

@@ -26,11 +26,13 @@ use Rattle.ring.specs.declared.Cause.{Cause}
 use Rattle.ring.specs.declared.Stop.{Stop}
 use Rattle.rules.specs.Calls.{Request, ReadRegister, WriteRegister, Control, Play, Capture, Event, Call, Told, toldAll, step, Order as Decided, Done, ReleaseFirst, readMessage, Emptied, eventRoom, replied, orderOf, emptied, releasedOf, transferred, eventAllowed, recorded, eventPosted, tried, eventRun, eventOf, readStep, writeStep, releaseStep, transferStep}
 use Rattle.rules.specs.Claim.{card, toldBy}
-use Rattle.rules.specs.Control.{Served, Reply, Release, joined, information, remap, lawfulFrom, judgedParams, setParams, served}
+use Rattle.rules.specs.Control.{Parts, Served, Reply, Release, joined, information, remap, lawfulFrom, judgedParams, setParams, commanded, decodedOf, served}
+use Rattle.rules.specs.declared.Command.{Command}
+use Rattle.rules.specs.declared.Command.the-variants.{SetParams, Prepare, Start, Stop, Release as Released}
 use Rattle.rules.specs.Counters.{countersOf}
-use Rattle.rules.specs.Device.{Virtqueue, Direction, output, input, Form, wellFormed, refused, silent, Taking, Queue, emptyQueue, Rest, Device, withRegisters, withJacks, withControl, withEvent, bytesOf}
+use Rattle.rules.specs.Device.{Virtqueue, Direction, output, input, Form, wellFormed, refused, silent, Taking, Queue, emptyQueue, Device, withRegisters, withJacks, withControl, withEvent, bytesOf}
 use Rattle.rules.specs.Loop.{loop}
-use Rattle.rules.specs.Numbers.{pcmSetParams, pcmPrepare, pcmRelease, pcmStart, pcmStop, sOk, sBadMsg, sNotSupp}
+use Rattle.rules.specs.Numbers.{sOk, sBadMsg, sNotSupp}
 use Rattle.rules.specs.Histories as history
 use Rattle.rules.specs.Histories.{handedNow, waiting, took, noted}
 use Rattle.rules.specs.Transfer.{Ops, Run, formOf, takingOf, payloadOf, completed, moved, entered, next, transferRun, releaseRun}
@@ -153,7 +155,7 @@ pub record Ran (Q : Type 0) : Type 0 where
   pub memory : List ℕ
 
 unfoldable pub runs : {Q : Type 0} → (Direction → Ops Q) → Device Q → List ℕ → List Request → Ran Q
-unfolding descriptorAt descriptors joinedOf enterOf inTable direct le put total places upFrom putAt allInside registerAt configAt sizeOf readOf writeOf live signalled broken pageRead configBytes configValue isrRead wroteFeatures wrotePage wroteSelector wroteNotify storedStatus wroteStatus foundOf headAt postedAt interrupts replied orderOf emptied releasedOf transferred eventAllowed recorded eventPosted tried eventRun eventOf readStep writeStep releaseStep transferStep information remap judgedParams setParams served formOf takingOf payloadOf completed moved entered next transferRun releaseRun loop bytesOf toldBy handedNow waiting took noted history.entered
+unfolding descriptorAt descriptors joinedOf enterOf inTable direct le put total places upFrom putAt allInside registerAt configAt sizeOf readOf writeOf live signalled broken pageRead configBytes configValue isrRead wroteFeatures wrotePage wroteSelector wroteNotify storedStatus wroteStatus foundOf headAt postedAt interrupts replied orderOf emptied releasedOf transferred eventAllowed recorded eventPosted tried eventRun eventOf readStep writeStep releaseStep transferStep information remap judgedParams setParams commanded decodedOf served formOf takingOf payloadOf completed moved entered next transferRun releaseRun loop bytesOf toldBy handedNow waiting took noted history.entered
 runs ops b m [] = record { answers = []; counts = []; state = b; memory = m }
 runs ops b m (q ∷ qs) =
     let s = step ops b (record { asked = q; lent = m }) in
@@ -600,12 +602,12 @@ answered (Reply r bytes) = some (le 4 bytes 0)
 answered (Release id) = none
 
 -- a jack with the remap feature and one without; one stream, in this state, with these features selected
-abbrev pub rest : ℕ → ℕ → Rest
-rest state features =
-    withJacks (jack 1 18956319 1 ∷ jack 0 18956319 1 ∷ []) (device 8 15 (0 ∷ 0 ∷ 0 ∷ 0 ∷ []) (stream state features ∷ []) .rest)
+abbrev pub parts : ℕ → ℕ → Parts
+parts state features =
+    record { jacks = jack 1 18956319 1 ∷ jack 0 18956319 1 ∷ []; maps = []; streams = stream state features ∷ [] }
 
 abbrev pub asks : ℕ → List ℕ → Option ℕ
-asks state request = answered (served (rest state 0) request 4)
+asks state request = answered (served (parts state 0) request 4)
 
 -- SET_PARAMS: buffer, period, features, channels, format, rate, padding
 abbrev pub params : ℕ → ℕ → ℕ → ℕ → ℕ → ℕ → ℕ → List ℕ
@@ -669,14 +671,14 @@ layouts = (refl, refl, refl, refl, refl)
 
 -- the lifecycle, all 30 pairs: a row for SET_PARAMS, PREPARE, START, STOP, RELEASE, a column for Fresh, Set, Prepared, Running,
 -- Stopped, Released
-abbrev pub commands : List ℕ
-commands = pcmSetParams ∷ pcmPrepare ∷ pcmStart ∷ pcmStop ∷ pcmRelease ∷ []
+abbrev pub commands : List Command
+commands = SetParams ∷ Prepare ∷ Start ∷ Stop ∷ Released ∷ []
 
 abbrev pub states : List ℕ
 states = freshState ∷ setState ∷ preparedState ∷ runningState ∷ stoppedState ∷ releasedState ∷ []
 
 pub twelve-lawful-pairs :
-    map (λ (command : ℕ). map (lawfulFrom command) states) commands
+    map (λ (command : Command). map (lawfulFrom command) states) commands
     ≡ (true ∷ true ∷ true ∷ false ∷ false ∷ true ∷ [])
     ∷ (false ∷ true ∷ true ∷ false ∷ false ∷ true ∷ [])
     ∷ (false ∷ false ∷ true ∷ false ∷ true ∷ false ∷ [])
@@ -688,30 +690,26 @@ twelve-lawful-pairs = refl
 -- a lawful request leads to its state, SET_PARAMS with what it asks; another, or one for an absent stream, changes nothing. 258 is
 -- PREPARE, 260 START, 261 STOP, 259 RELEASE.
 abbrev pub leads : ℕ → ℕ → ℕ → Served
-leads command id state = served (rest state 16) (words (command ∷ id ∷ [])) 4
+leads command id state = served (parts state 16) (words (command ∷ id ∷ [])) 4
 
 pub lifecycle :
-    (served (rest releasedState 16) (params 8 4 0 2 5 7 0) 4 ≡ Reply (rest setState 0) ok)
-    × (leads 258 0 setState ≡ Reply (rest preparedState 16) ok)
-    × (leads 260 0 stoppedState ≡ Reply (rest runningState 16) ok)
-    × (leads 261 0 runningState ≡ Reply (rest stoppedState 16) ok)
+    (served (parts releasedState 16) (params 8 4 0 2 5 7 0) 4 ≡ Reply (parts setState 0) ok)
+    × (leads 258 0 setState ≡ Reply (parts preparedState 16) ok)
+    × (leads 260 0 stoppedState ≡ Reply (parts runningState 16) ok)
+    × (leads 261 0 runningState ≡ Reply (parts stoppedState 16) ok)
     × (leads 259 0 preparedState ≡ Release 0)
-    × (leads 259 0 runningState ≡ Reply (rest runningState 16) badMsg)
-    × (served (rest freshState 16) (words (257 ∷ 1 ∷ 8 ∷ 4 ∷ 0 ∷ []) ++ 2 ∷ 5 ∷ 7 ∷ 0 ∷ []) 4 ≡ Reply (rest freshState 16) badMsg)
+    × (leads 259 0 runningState ≡ Reply (parts runningState 16) badMsg)
+    × (served (parts freshState 16) (words (257 ∷ 1 ∷ 8 ∷ 4 ∷ 0 ∷ []) ++ 2 ∷ 5 ∷ 7 ∷ 0 ∷ []) 4 ≡ Reply (parts freshState 16) badMsg)
 unfolding runs
 lifecycle = (refl, refl, refl, refl, refl, refl, refl)
 
 -- information, byte by byte: the second of two streams (an input), a remapped jack, a channel map
-abbrev pub informed : Rest
+abbrev pub informed : Parts
 informed =
     record {
-      ram = 8;
-      registers = powerOn;
       jacks = jack 1 18956325 0 ∷ [];
       maps = record { nid = 6; direction = 1; channels = 2; positions = 3 ∷ 4 ∷ replicate 16 0 } ∷ [];
       streams = replicate 2 (stream runningState 0);
-      control = noCounters;
-      event = noCounters;
     }
 
 abbrev pub informs : ℕ → ℕ → ℕ → ℕ → ℕ → Served

@@ -1,21 +1,22 @@
 -- Laws of items: bytes behind each other, the items one after the other, and one item of a list.
 use mathlib.Core.Path.{_≡_, refl, ap}
 use mathlib.Core.List.{List, [], _∷_, _++_, map}
-use Prim.Native.Nat.{ℕ, zero, suc, _+_, _/_, _%_, _≤_, _<_}
+use Prim.Native.Nat.{ℕ, zero, suc, _+_, _≤_, _<_}
 use native.Mathlib.Numerals.{add-one}
 use native.Mathlib.Nat.{zero-add}
 use native.Mathlib.Omega.{arith}
 use lib.ListN.{length, getD, set, take, drop, replicate, length-take, length-map}
 use Rattle.description.specs.declared.MapInfo.{MapInfo}
-use lib.Seq.{take-all, sets, sets-eq, drop-cons, getD-take, take-append-seam}
+use lib.Seq.{take-all, sets, sets-eq, drop-cons, getD-take}
 use Rattle.memory.specs.Bytes.{put}
 use Rattle.card.specs.Card.{noStream}
 use Rattle.card.specs.declared.Stream.{Stream}
 use Rattle.card.specs.Fit.{FitParts}
 use Rattle.card.specs.declared.Parts.{Parts}
-use Rattle.information.specs.Information.{itemsOf}
-use Rattle.information.specs.declared.Listing.{Listing}
-use Rattle.information.specs.declared.Listing.the-variants.{Jacks, Streams, Maps}
+use Rattle.rules.specs.Control.{itemsOf}
+use Rattle.meaning.specs.Card.{partsOf}
+use Rattle.rules.specs.declared.Listing.{Listing}
+use Rattle.rules.specs.declared.Listing.the-variants.{Jacks, Streams, Maps}
 use Rattle.rules.specs.Device.{bytesOf}
 use Rattle.rules.specs.Control.{pcmItem, pcmItems, mapItem, joined}
 
@@ -25,16 +26,6 @@ pub copy-more : (n i : ℕ) (d : List ℕ) (at : ℕ) (s : List ℕ) → i < n �
     → sets d at (drop i (take n s)) ≡ sets (set d at (getD s i 0)) (at + 1) (drop (i + 1) (take n s))
 copy-more n i d at s h b =
     rw (drop-cons (take n s) i 0 (rw length-take (omega arith)), getD-take n s i 0 h, add-one i, add-one at)
-
--- ---- numbers and bytes at the start
-
-pub put-sets : (n : ℕ) (m : List ℕ) (at v : ℕ) → put n m at v ≡ sets m at (bytesOf n v)
-unfolding put bytesOf
-put-sets zero m at v = refl
-put-sets (suc n) m at v = rw (put-sets n (set m at (v % 256)) (at + 1) (v / 256), add-one at)
-
-pub take-sets : (l vs : List ℕ) → length vs ≤ length l → take (length vs) (sets l 0 vs) ≡ vs
-take-sets l vs h = rw (sets-eq vs l 0 (omega arith)) (take-append-seam vs _)
 
 -- ---- items
 
@@ -55,7 +46,8 @@ pub length-pcmItems : (number : ℕ) (l : List Stream) → length (pcmItems numb
 length-pcmItems number [] = refl
 length-pcmItems number (s ∷ l) = ap suc (length-pcmItems (suc number) l)
 
-pub getD-pcmItems : (number : ℕ) (l : List Stream) (i : ℕ) → i < length l → getD (pcmItems number l) i [] ≡ pcmItem (number + i) (getD l i noStream)
+pub getD-pcmItems : (number : ℕ) (l : List Stream) (i : ℕ) → i < length l → getD (pcmItems number l) i [] ≡ pcmItem (number + i)
+    (getD l i noStream)
 getD-pcmItems number [] i h = absurd (omega arith)
 getD-pcmItems number (s ∷ l) zero h = let e : number + 0 ≡ number = omega arith in rw e
 getD-pcmItems number (s ∷ l) (suc i) h =
@@ -64,10 +56,16 @@ getD-pcmItems number (s ∷ l) (suc i) h =
 
 -- a map's numbers, then its positions, over zeros
 pub map-bytes : (m : MapInfo) → length (m .positions) ≡ 18
-    → sets (put 4 (set (set (replicate 32 0) 4 (m .direction)) 5 (m .channels)) 0 (m .nid)) 6 (take 18 (m .positions)) ≡ mapItem m ++ replicate 8 0
+    → sets (put 4 (set (set (replicate 32 0) 4 (m .direction)) 5 (m .channels)) 0 (m .nid)) 6 (take 18 (m .positions))
+    ≡ mapItem m ++ replicate 8 0
 unfolding put bytesOf
 map-bytes m h =
-    rw (take-all 18 (m .positions) (omega arith), sets-eq (m .positions) (put 4 (set (set (replicate 32 0) 4 (m .direction)) 5 (m .channels)) 0 (m .nid)) 6 (omega arith), h)
+    rw (
+      take-all 18 (m .positions) (omega arith),
+      sets-eq (m .positions)
+          (put 4 (set (set (replicate 32 0) 4 (m .direction)) 5 (m .channels)) 0 (m .nid)) 6 (omega arith),
+      h,
+    )
 
 pub length-mapItem : (m : MapInfo) → length (m .positions) ≡ 18 → length (mapItem m) ≡ 24
 unfolding bytesOf
@@ -98,7 +96,7 @@ module _ (k : ℕ) (l : List Stream) (i : ℕ) (h : i < length (pcmItems 0 (take
 abbrev pub emptyMap : MapInfo
 emptyMap = record { nid = 0; direction = 0; channels = 0; positions = [] }
 
-pub few-items : (l : Listing) (p : Parts) → FitParts p → length (itemsOf l p) ≤ 4
+pub few-items : (l : Listing) (p : Parts) → FitParts p → length (itemsOf l (partsOf p)) ≤ 4
 few-items Jacks p f = rw (length-map, length-take) (omega arith)
 few-items Streams p f = rw (length-pcmItems, length-take) (omega arith)
 few-items Maps p f = rw (length-map, length-take) (omega arith)

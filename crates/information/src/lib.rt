@@ -7,19 +7,15 @@ ghost use Prim.Native.Nat.{_+_, _≤_, _<_};
 ghost use lib.ListN.{length, getD, take, drop, replicate};
 ghost use lib.Seq.{sets};
 ghost use Rattle.card.specs.Fit.{FitParts};
-ghost use Rattle.rules.specs.Control.{jackItem, pcmItem, mapItem, joined};
-ghost use Rattle.information.specs.Information.{itemSize, itemsOf};
+ghost use Rattle.meaning.specs.Card.{partsOf};
+ghost use Rattle.ranges.specs.Ranges.{rangesOf, places, putAt};
+ghost use Rattle.rules.specs.Control.{jackItem, pcmItem, mapItem, itemSize, itemsOf, joined};
 use card::Jack;
 use card::Parts;
 use card::Stream;
 use description::MapInfo;
-
-// What a request for information lists.
-pub enum Listing {
-    Jacks,
-    Streams,
-    Maps,
-}
+use ranges::Ranges;
+use rules::Listing;
 
 // The size of an item.
 pub fn item_size(l: Listing) -> u32
@@ -35,7 +31,7 @@ pub fn item_size(l: Listing) -> u32
 // How many items there are.
 pub fn total(parts: Parts, l: Listing) -> usize
     requires { ⌜ FitParts parts ⌝ }
-    ensures { λ r. ⌜ (r ≡ length (itemsOf l parts)) × (r ≤ 4) ⌝ }
+    ensures { λ r. ⌜ (r ≡ length (itemsOf l (partsOf parts))) × (r ≤ 4) ⌝ }
 {
     match l {
         Listing::Jacks => parts.jack_count,
@@ -111,8 +107,8 @@ fn map_item(map: MapInfo) -> [u8; 32]
 
 // The item at `i` of a list.
 fn item(parts: Parts, l: Listing, i: usize) -> [u8; 32]
-    requires { ⌜ FitParts parts × (i < length (itemsOf l parts)) ⌝ }
-    ensures { λ r. ⌜ (take (itemSize l) r ≡ getD (itemsOf l parts) i []) × (length r ≡ 32) ⌝ }
+    requires { ⌜ FitParts parts × (i < length (itemsOf l (partsOf parts))) ⌝ }
+    ensures { λ r. ⌜ (take (itemSize l) r ≡ getD (itemsOf l (partsOf parts)) i []) × (length r ≡ 32) ⌝ }
 {
     match l {
         Listing::Jacks => {
@@ -130,11 +126,19 @@ fn item(parts: Parts, l: Listing, i: usize) -> [u8; 32]
     }
 }
 
-// `count` items from `start` on, written behind the status; returns where they end.
-pub fn write_items(parts: Parts, l: Listing, start: usize, count: usize, out: &mut [u8]) -> usize
-    requires { ⌜ FitParts parts × (start + count ≤ length (itemsOf l parts)) × (length (now out) ≡ 132) ⌝ }
-    ensures { λ r. ⌜ (now (out .exit) ≡ sets (now (out .entry)) 4 (joined (take count (drop start (itemsOf l parts)))))
-        × (r ≡ 4 + length (joined (take count (drop start (itemsOf l parts))))) × (r ≤ 132) ⌝ }
+// `count` items from `start` on, written to a reply behind its status; returns where they end.
+pub fn write_items(
+    m: &mut [u8],
+    reply: Ranges,
+    parts: Parts,
+    l: Listing,
+    start: usize,
+    count: usize,
+) -> usize
+    requires { ⌜ FitParts parts × (start + count ≤ length (itemsOf l (partsOf parts))) ⌝ }
+    ensures { λ r. ⌜ (now (m .exit)
+        ≡ putAt (now (m .entry)) (drop 4 (places (rangesOf reply))) (joined (take count (drop start (itemsOf l (partsOf parts))))))
+        × (r ≡ 4 + length (joined (take count (drop start (itemsOf l (partsOf parts)))))) × (r ≤ 132) ⌝ }
 {
     let size = item_size(l) as usize;
     let mut at: usize = 4;
@@ -142,7 +146,7 @@ pub fn write_items(parts: Parts, l: Listing, start: usize, count: usize, out: &m
     let mut left = count;
     while 0 < left {
         let bytes = item(parts, l, i);
-        copy(out, at, &bytes, size);
+        ranges::scatter(m, reply, at, &bytes, 0, size);
         at += size;
         i += 1;
         left -= 1;

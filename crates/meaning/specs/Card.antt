@@ -11,7 +11,9 @@ use Rattle.card.specs.Card.{noCounters}
 use Rattle.card.specs.declared.Card.{Card}
 use Rattle.card.specs.declared.Counters.{Counters}
 use Rattle.card.specs.declared.Message.{Message}
+use Rattle.card.specs.declared.Parts.{Parts}
 use Rattle.rules.specs.Calls.{Request, Step, step, toldAll, nothingRung}
+use Rattle.rules.specs.Control as control
 use Rattle.rules.specs.Counters.{countersOf}
 use Rattle.rules.specs.Device as rules
 
@@ -28,6 +30,15 @@ queueOf c m = record { taken = c .taken; completed = c .completed; work = messag
 -- the counters of a queue
 abbrev pub countersAt : Card → ℕ → Counters
 countersAt c q = getD (c .queues) q noCounters
+
+-- the parts: the first so many of each array
+abbrev pub partsOf : Parts → control.Parts
+partsOf p =
+    record {
+      jacks = take (p .«jack_count») (p .jacks);
+      maps = take (p .«map_count») (p .maps);
+      streams = take (p .«stream_count») (p .streams);
+    }
 
 -- all but the stream queues
 unfoldable pub restOf : Card → rules.Rest

@@ -1,2 +1,2 @@
--- Laws of replies, jacks and information.
+-- Laws of the steps.
 pub mod Laws

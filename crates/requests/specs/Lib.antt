@@ -1,2 +1,2 @@
--- What a control request comes to.
+-- The steps of reading a control request.
 pub mod Requests

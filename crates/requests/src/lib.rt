@@ -1,37 +1,23 @@
-// What a control request comes to (01, "Control messages"), and the requests of jacks and for
-// information.
+// Control requests of jacks and for information (01, "Control messages"), step by step: each step answers an
+// enum, and where it refuses, the message is completed with the step's status.
 ghost use mathlib.Core.Path.{_≡_};
-ghost use Prim.Native.Nat.{_<_};
-ghost use lib.Dec.{ltb};
-ghost use lib.ListN.{length};
-ghost use lib.Seq.{sets};
-ghost use Rattle.card.specs.Fit.{Fit, FitParts};
-ghost use Rattle.information.specs.Information.{itemSize, itemsOf};
-ghost use Rattle.meaning.specs.Card.{restOf};
-ghost use Rattle.rules.specs.Control.{information as informationOf, remap as remapOf, status};
-ghost use Rattle.requests.specs.Requests.{Serves, repliedOf, checked, foundOf, listable, withJackAt};
-use card::Card;
+ghost use mathlib.Core.List.{_++_};
+ghost use Prim.Native.Nat.{_+_, _≤_, _<_};
+ghost use lib.Dec.{eqb, ltb};
+ghost use lib.ListN.{length, take, drop};
+ghost use Rattle.card.specs.Fit.{FitParts};
+ghost use Rattle.meaning.specs.Card.{partsOf};
+ghost use Rattle.reply.specs.Reply.{Serves, outcome, completedWith};
+ghost use Rattle.rules.specs.Control.{information as informationOf, remap as remapOf, remapAt, remappable, fourBits};
+ghost use Rattle.rules.specs.Control.{itemsOf, itemSize, joined, listed, roomy, status};
+ghost use Rattle.rules.specs.Numbers.{sOk};
+ghost use Rattle.requests.specs.Requests.{checked, foundOf};
 use card::Jack;
 use card::Parts;
-use information::Listing;
-
-// Statuses that refuse a request.
-pub const BAD_MSG: u32 = 32769;
-
-pub const NOT_SUPP: u32 = 32770;
-
-// What a request comes to: a reply, or the release of a stream, whose queue comes first.
-pub enum Kind {
-    Reply,
-    Release(u32),
-}
-
-// The card after a request; the reply is the first `len` bytes of the buffer, 0 at a Release.
-pub struct Served {
-    pub kind: Kind,
-    pub card: Card,
-    pub len: usize,
-}
+use reply::Kind;
+use reply::Pending;
+use reply::Served;
+use rules::Listing;
 
 // Whether a request passes a step of its reading.
 pub enum Check {
@@ -45,19 +31,6 @@ pub enum Found {
     Absent,
 }
 
-// A reply of four bytes; the rest of the buffer stays.
-pub fn reply(card: Card, code: u32, out: &mut [u8]) -> Served
-    requires { ⌜ length (now out) ≡ 132 ⌝ }
-    ensures { λ r. ⌜ (r ≡ repliedOf card) × (now (out .exit) ≡ sets (now (out .entry)) 0 (status code)) ⌝ }
-{
-    memory::set32(out, 0, code);
-    Served {
-        kind: Kind::Reply,
-        card: card,
-        len: 4,
-    }
-}
-
 // The number of a jack or a stream of which there are `count`.
 pub fn find(id: u32, count: usize) -> Found
     ensures { λ r. ⌜ r ≡ foundOf (ltb id count) id ⌝ }
@@ -68,86 +41,148 @@ pub fn find(id: u32, count: usize) -> Found
     Found::Absent
 }
 
-// The card with another jack at `i`.
-fn with_jack(card: Card, i: usize, jack: Jack) -> Card
-    requires { ⌜ i < 4 ⌝ }
-    ensures { λ r. ⌜ r ≡ withJackAt i jack card ⌝ }
+// JACK_REMAP: the jack has the feature.
+fn is_remappable(jack: Jack) -> Check
+    ensures { λ r. ⌜ r ≡ checked (remappable jack) ⌝ }
 {
-    let mut parts = card.parts;
-    parts.jacks[i] = jack;
-    let mut next = card;
-    next.parts = parts;
-    next
+    let info = jack.info;
+    if info.features == 1 {
+        return Check::Passed;
+    }
+    Check::Failed
 }
 
-// JACK_REMAP: association and sequence replace bits 7:4 and 3:0 of the configuration default.
-pub fn remap(card: Card, request: &[u8], out: &mut [u8]) -> Served
-    requires { ⌜ Fit card × (length (now out) ≡ 132) ⌝ }
-    ensures { λ r. ⌜ Serves card (remapOf (restOf card) (now (request .entry))) r (now (out .entry)) (now (out .exit)) ⌝ }
+// JACK_REMAP: an association or a sequence is at most 15.
+fn has_four_bits(v: u32) -> Check
+    ensures { λ r. ⌜ r ≡ checked (fourBits v) ⌝ }
 {
-    let parts = card.parts;
-    let Found::There(i) = find(memory::number32(request, 4), parts.jack_count) else {
-        return reply(card, BAD_MSG, out);
-    };
+    if v <= 15 {
+        return Check::Passed;
+    }
+    Check::Failed
+}
+
+// JACK_REMAP of a jack that can be remapped: association and sequence replace bits 7:4 and 3:0 of the
+// configuration default.
+fn remap_jack(
+    m: &mut [u8],
+    parts: Parts,
+    pending: Pending,
+    i: usize,
+    association: u32,
+    sequence: u32,
+) -> Served
+    requires { ⌜ FitParts parts × (i < parts .«jack_count») ⌝ }
+    ensures { λ r. ⌜ Serves pending parts (remapAt (partsOf parts) i association sequence) r (now (m .entry)) (now (m .exit)) ⌝ }
+{
     let jack = parts.jacks[i];
+    let Check::Passed = has_four_bits(association) else {
+        return reply::answer(m, parts, pending, rules::BAD_MSG);
+    };
+    let Check::Passed = has_four_bits(sequence) else {
+        return reply::answer(m, parts, pending, rules::BAD_MSG);
+    };
     let info = jack.info;
-    if info.features != 1 {
-        return reply(card, NOT_SUPP, out);
-    }
-    let association = memory::number32(request, 8);
-    let sequence = memory::number32(request, 12);
-    if 15 < association {
-        return reply(card, BAD_MSG, out);
-    }
-    if 15 < sequence {
-        return reply(card, BAD_MSG, out);
-    }
     let remapped = Jack {
         info: info,
         defconf: jack.defconf / 256 * 256 + association * 16 + sequence,
         connected: jack.connected,
     };
-    reply(with_jack(card, i, remapped), message::OK, out)
+    reply::answer(m, parts.with_jack(i, remapped), pending, rules::OK)
 }
 
-// Whether a request for information names items that are there, of their size, and has room for them.
-fn is_listable(parts: Parts, l: Listing, start: u32, count: u32, size: u32, room: u32) -> Check
+// JACK_REMAP.
+pub fn remap(m: &mut [u8], parts: Parts, pending: Pending, request: &[u8]) -> Served
     requires { ⌜ FitParts parts ⌝ }
-    ensures { λ r. ⌜ r ≡ checked (listable parts l start count size room) ⌝ }
+    ensures { λ r. ⌜ Serves pending parts (remapOf (partsOf parts) (now (request .entry))) r (now (m .entry)) (now (m .exit)) ⌝ }
 {
-    let item = information::item_size(l);
-    if size != item {
-        return Check::Failed;
-    }
-    let total = information::total(parts, l) as u64;
-    if total < start as u64 + count as u64 {
-        return Check::Failed;
-    }
-    if room < 4 + count * item {
-        return Check::Failed;
-    }
-    Check::Passed
+    let Found::There(i) = find(memory::number32(request, 4), parts.jack_count) else {
+        return reply::answer(m, parts, pending, rules::BAD_MSG);
+    };
+    let jack = parts.jacks[i];
+    let Check::Passed = is_remappable(jack) else {
+        return reply::answer(m, parts, pending, rules::NOT_SUPP);
+    };
+    let association = memory::number32(request, 8);
+    let sequence = memory::number32(request, 12);
+    remap_jack(m, parts, pending, i, association, sequence)
 }
 
-// JACK_INFO, PCM_INFO, CHMAP_INFO.
-pub fn inform(card: Card, l: Listing, request: &[u8], room: u32, out: &mut [u8]) -> Served
-    requires { ⌜ Fit card × (length (now out) ≡ 132) ⌝ }
-    ensures { λ r. ⌜ Serves card
-        (informationOf (restOf card) (itemSize l) (itemsOf l (card .parts)) (now (request .entry)) room)
-        r (now (out .entry)) (now (out .exit)) ⌝ }
+// Information: the size is that of an item.
+fn has_item_size(l: Listing, size: u32) -> Check
+    ensures { λ r. ⌜ r ≡ checked (eqb size (itemSize l)) ⌝ }
 {
-    let parts = card.parts;
+    if size == information::item_size(l) {
+        return Check::Passed;
+    }
+    Check::Failed
+}
+
+// Information: the items asked for are there.
+fn is_listed(parts: Parts, l: Listing, start: u32, count: u32) -> Check
+    requires { ⌜ FitParts parts ⌝ }
+    ensures { λ r. ⌜ r ≡ checked (listed l (partsOf parts) start count) ⌝ }
+{
+    let total = information::total(parts, l) as u64;
+    if start as u64 + count as u64 <= total {
+        return Check::Passed;
+    }
+    Check::Failed
+}
+
+// Information: the reply has room for the items.
+fn is_roomy(count: u32, size: u32, room: u32) -> Check
+    ensures { λ r. ⌜ r ≡ checked (roomy count size room) ⌝ }
+{
+    let bytes = count as u64 * size as u64;
+    if room < 4 {
+        return Check::Failed;
+    }
+    if bytes <= room as u64 - 4 {
+        return Check::Passed;
+    }
+    Check::Failed
+}
+
+// The items of a request that passed every step, behind the status.
+fn list(m: &mut [u8], parts: Parts, pending: Pending, l: Listing, start: u32, count: u32) -> Served
+    requires { ⌜ FitParts parts × (start + count ≤ length (itemsOf l (partsOf parts))) ⌝ }
+    ensures { λ r. ⌜ outcome (now (m .exit)) r
+        ≡ completedWith pending parts (status sOk ++ joined (take count (drop start (itemsOf l (partsOf parts))))) (now (m .entry)) ⌝ }
+{
+    let reply = pending.reply;
+    reply::write_status(m, reply, rules::OK);
+    let len = information::write_items(m, reply, parts, l, start as usize, count as usize);
+    let posted = reply::close(m, pending, len as u32);
+    Served {
+        parts: parts,
+        kind: Kind::Completed(posted),
+    }
+}
+
+// JACK_INFO, PCM_INFO, CHMAP_INFO; `room` is the length of the reply's writable side.
+pub fn inform(
+    m: &mut [u8],
+    parts: Parts,
+    pending: Pending,
+    l: Listing,
+    request: &[u8],
+    room: u32,
+) -> Served
+    requires { ⌜ FitParts parts ⌝ }
+    ensures { λ r. ⌜ Serves pending parts (informationOf (partsOf parts) l (now (request .entry)) room) r (now (m .entry)) (now (m .exit)) ⌝ }
+{
     let start = memory::number32(request, 4);
     let count = memory::number32(request, 8);
     let size = memory::number32(request, 12);
-    let Check::Passed = is_listable(parts, l, start, count, size, room) else {
-        return reply(card, BAD_MSG, out);
+    let Check::Passed = has_item_size(l, size) else {
+        return reply::answer(m, parts, pending, rules::BAD_MSG);
     };
-    memory::set32(out, 0, message::OK);
-    let len = information::write_items(parts, l, start as usize, count as usize, out);
-    Served {
-        kind: Kind::Reply,
-        card: card,
-        len: len,
-    }
+    let Check::Passed = is_listed(parts, l, start, count) else {
+        return reply::answer(m, parts, pending, rules::BAD_MSG);
+    };
+    let Check::Passed = is_roomy(count, size, room) else {
+        return reply::answer(m, parts, pending, rules::BAD_MSG);
+    };
+    list(m, parts, pending, l, start, count)
 }

@@ -1,90 +1,20 @@
--- 01, Numbers on each side: the cases marked P, all of them, as one table over the definitions (`Table`) and one proved
--- statement (`table`).
-use mathlib.Core.Path.{_≡_, refl}
-use mathlib.Core.List.{List, [], _∷_, _++_}
-use mathlib.Core.Bool.{Bool, cond}
+-- 01's P cases are proved as one statement: the rules compute, once the tests that the hypotheses decide are in place.
+use mathlib.Core.Path.{refl}
+use mathlib.Core.List.{_∷_}
+use mathlib.Core.Bool.{cond}
 use mathlib.Core.Option.{Option, none, some}
-use Prim.Native.Nat.{ℕ, _+_, _≤_, _<_}
+use Prim.Native.Nat.{ℕ, _+_}
 use native.Mathlib.Omega.{arith}
 use borrow.Author.Tests.{ne-eqb, le-ltb, lt-ltb, le-leb}
 use lib.ListN.{length}
-use Rattle.counts.specs.declared.PageNumber.{PageNumber}
 use Rattle.memory.specs.Bytes.{le}
 use Rattle.registers.specs.Map.{registerAt, configAt, sizeOf}
-use Rattle.registers.specs.Rules.{readOf, writeOf, powerOn, wroteFeatures, wroteStatus, storedStatus, valueRead}
-use Rattle.registers.specs.declared.Config.{Config}
-use Rattle.registers.specs.declared.Registers.{Registers}
-use Rattle.ring.specs.Layout.{endAt}
-use Rattle.ring.specs.Rules.{baseOf, newOf, entriesOf, indexOf, foundOf}
-use Rattle.ring.specs.declared.Cause.{Cause}
-use Rattle.ring.specs.declared.Check.{Check}
-use Rattle.card.specs.declared.Jack.{Jack}
-use Rattle.card.specs.declared.Stream.{Stream}
-use Rattle.rules.specs.Control.{Reply, served, information, remap, status, pcmItem, withDefconf}
-use Rattle.rules.specs.Counters.{isNone, countersOf}
-use Rattle.rules.specs.Device.{output, Message, Rest, withJacks, bytesOf}
-use Rattle.rules.specs.Numbers.{jackRemap, pcmInfo, playQueue, sOk, sBadMsg}
-use Rattle.rules.specs.Transfer.{found}
-
--- ---- what the cases are asked of
-
--- the play queue is based at this page, all of it inside memory, and its available index reads so
-pub record Shows (m : List ℕ) (page : PageNumber) (index : ℕ) : Type 0 where
-  pub based : 0 < page .0
-  pub inside : baseOf page + endAt (sizeOf playQueue) ≤ length m
-  pub reads : indexOf m page (sizeOf playQueue) ≡ index
-
--- what the play queue's check finds with 10 taken, at this available index and with this in work: in every memory and at every
--- page that shows it
-abbrev pub finds : ℕ → Option Message → Check → Type 0
-finds index work check =
-    (m : List ℕ) (page : PageNumber) (negotiated : Bool) (completed : ℕ) → Shows m page index
-    → found (countersOf output) (record { direction = output; page = page; negotiated = negotiated }) (record { taken = 10; completed = completed; work = work }) m ≡ check
-
--- the registers after power-up, a write of GUEST_FEATURES (offset 4) and one of 0x0B to STATUS (offset 18)
-abbrev pub negotiated : ℕ → Registers
-negotiated features = writeOf (writeOf powerOn 4 4 features .registers) 18 1 11 .registers
-
--- an information request: code, start_id, count, size
-abbrev pub asks : ℕ → ℕ → ℕ → List ℕ
-asks start count size = bytesOf 4 pcmInfo ++ bytesOf 4 start ++ bytesOf 4 count ++ bytesOf 4 size
-
--- a remap request: code, jack_id, association, sequence
-abbrev pub remaps : ℕ → ℕ → ℕ → List ℕ
-remaps id association sequence = bytesOf 4 jackRemap ++ bytesOf 4 id ++ bytesOf 4 association ++ bytesOf 4 sequence
-
--- ---- the table
-
-pub record Table : Type 0 where
-  -- "Taken 65,535, index 0: 1 new." "Taken 65,530, index 4: 10 new."
-  pub one-new : newOf 0 65535 ≡ 1
-  pub ten-new : newOf 4 65530 ≡ 10
-  -- "Play, taken 10, none in work: index 266 works, 267 breaks; one in work: 265 works, 266 breaks."
-  pub none-works : finds 266 none (Check.New 256)
-  pub none-breaks : finds 267 none (Check.Broken Cause.Entries)
-  pub one-works : (w : Message) → finds 265 (some w) (Check.New 255)
-  pub one-breaks : (w : Message) → finds 266 (some w) (Check.Broken Cause.Entries)
-  -- "Features 0x10000001, STATUS 0x0B reads 0x03; with 0x10000000 it reads 0x0B."
-  pub refused-features : (c : Config) → readOf (negotiated 268435457) c 18 1 ≡ valueRead (negotiated 268435457) 3
-  pub agreed-features : (c : Config) → readOf (negotiated 268435456) c 18 1 ≡ valueRead (negotiated 268435456) 11
-  -- "PCM_INFO on one stream: (0, 1, 32) length 36": the status and the one item
-  pub one-item :
-      (r : Rest) (s : Stream) (room : ℕ) → r .streams ≡ s ∷ [] → 36 ≤ room
-      → (served r (asks 0 1 32) room ≡ Reply r (status sOk ++ pcmItem 0 s)) × (length (status sOk ++ pcmItem 0 s) ≡ 36)
-  -- "(1, 0, 32) length 4, OK"
-  pub no-item :
-      (r : Rest) (s : Stream) (room : ℕ) → r .streams ≡ s ∷ [] → 4 ≤ room
-      → (served r (asks 1 0 32) room ≡ Reply r (status sOk)) × (length (status sOk) ≡ 4)
-  -- "(0xFFFFFFFF, 1, 32) BAD_MSG"
-  pub no-wrap : (r : Rest) (s : Stream) (room : ℕ) → r .streams ≡ s ∷ [] → served r (asks 4294967295 1 32) room ≡ Reply r (status sBadMsg)
-  -- "reply room 35 for one item: BAD_MSG"
-  pub no-room : (r : Rest) (s : Stream) → r .streams ≡ s ∷ [] → served r (asks 0 1 32) 35 ≡ Reply r (status sBadMsg)
-  -- "Defconf 0x0121401F, association 2, sequence 5: 0x01214025."
-  pub remapped :
-      (r : Rest) (j : Jack) (js : List Jack) (room : ℕ) → r .jacks ≡ j ∷ js → j .info .features ≡ 1 → j .defconf ≡ 18956319
-      → served r (remaps 0 2 5) room ≡ Reply (withJacks (withDefconf 18956325 j ∷ js) r) (status sOk)
-
--- ---- its proof: the rules compute, once the tests that the hypotheses decide are in place
+use Rattle.registers.specs.Rules.{readOf, writeOf, wroteFeatures, wroteStatus, storedStatus}
+use Rattle.ring.specs.Rules.{baseOf, newOf, entriesOf, foundOf}
+use Rattle.rules.specs.Control.{served, decodedOf, information, remap}
+use Rattle.rules.specs.Counters.{isNone}
+use Rattle.rules.specs.Device.{Message, bytesOf}
+use Rattle.rules.specs.Table.{Table, finds}
 
 -- with its region inside memory, the number of entries decides what is found
 pub entries-decide : (index : ℕ) (work : Option Message) → finds index work (entriesOf 256 (newOf index 10) (cond (isNone work) 0 1))
@@ -93,7 +23,7 @@ entries-decide index work m page negotiated completed s =
     rw (s .reads, ne-eqb (page .0) 0 (λ e. omega arith), le-ltb (length m) (baseOf page + 6664) (omega arith))
 
 pub table : Table
-unfolding readOf writeOf registerAt configAt wroteFeatures wroteStatus storedStatus served information remap bytesOf le
+unfolding readOf writeOf registerAt configAt wroteFeatures wroteStatus storedStatus served decodedOf information remap bytesOf le
 table =
     record {
       one-new = refl;

@@ -29,7 +29,7 @@ use Rattle.card.specs.Card.{noCounters, runningState, releasedState}
 use Rattle.card.specs.Rules.{jackReset, streamReset, rungOf}
 use Rattle.card.specs.declared.Jack.{Jack}
 use Rattle.rules.specs.Answers.{brokenAnswer, byStop, answerBy, brokenBy}
-use Rattle.rules.specs.Control.{Served, Reply, Release, served, status, noJack, withState, withStream}
+use Rattle.rules.specs.Control.{Served, Reply, Release, served, partsIn, withParts, status, noJack, withState, withStream}
 use Rattle.rules.specs.Device.{Direction, output, input, streamNumber, queueNumber, directionOf, Virtqueue, Rest, Device, queueFor, withQueue, withRegisters, withJacks, withControl, withEvent, pageOf, streamAt, signalledIf, oneTaken, oneCompleted, bytesOf}
 use Rattle.rules.specs.Numbers.{controlQueue, eventQueue, jackConnected, jackDisconnected, pcmXrun, sOk, sBadMsg}
 use Rattle.rules.specs.Transfer.{Ops, Run, begun, transferRun, releaseRun, found}
@@ -166,7 +166,7 @@ abbrev pub withRest : Rest → Pending → Pending
 withRest r p = record { rest = r; head = p .head; reply = p .reply }
 
 abbrev pub acted : Served → Pending → List ℕ → Order
-acted (Reply r bytes) p m = Done (replied (withRest r p) bytes m)
+acted (Reply parts bytes) p m = Done (replied (withRest (withParts parts (p .rest)) p) bytes m)
 acted (Release id) p m = ReleaseFirst id p
 
 -- "Walk fault, writable range outside RAM, or reply under 4 bytes: length 0, nothing written. Then readable outside RAM or
@@ -177,7 +177,7 @@ readMessage r m head (whole request reply) =
     let p : Pending = record { rest = r; head = head; reply = reply } in
     cond (allInside (length m) reply && leb 4 (total reply))
     (cond (allInside (length m) request && leb 4 (total request))
-    (acted (served r (bytesAt m (places request)) (total reply)) p m)
+    (acted (served (partsIn r) (bytesAt m (places request)) (total reply)) p m)
     (Done (replied p (status sBadMsg) m)))
     (Done (replied p [] m))
 

@@ -1,6 +1,6 @@
--- 01, Control messages: what a request asks and is answered. RELEASE, whose stream's queue comes first, is told apart; all
--- else is decided by the rest of the card and the request.
-use mathlib.Core.Bool.{Bool, false, cond, _&&_, _||_, not}
+-- 01, Control messages: what a request asks and is answered. The described parts and the request decide it alone; RELEASE,
+-- whose stream's queue comes first, is told apart.
+use mathlib.Core.Bool.{Bool, cond, _&&_, _||_, not}
 use mathlib.Core.List.{List, [], _∷_, _++_, map}
 use Prim.Native.Nat.{ℕ, suc, _+_, _*_, _/_, _%_, _^_}
 use lib.Dec.{eqb, leb, ltb}
@@ -8,16 +8,49 @@ use lib.ListN.{length, getD, set, take, drop, replicate}
 use Rattle.description.specs.declared.MapInfo.{MapInfo}
 use Rattle.description.specs.declared.StreamInfo.{StreamInfo}
 use Rattle.memory.specs.Bytes.{le}
-use Rattle.card.specs.Card.{jackAtPower, noJackInfo, freshState, setState, preparedState, runningState, stoppedState, releasedState}
+use Rattle.card.specs.Card.{jackAtPower, noJackInfo, noStream, freshState, setState, preparedState, runningState, stoppedState}
+use Rattle.card.specs.Card.{releasedState}
 use Rattle.card.specs.declared.Jack.{Jack}
 use Rattle.card.specs.declared.Params.{Params}
 use Rattle.card.specs.declared.Stream.{Stream}
-use Rattle.rules.specs.Device.{Rest, withJacks, withStreams, streamAt, bytesOf}
-use Rattle.rules.specs.Numbers.{jackInfo, jackRemap, pcmInfo, pcmSetParams, pcmPrepare, pcmRelease, pcmStart, pcmStop, chmapInfo, sOk, sBadMsg, sNotSupp}
+use Rattle.rules.specs.Device.{Rest, withStreams, bytesOf}
+use Rattle.rules.specs.Numbers.{jackInfo, jackRemap, pcmInfo, pcmSetParams, pcmPrepare, pcmRelease, pcmStart, pcmStop, chmapInfo, sOk}
+use Rattle.rules.specs.Numbers.{sBadMsg, sNotSupp}
+use Rattle.rules.specs.declared.Asked.{Asked}
+use Rattle.rules.specs.declared.Asked.the-variants.{Information, Remap, Pcm}
+use Rattle.rules.specs.declared.Command.{Command}
+use Rattle.rules.specs.declared.Command.the-variants as command
+use Rattle.rules.specs.declared.Decoded.{Decoded}
+use Rattle.rules.specs.declared.Decoded.the-variants.{Known, Unknown}
+use Rattle.rules.specs.declared.Listing.{Listing}
+use Rattle.rules.specs.declared.Listing.the-variants.{Jacks, Streams, Maps}
 
--- what a request comes to: the rest of the card after it and the reply's bytes; or the release of a stream
+-- ---- what a request comes to
+
+-- the described parts, as they are now
+pub record Parts : Type 0 where
+  pub jacks : List Jack
+  pub maps : List MapInfo
+  pub streams : List Stream
+
+abbrev pub partsIn : Rest → Parts
+partsIn r = record { jacks = r .jacks; maps = r .maps; streams = r .streams }
+
+abbrev pub withParts : Parts → Rest → Rest
+withParts p r =
+    record {
+      ram = r .ram;
+      registers = r .registers;
+      jacks = p .jacks;
+      maps = p .maps;
+      streams = p .streams;
+      control = r .control;
+      event = r .event;
+    }
+
+-- the parts after it and the reply's bytes; or the release of a stream
 pub data Served : Type 0 where
-  Reply : Rest → List ℕ → Served
+  Reply : Parts → List ℕ → Served
   Release : ℕ → Served
 
 -- the number in the request's bytes 4i to 4i + 3
@@ -28,12 +61,12 @@ word request i = le 4 request (4 * i)
 abbrev pub status : ℕ → List ℕ
 status code = bytesOf 4 code
 
-abbrev pub refusal : Rest → ℕ → Served
-refusal r code = Reply r (status code)
+abbrev pub refusal : Parts → ℕ → Served
+refusal p code = Reply p (status code)
 
--- "A request shorter than its layout: BAD_MSG; extra bytes are ignored."
-abbrev pub laidOut : Rest → ℕ → List ℕ → Served → Served
-laidOut r size request s = cond (leb size (length request)) s (refusal r sBadMsg)
+-- "The first fault found ends the reading of that message.": past a check, or refused with its status
+abbrev pub passing : Parts → Bool → ℕ → Served → Served
+passing p ok code go = cond ok go (refusal p code)
 
 -- ---- JACK_INFO, PCM_INFO, CHMAP_INFO: "header, start_id, count, size"
 
@@ -57,56 +90,95 @@ pcmItems number (s ∷ ss) = pcmItem number s ∷ pcmItems (suc number) ss
 abbrev pub mapItem : MapInfo → List ℕ
 mapItem m = bytesOf 4 (m .nid) ++ (m .direction ∷ m .channels ∷ []) ++ m .positions
 
+abbrev pub itemsOf : Listing → Parts → List (List ℕ)
+itemsOf Jacks p = map jackItem (p .jacks)
+itemsOf Streams p = pcmItems 0 (p .streams)
+itemsOf Maps p = map mapItem (p .maps)
+
 abbrev pub joined : List (List ℕ) → List ℕ
 joined [] = []
 joined (x ∷ xs) = x ++ joined xs
 
--- "Size must equal 24, 32, 24; start_id + count (no wrap) at most the total; reply room at least 4 + count·size; else BAD_MSG."
-unfoldable pub information : Rest → ℕ → List (List ℕ) → List ℕ → ℕ → Served
-information r size items request room =
-    cond (eqb (word request 3) size && leb (word request 1 + word request 2) (length items) && leb (4 + word request 2 * size) room)
-    (Reply r (status sOk ++ joined (take (word request 2) (drop (word request 1) items))))
-    (refusal r sBadMsg)
+-- "Size must equal 24, 32, 24"
+abbrev pub itemSize : Listing → ℕ
+itemSize Jacks = 24
+itemSize Streams = 32
+itemSize Maps = 24
+
+-- "start_id + count (no wrap) at most the total"
+abbrev pub listed : Listing → Parts → ℕ → ℕ → Bool
+listed l p start count = leb (start + count) (length (itemsOf l p))
+
+-- "reply room at least 4 + count·size"
+abbrev pub roomy : ℕ → ℕ → ℕ → Bool
+roomy count size room = leb (4 + count * size) room
+
+-- "Size ..; start_id + count ..; reply room ..; else BAD_MSG."
+unfoldable pub information : Parts → Listing → List ℕ → ℕ → Served
+information p l request room =
+    let start = word request 1 in
+    let count = word request 2 in
+    let size = word request 3 in
+    passing p (eqb size (itemSize l)) sBadMsg
+    (passing p (listed l p start count) sBadMsg
+    (passing p (roomy count size room) sBadMsg
+    (Reply p (status sOk ++ joined (take count (drop start (itemsOf l p)))))))
 
 -- ---- JACK_REMAP: header, jack_id, association, sequence
 
 abbrev pub noJack : Jack
 noJack = jackAtPower noJackInfo
 
--- "Else they replace defconf bits 7:4 and 3:0"
+abbrev pub jackIn : Parts → ℕ → Jack
+jackIn p i = getD (p .jacks) i noJack
+
+abbrev pub withJack : ℕ → Jack → Parts → Parts
+withJack i j p = record { jacks = set (p .jacks) i j; maps = p .maps; streams = p .streams }
+
+-- "No remap feature"
+abbrev pub remappable : Jack → Bool
+remappable j = eqb (j .info .features) 1
+
+abbrev pub fourBits : ℕ → Bool
+fourBits v = leb v 15
+
 abbrev pub remappedTo : ℕ → ℕ → ℕ → ℕ
 remappedTo defconf association sequence = defconf / 256 * 256 + association * 16 + sequence
 
 abbrev pub withDefconf : ℕ → Jack → Jack
 withDefconf v j = record { info = j .info; defconf = v; connected = j .connected }
 
--- "jack absent: BAD_MSG. No remap feature: NOT_SUPP. Association or sequence above 15: BAD_MSG."
-unfoldable pub remap : Rest → List ℕ → Served
-remap r request =
+-- the remap of a jack that has the feature: "Association or sequence above 15: BAD_MSG. Else they replace defconf bits 7:4 and 3:0"
+abbrev pub remapAt : Parts → ℕ → ℕ → ℕ → Served
+remapAt p id association sequence =
+    let j : Jack = jackIn p id in
+    passing p (fourBits association) sBadMsg
+    (passing p (fourBits sequence) sBadMsg
+    (Reply (withJack id (withDefconf (remappedTo (j .defconf) association sequence) j) p) (status sOk)))
+
+-- "jack absent: BAD_MSG. No remap feature: NOT_SUPP."
+unfoldable pub remap : Parts → List ℕ → Served
+remap p request =
     let id = word request 1 in
-    let association = word request 2 in
-    let sequence = word request 3 in
-    let j : Jack = getD (r .jacks) id noJack in
-    cond (ltb id (length (r .jacks)))
-    (cond (eqb (j .info .features) 1)
-    (cond (leb association 15 && leb sequence 15)
-    (Reply (withJacks (set (r .jacks) id (withDefconf (remappedTo (j .defconf) association sequence) j)) r) (status sOk))
-    (refusal r sBadMsg))
-    (refusal r sNotSupp))
-    (refusal r sBadMsg)
+    passing p (ltb id (length (p .jacks))) sBadMsg
+    (passing p (remappable (jackIn p id)) sNotSupp (remapAt p id (word request 2) (word request 3)))
 
 -- ---- PCM commands: header, stream_id
 
+abbrev pub streamIn : Parts → ℕ → Stream
+streamIn p i = getD (p .streams) i noStream
+
+abbrev pub withStreamIn : ℕ → Stream → Parts → Parts
+withStreamIn i s p = record { jacks = p .jacks; maps = p .maps; streams = set (p .streams) i s }
+
 -- "Lawful: SET_PARAMS from Fresh, Set, Prepared, Released; PREPARE from Set, Prepared, Released; START from Prepared, Stopped;
 -- STOP from Running; RELEASE from Prepared, Stopped."
-abbrev pub lawfulFrom : ℕ → ℕ → Bool
-lawfulFrom command state =
-    cond (eqb command pcmSetParams)
-    (eqb state freshState || eqb state setState || eqb state preparedState || eqb state releasedState)
-    (cond (eqb command pcmPrepare) (eqb state setState || eqb state preparedState || eqb state releasedState)
-    (cond (eqb command pcmStart) (eqb state preparedState || eqb state stoppedState)
-    (cond (eqb command pcmStop) (eqb state runningState)
-    (cond (eqb command pcmRelease) (eqb state preparedState || eqb state stoppedState) false))))
+abbrev pub lawfulFrom : Command → ℕ → Bool
+lawfulFrom command.SetParams state = eqb state freshState || eqb state setState || eqb state preparedState || eqb state releasedState
+lawfulFrom command.Prepare state = eqb state setState || eqb state preparedState || eqb state releasedState
+lawfulFrom command.Start state = eqb state preparedState || eqb state stoppedState
+lawfulFrom command.Stop state = eqb state runningState
+lawfulFrom command.Release state = eqb state preparedState || eqb state stoppedState
 
 abbrev pub withState : ℕ → Stream → Stream
 withState v s = record { info = s .info; state = v; params = s .params }
@@ -118,8 +190,10 @@ withParams p s = record { info = s .info; state = setState; params = p }
 abbrev pub withStream : Rest → ℕ → Stream → Rest
 withStream r id s = withStreams (set (r .streams) id s) r
 
-abbrev pub moves : Rest → ℕ → ℕ → Served
-moves r id state = Reply (withStream r id (withState state (streamAt r id))) (status sOk)
+abbrev pub moves : Parts → ℕ → ℕ → Served
+moves p id state = Reply (withStreamIn id (withState state (streamIn p id)) p) (status sOk)
+
+-- ---- SET_PARAMS
 
 -- struct virtio_snd_pcm_set_params: stream_id, buffer_bytes, period_bytes, features, channels, format, rate, padding
 abbrev pub paramsOf : List ℕ → Params
@@ -137,44 +211,114 @@ paramsOf request =
 abbrev pub offers : ℕ → ℕ → Bool
 offers mask i = eqb (mask / 2 ^ i % 2) 1
 
--- "padding not 0, buffer or period 0, buffer not a multiple of period: BAD_MSG; buffer above 262,144, features, channels,
--- format, rate not offered: NOT_SUPP"; the status of SET_PARAMS
+-- "padding not 0"
+abbrev pub unpadded : ℕ → Bool
+unpadded padding = eqb padding 0
+
+-- "buffer or period 0"
+abbrev pub sized : Params → Bool
+sized p = not (eqb (p .«buffer_bytes») 0) && not (eqb (p .«period_bytes») 0)
+
+-- "buffer not a multiple of period"
+abbrev pub periodic : Params → Bool
+periodic p = eqb (p .«buffer_bytes» % p .«period_bytes») 0
+
+-- "buffer above 262,144"
+abbrev pub bufferOffered : Params → Bool
+bufferOffered p = leb (p .«buffer_bytes») 262144
+
+-- "features, channels, format, rate not offered"
+abbrev pub featuresOffered : StreamInfo → Params → Bool
+featuresOffered i p = eqb (p .features) 0 || eqb (p .features) (i .features)
+
+abbrev pub channelsOffered : StreamInfo → Params → Bool
+channelsOffered i p = leb (i .«channels_min») (p .channels) && leb (p .channels) (i .«channels_max»)
+
+abbrev pub formatOffered : StreamInfo → Params → Bool
+formatOffered i p = offers (i .formats) (p .format)
+
+abbrev pub rateOffered : StreamInfo → Params → Bool
+rateOffered i p = offers (i .rates) (p .rate)
+
+-- a check, and the status of what does not pass it
+abbrev pub need : Bool → ℕ → ℕ → ℕ
+need ok code go = cond ok go code
+
+-- ".. buffer above 262,144, features, channels, format, rate not offered: NOT_SUPP."
+abbrev pub judgedOffer : StreamInfo → Params → ℕ
+judgedOffer i p =
+    need (bufferOffered p) sNotSupp
+    (need (featuresOffered i p) sNotSupp
+    (need (channelsOffered i p) sNotSupp
+    (need (formatOffered i p) sNotSupp
+    (need (rateOffered i p) sNotSupp sOk))))
+
+-- "SET_PARAMS then checks, in order: padding not 0, buffer or period 0, buffer not a multiple of period: BAD_MSG; .."; its status
 unfoldable pub judgedParams : StreamInfo → Params → ℕ → ℕ
 judgedParams i p padding =
-    cond (not (eqb padding 0) || eqb (p .«buffer_bytes») 0 || eqb (p .«period_bytes») 0 || not (eqb (p .«buffer_bytes» % p .«period_bytes») 0))
-    sBadMsg
-    (cond
-    (leb (p .«buffer_bytes») 262144 && (eqb (p .features) 0 || eqb (p .features) (i .features)) && leb (i .«channels_min») (p .channels)
-    && leb (p .channels) (i .«channels_max») && offers (i .formats) (p .format) && offers (i .rates) (p .rate))
-    sOk
-    sNotSupp)
+    need (unpadded padding) sBadMsg (need (sized p) sBadMsg (need (periodic p) sBadMsg (judgedOffer i p)))
 
 -- "A refusal keeps state and parameters."
-unfoldable pub setParams : Rest → List ℕ → Served
-setParams r request =
-    let id = word request 1 in
-    let s : Stream = streamAt r id in
-    let code = judgedParams (s .info) (paramsOf request) (le 1 request 23) in
-    cond (eqb code sOk) (Reply (withStream r id (withParams (paramsOf request) s)) (status sOk)) (refusal r code)
+abbrev pub setBy : Parts → ℕ → Params → ℕ → Served
+setBy p id params code =
+    cond (eqb code sOk) (Reply (withStreamIn id (withParams params (streamIn p id)) p) (status sOk)) (refusal p code)
+
+unfoldable pub setParams : Parts → ℕ → List ℕ → Served
+setParams p id request = setBy p id (paramsOf request) (judgedParams (streamIn p id .info) (paramsOf request) (le 1 request 23))
+
+-- a lawful command of a stream that is there
+abbrev pub obeyed : Parts → Command → ℕ → List ℕ → Served
+obeyed p command.SetParams id request = setParams p id request
+obeyed p command.Prepare id request = moves p id preparedState
+obeyed p command.Start id request = moves p id runningState
+obeyed p command.Stop id request = moves p id stoppedState
+obeyed p command.Release id request = Release id
 
 -- "stream absent: BAD_MSG; transition not lawful: BAD_MSG"
-abbrev pub lawfully : Rest → ℕ → ℕ → Served → Served
-lawfully r command id s =
-    cond (ltb id (length (r .streams)) && lawfulFrom command (streamAt r id .state)) s (refusal r sBadMsg)
-
--- ---- a request: "Unknown code: NOT_SUPP. A request shorter than its layout: BAD_MSG"
-
-unfoldable pub served : Rest → List ℕ → ℕ → Served
-served r request room =
-    let code = word request 0 in
+unfoldable pub commanded : Parts → Command → List ℕ → Served
+commanded p c request =
     let id = word request 1 in
-    cond (eqb code jackInfo) (laidOut r 16 request (information r 24 (map jackItem (r .jacks)) request room))
-    (cond (eqb code jackRemap) (laidOut r 16 request (remap r request))
-    (cond (eqb code pcmInfo) (laidOut r 16 request (information r 32 (pcmItems 0 (r .streams)) request room))
-    (cond (eqb code pcmSetParams) (laidOut r 24 request (lawfully r code id (setParams r request)))
-    (cond (eqb code pcmPrepare) (laidOut r 8 request (lawfully r code id (moves r id preparedState)))
-    (cond (eqb code pcmRelease) (laidOut r 8 request (lawfully r code id (Release id)))
-    (cond (eqb code pcmStart) (laidOut r 8 request (lawfully r code id (moves r id runningState)))
-    (cond (eqb code pcmStop) (laidOut r 8 request (lawfully r code id (moves r id stoppedState)))
-    (cond (eqb code chmapInfo) (laidOut r 16 request (information r 24 (map mapItem (r .maps)) request room))
-    (refusal r sNotSupp)))))))))
+    passing p (ltb id (length (p .streams))) sBadMsg
+    (passing p (lawfulFrom c (streamIn p id .state)) sBadMsg (obeyed p c id request))
+
+-- ---- a request
+
+-- "Unknown code: NOT_SUPP"
+unfoldable pub decodedOf : ℕ → Decoded
+decodedOf code =
+    cond (eqb code jackInfo) (Known (Information Jacks))
+    (cond (eqb code jackRemap) (Known Remap)
+    (cond (eqb code pcmInfo) (Known (Information Streams))
+    (cond (eqb code pcmSetParams) (Known (Pcm command.SetParams))
+    (cond (eqb code pcmPrepare) (Known (Pcm command.Prepare))
+    (cond (eqb code pcmRelease) (Known (Pcm command.Release))
+    (cond (eqb code pcmStart) (Known (Pcm command.Start))
+    (cond (eqb code pcmStop) (Known (Pcm command.Stop))
+    (cond (eqb code chmapInfo) (Known (Information Maps)) Unknown))))))))
+
+-- the length of a request's layout
+abbrev pub commandLayout : Command → ℕ
+commandLayout command.SetParams = 24
+commandLayout command.Prepare = 8
+commandLayout command.Start = 8
+commandLayout command.Stop = 8
+commandLayout command.Release = 8
+
+abbrev pub layoutOf : Asked → ℕ
+layoutOf (Information l) = 16
+layoutOf Remap = 16
+layoutOf (Pcm c) = commandLayout c
+
+-- a request of its layout's length
+abbrev pub answerTo : Asked → Parts → List ℕ → ℕ → Served
+answerTo (Information l) p request room = information p l request room
+answerTo Remap p request room = remap p request
+answerTo (Pcm c) p request room = commanded p c request
+
+-- "Unknown code: NOT_SUPP. A request shorter than its layout: BAD_MSG; extra bytes are ignored."
+abbrev pub answered : Decoded → Parts → List ℕ → ℕ → Served
+answered Unknown p request room = refusal p sNotSupp
+answered (Known a) p request room = passing p (leb (layoutOf a) (length request)) sBadMsg (answerTo a p request room)
+
+unfoldable pub served : Parts → List ℕ → ℕ → Served
+served p request room = answered (decodedOf (word request 0)) p request room

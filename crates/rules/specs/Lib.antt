@@ -10,3 +10,4 @@ pub mod Calls
 pub mod Histories
 pub mod Account
 pub mod Claim
+pub mod Table

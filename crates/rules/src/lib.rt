@@ -1,5 +1,6 @@
 // Document 01 as definitions (specs/) and what is proved of them (proofs/). The code of the calls is in the crates above; here stand
-// the numbers of the texts (001, Device Operation; VIRTIO 1.2, Sound Device) for it, as specs/Numbers has them for the rules.
+// the numbers of the texts (001, Device Operation; VIRTIO 1.2, Sound Device) for it, as specs/Numbers has them for the rules, and what
+// a control request can ask, for both.
 
 ghost use mathlib.Core.Path.{_≡_};
 ghost use Rattle.rules.specs.Answers.{brokenAnswer};
@@ -54,4 +55,33 @@ pub fn broken_answer(queue: u8, cause: Cause) -> Answer
         number: number,
         queue: queue,
     }
+}
+
+// What a request for information lists.
+pub enum Listing {
+    Jacks,
+    Streams,
+    Maps,
+}
+
+// The commands of a stream, in the order of its lifecycle (000, PCM Command Lifecycle).
+pub enum Command {
+    SetParams,
+    Prepare,
+    Start,
+    Stop,
+    Release,
+}
+
+// What a request asks.
+pub enum Asked {
+    Information(Listing),
+    Remap,
+    Pcm(Command),
+}
+
+// A code of the texts, or any other.
+pub enum Decoded {
+    Known(Asked),
+    Unknown,
 }

@@ -23,7 +23,14 @@ number8-requires-3 c κs = search needs
 
 returns : tie.Need-returns
 returns c =
-    rw (c .number83 .ensures, c .before .number82 .ensures, c .before .before .number8 .ensures, c .before .before .before .number323 .ensures, c .before .before .before .before .number322 .ensures, c .before .before .before .before .before .number32 .ensures)
+    rw (
+      c .number83 .ensures,
+      c .before .number82 .ensures,
+      c .before .before .number8 .ensures,
+      c .before .before .before .number323 .ensures,
+      c .before .before .before .before .number322 .ensures,
+      c .before .before .before .before .before .number32 .ensures,
+    )
 
 pub params-in-spec : {M : Type 1} → statement M
 params-in-spec =

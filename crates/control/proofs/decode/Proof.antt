@@ -1,62 +1,59 @@
 -- Each code has its request.
-use native.Mathlib.Omega.{arith}
 use borrow.Author.Tests.{ne-eqb}
-use Rattle.control.specs.Control.{decodedOf}
+use Rattle.rules.specs.Control.{decodedOf}
 use Rattle.control.proofs.decode.Statement.{statement}
 use Rattle.control.proofs.decode.Tie as tie
 
 returns : tie.Need-returns
 unfolding decodedOf
-returns c = (rw (c .match .keys1), omega arith)
+returns c = rw (c .match .keys1)
 
 returns-2 : tie.Need-returns-2
 unfolding decodedOf
-returns-2 c = (rw (c .match .keys2), omega arith)
+returns-2 c = rw (c .match .keys2)
 
 returns-3 : tie.Need-returns-3
 unfolding decodedOf
-returns-3 c = (rw (c .match .keys3), omega arith)
+returns-3 c = rw (c .match .keys3)
 
 returns-4 : tie.Need-returns-4
 unfolding decodedOf
-returns-4 c = (rw (c .match .keys4), omega arith)
+returns-4 c = rw (c .match .keys4)
 
 returns-5 : tie.Need-returns-5
 unfolding decodedOf
-returns-5 c = (rw (c .match .keys5), omega arith)
+returns-5 c = rw (c .match .keys5)
 
 returns-6 : tie.Need-returns-6
 unfolding decodedOf
-returns-6 c = (rw (c .match .keys6), omega arith)
+returns-6 c = rw (c .match .keys6)
 
 returns-7 : tie.Need-returns-7
 unfolding decodedOf
-returns-7 c = (rw (c .match .keys7), omega arith)
+returns-7 c = rw (c .match .keys7)
 
 returns-8 : tie.Need-returns-8
 unfolding decodedOf
-returns-8 c = (rw (c .match .keys8), omega arith)
+returns-8 c = rw (c .match .keys8)
 
 returns-9 : tie.Need-returns-9
 unfolding decodedOf
-returns-9 c = (rw (c .match .keys9), omega arith)
+returns-9 c = rw (c .match .keys9)
 
 returns-10 : tie.Need-returns-10
 unfolding decodedOf
 returns-10 c =
-    let r = c .match .rest in (
-      rw (
-        ne-eqb _ _ (r .0 .0 .0 .0 .0 .0 .0 .0 .1),
-        ne-eqb _ _ (r .0 .0 .0 .0 .0 .0 .0 .1),
-        ne-eqb _ _ (r .0 .0 .0 .0 .0 .0 .1),
-        ne-eqb _ _ (r .0 .0 .0 .0 .0 .1),
-        ne-eqb _ _ (r .0 .0 .0 .0 .1),
-        ne-eqb _ _ (r .0 .0 .0 .1),
-        ne-eqb _ _ (r .0 .0 .1),
-        ne-eqb _ _ (r .0 .1),
-        ne-eqb _ _ (r .1),
-      ),
-      omega arith,
+    let r = c .match .rest in
+    rw (
+      ne-eqb _ _ (r .0 .0 .0 .0 .0 .0 .0 .0 .1),
+      ne-eqb _ _ (r .0 .0 .0 .0 .0 .0 .0 .1),
+      ne-eqb _ _ (r .0 .0 .0 .0 .0 .0 .1),
+      ne-eqb _ _ (r .0 .0 .0 .0 .0 .1),
+      ne-eqb _ _ (r .0 .0 .0 .0 .1),
+      ne-eqb _ _ (r .0 .0 .0 .1),
+      ne-eqb _ _ (r .0 .0 .1),
+      ne-eqb _ _ (r .0 .1),
+      ne-eqb _ _ (r .1),
     )
 
 pub decode-spec : {M : Type 1} → statement M

@@ -1,7 +1,8 @@
 -- What the ring's completion leaves is counted.
+use mathlib.Core.Path.{_∙_}
 use borrow.Author.Needs.{needs}
-use Rattle.ranges.specs.Ranges.{rangesOf}
-use Rattle.controlq.proofs.Laws.{counted-says, counted-fit}
+use lib.ListN.{take}
+use Rattle.controlq.proofs.Laws.{counted-says, completed-front, counted-fit}
 use Rattle.controlq.proofs.complete.Statement.{statement}
 use Rattle.controlq.proofs.complete.Tie as tie
 
@@ -28,11 +29,17 @@ same-length c = search needs
 
 returns : tie.Need-returns
 returns c =
-    let s = c .before .before .before .before .before .before .before .before .before .before .before in
-    let a = s .args in
-    let o = c .before .before .before .complete in
-    rw (c .counted .ensures)
-    (counted-says (a .t2) (s .pre .0) (a .head) (rangesOf (a .reply)) (a .bytes .now) (a .n) (a .m .now) (o .last .0) (o .result) (s .pre .2) (rw (c .before .before .before .before .before .queue-size .ensures) at (o .ensures)), counted-fit (a .t2) (s .pre .0) (o .result))
+    let at-complete = c .before .before .before in
+    let at-size = at-complete .before .before in
+    let start = at-size .before .before .before .before .before .before in
+    let a = start .args in
+    let o = at-complete .complete in
+    let e = rw (at-size .queue-size .ensures) at (o .ensures) in
+    rw (c .counted .ensures) (
+      counted-says (a .t2) (start .pre .0) (a .head) (a .reply) (take (a .n) (a .bytes .now)) (a .m .now) (o .last .0) (o .result)
+          (e ∙ completed-front (a .t2) (a .head) (a .reply) (a .bytes .now) (a .n) (a .m .now) (start .pre .2)),
+      counted-fit (a .t2) (start .pre .0) (o .result),
+    )
 
 pub complete-spec : {M : Type 1} → statement M
 complete-spec =

@@ -8,19 +8,20 @@ use lib.ListN.{length-append, replicate}
 use lib.Seq.{take-at}
 use Rattle.rules.specs.Control.{jackItem, mapItem, noJack}
 use Rattle.rules.specs.Device.{bytesOf}
-use Rattle.information.specs.Information.{itemsOf}
+use Rattle.rules.specs.Control.{itemsOf}
+use Rattle.meaning.specs.Card.{partsOf}
 use Rattle.information.proofs.Laws.{listed, listed-inside, listed-stream, streams-inside, emptyMap}
-use Rattle.information.specs.declared.Listing.the-variants.{Jacks, Streams, Maps}
+use Rattle.rules.specs.declared.Listing.the-variants.{Jacks, Streams, Maps}
 use Rattle.information.proofs.item.Statement.{statement}
 use Rattle.information.proofs.item.Tie as tie
 
-a-jack : (c : tie.After-enum-told) → c .before .before .args .i < length (itemsOf Jacks (c .before .before .args .t1))
+a-jack : (c : tie.After-enum-told) → c .before .before .args .i < length (itemsOf Jacks (partsOf (c .before .before .args .t1)))
 a-jack c = rw (c .enum-told .given .1) at (c .before .before .pre .1)
 
-a-stream : (c : tie.After-enum-told2) → c .before .before .args .i < length (itemsOf Streams (c .before .before .args .t1))
+a-stream : (c : tie.After-enum-told2) → c .before .before .args .i < length (itemsOf Streams (partsOf (c .before .before .args .t1)))
 a-stream c = rw (c .enum-told2 .given .1) at (c .before .before .pre .1)
 
-a-map : (c : tie.After-enum-told3) → c .before .before .args .i < length (itemsOf Maps (c .before .before .args .t1))
+a-map : (c : tie.After-enum-told3) → c .before .before .args .i < length (itemsOf Maps (partsOf (c .before .before .args .t1)))
 a-map c = rw (c .enum-told3 .given .1) at (c .before .before .pre .1)
 
 few-jacks : (c : tie.After-enum-told) → c .before .before .args .i < 4
@@ -76,18 +77,23 @@ map-item-requires c κs = search needs
 
 returns : tie.Need-returns
 unfolding bytesOf
-returns c = rw (c .before .before .enum-told .given .1, c .jack-item .ensures, listed jackItem noJack _ _ _ (a-jack (c .before .before))) (refl, refl)
+returns c = rw (c .before .before .enum-told .given .1, c .jack-item .ensures, listed jackItem noJack _ _ _ (a-jack (c .before .before)))
+    (refl, refl)
 
 returns-2 : tie.Need-returns-2
 unfolding bytesOf
-returns-2 c = rw (c .before .before .enum-told2 .given .1, c .pcm-item .ensures, listed-stream _ _ _ (a-stream (c .before .before))) (refl, refl)
+returns-2 c = rw (c .before .before .enum-told2 .given .1, c .pcm-item .ensures, listed-stream _ _ _ (a-stream (c .before .before)))
+    (refl, refl)
 
 returns-3 : tie.Need-returns-3
 returns-3 c =
     let e = c .map-item .ensures in
     let p = c .before .before .before .before .args .t1 in
-    rw (c .before .before .enum-told3 .given .1, e .0, listed mapItem emptyMap _ _ _ (a-map (c .before .before)))
-    (take-at (mapItem (getD (p .maps) (c .before .before .before .before .args .i) emptyMap)) (replicate 8 0) 24 (e .1), rw length-append (omega arith))
+    rw (c .before .before .enum-told3 .given .1, e .0, listed mapItem emptyMap _ _ _ (a-map (c .before .before))) (
+      take-at (mapItem (getD (p .maps) (c .before .before .before .before .args .i) emptyMap)) (replicate 8 0) 24 (e .1),
+      rw length-append
+          (omega arith),
+    )
 
 pub item-spec : {M : Type 1} → statement M
 item-spec =

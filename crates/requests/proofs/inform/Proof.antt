@@ -1,20 +1,55 @@
--- Items are written behind the status where the request may list them.
+-- Each step refuses with BAD_MSG; past all of them the items are listed.
 use mathlib.Core.Path.{_≡_, _∙_, sym}
 use mathlib.Core.Bool.{true, false}
+use Prim.Native.Nat.{_+_, _≤_}
+use borrow.Author.Tests.{leb-true}
+use lib.Dec.{eqb}
+use lib.ListN.{length}
+use Rattle.meaning.specs.Card.{partsOf}
+use Rattle.rules.specs.Control.{information, itemSize, itemsOf, listed, roomy, word}
+use Rattle.reply.proofs.Laws.{serves-same}
+use Rattle.requests.proofs.Laws.{check-passed, check-failed}
 use borrow.Author.Needs.{needs}
-use Rattle.rules.specs.Control.{word}
-use Rattle.requests.specs.Requests.{listable}
-use Rattle.requests.proofs.Laws.{check-passed, check-failed, serves-refusal, serves-items}
-use Rattle.requests.proofs.Laws.{inform-refused, inform-done, listable-inside}
 use Rattle.requests.proofs.inform.Statement.{statement}
 use Rattle.requests.proofs.inform.Tie as tie
 
-there : (c : tie.After-enum-told)
-    → let at-number32 = c .before .before .before .before .before in
-    let start = at-number32 .before .before .before .before in
-    listable (start .args .card .parts) (start .args .l) (at-number32 .number32 .result)
-    (c .before .before .before .before .number322 .result) (c .before .before .before .number323 .result) (start .args .room) ≡ true
-there c = check-passed _ (sym (c .before .before .is-listable .ensures) ∙ c .enum-told .given .1)
+sized : (c : tie.After-enum-told) →
+    let back6 = c .before .before .before .before .before .before in
+    let start = back6 .before .before in
+    eqb (word (start .args .request .now) 3) (itemSize (start .args .l)) ≡ true
+sized c =
+    let at-enum-told = c in
+    let at-has-item-size = at-enum-told .before .before in
+    let at-number323 = at-has-item-size .before in
+    let start = at-number323 .before .before .before .before .before in
+    rw (← (at-number323 .number323 .ensures))
+    (check-passed (eqb (at-number323 .number323 .result) (itemSize (start .args .l)))
+    (sym (at-has-item-size .has-item-size .ensures) ∙ at-enum-told .enum-told .given .1))
+
+there : (c : tie.After-enum-told3) →
+    let back6 = c .before .before .before .before .before .before in
+    let at-number322 = back6 .before in
+    let at-number32 = at-number322 .before in
+    let start = at-number32 .before .before .before in
+    listed (start .args .l) (partsOf (start .args .parts)) (at-number32 .number32 .result) (at-number322 .number322 .result) ≡ true
+there c =
+    let at-enum-told3 = c in
+    let at-is-listed = at-enum-told3 .before .before in
+    let at-number322 = at-is-listed .before .before .before .before .before in
+    let at-number32 = at-number322 .before in
+    let start = at-number32 .before .before .before in
+    check-passed (listed (start .args .l) (partsOf (start .args .parts)) (at-number32 .number32 .result) (at-number322 .number322 .result))
+    (sym (at-is-listed .is-listed .ensures) ∙ at-enum-told3 .enum-told3 .given .1)
+
+there-asked : (c : tie.After-enum-told3) →
+    let back6 = c .before .before .before .before .before .before in
+    let start = back6 .before .before .before .before .before in
+    listed (start .args .l) (partsOf (start .args .parts)) (word (start .args .request .now) 1) (word (start .args .request .now) 2) ≡ true
+there-asked c =
+    let back6 = c .before .before .before .before .before .before in
+    let at-number322 = back6 .before in
+    let at-number32 = at-number322 .before in
+    rw (← (at-number32 .number32 .ensures), ← (at-number322 .number322 .ensures)) (there c)
 
 number32-requires : tie.Need-number32-requires
 number32-requires c κs = search needs
@@ -25,8 +60,8 @@ number32-requires-2 c κs = search needs
 number32-requires-3 : tie.Need-number32-requires-3
 number32-requires-3 c κs = search needs
 
-is-listable-requires : tie.Need-is-listable-requires
-is-listable-requires c κs = search needs
+has-item-size-requires : tie.Need-has-item-size-requires
+has-item-size-requires c κs = search needs
 
 enum-told : tie.Need-enum-told
 enum-told c = search needs
@@ -34,71 +69,132 @@ enum-told c = search needs
 enum-told-2 : tie.Need-enum-told-2
 enum-told-2 c = search needs
 
-reply-requires : tie.Need-reply-requires
-reply-requires c κs = search needs
+answer-requires : tie.Need-answer-requires
+answer-requires c κs = search needs
 
 same-length : tie.Need-same-length
 same-length c = search needs
 
 returns : tie.Need-returns
+unfolding information
 returns c =
-    let at-is-listable = c .before .before .before .before .before .before in
-    let at-number323 = at-is-listable .before in
-    let at-number322 = at-number323 .before in
-    let at-number32 = at-number322 .before in
-    let start = at-number32 .before .before .before .before in
+    let at-answer = c .before .before in
+    let at-enum-told2 = at-answer .before .before in
+    let at-has-item-size = at-enum-told2 .before .before in
+    let at-number323 = at-has-item-size .before in
+    let start = at-number323 .before .before .before .before .before in
     let a = start .args in
-    let q = a .request .now in
-    let h : listable (a .card .parts) (a .l) (word q 1) (word q 2) (word q 3) (a .room) ≡ false =
-    rw (at-number32 .number32 .ensures, at-number322 .number322 .ensures, at-number323 .number323 .ensures) at
-    (check-failed (listable (a .card .parts) (a .l) (at-number32 .number32 .result) (at-number322 .number322 .result)
-    (at-number323 .number323 .result) (a .room))
-    (sym (at-is-listable .is-listable .ensures) ∙ c .before .before .before .before .enum-told2 .given .1)) in
-    rw (inform-refused (a .card) (a .l) q (a .room) h)
-    (serves-refusal (a .card) _ _ _ _ (start .pre .0) (start .pre .1) (c .before .before .reply .ensures))
+    let unsized : eqb (word (a .request .now) 3) (itemSize (a .l)) ≡ false = rw (← (at-number323 .number323 .ensures))
+    (check-failed (eqb (at-number323 .number323 .result) (itemSize (a .l)))
+    (sym (at-has-item-size .has-item-size .ensures) ∙ at-enum-told2 .enum-told2 .given .1)) in
+    rw unsized (serves-same (a .pending) (a .parts) _ _ _ _ (start .pre) (at-answer .answer .ensures))
 
-set32-requires : tie.Need-set32-requires
-set32-requires c κs = search needs
+is-listed-requires : tie.Need-is-listed-requires
+is-listed-requires c κs = search needs
 
-cast-write-items : tie.Need-cast-write-items
-cast-write-items c = search needs
+enum-told-3 : tie.Need-enum-told-3
+enum-told-3 c = search needs
 
-cast-write-items-2 : tie.Need-cast-write-items-2
-cast-write-items-2 c = search needs
+enum-told-4 : tie.Need-enum-told-4
+enum-told-4 c = search needs
 
-write-items-requires : tie.Need-write-items-requires
-write-items-requires c κs =
-    let back5 = c .before .before .before .before .before in
-    let at-number323 = back5 .before .before .before in
-    let at-number322 = at-number323 .before in
-    let at-number32 = at-number322 .before in
-    let start = at-number32 .before .before .before .before in
-    let a = start .args in (
-      start .pre .0 .parts,
-      listable-inside (a .card .parts) (a .l) (at-number32 .number32 .result) (at-number322 .number322 .result)
-          (at-number323 .number323 .result) (a .room) (there back5),
-      c .before .before .before .set32 .kept .0 ∙ start .pre .1,
-    )
+answer-requires-2 : tie.Need-answer-requires-2
+answer-requires-2 c κs = search needs
 
 same-length-2 : tie.Need-same-length-2
 same-length-2 c = search needs
 
 returns-2 : tie.Need-returns-2
+unfolding information
 returns-2 c =
-    let at-set32 = c .before .before .before .before .before .before in
-    let back8 = at-set32 .before .before in
-    let at-number323 = back8 .before .before .before in
+    let at-answer2 = c .before .before in
+    let at-enum-told4 = at-answer2 .before .before in
+    let at-is-listed = at-enum-told4 .before .before in
+    let at-enum-told = at-is-listed .before in
+    let at-number322 = at-enum-told .before .before .before .before in
+    let at-number32 = at-number322 .before in
+    let start = at-number32 .before .before .before in
+    let a = start .args in
+    let absent : listed (a .l) (partsOf (a .parts)) (word (a .request .now) 1) (word (a .request .now) 2) ≡ false =
+    rw (← (at-number32 .number32 .ensures), ← (at-number322 .number322 .ensures))
+    (check-failed (listed (a .l) (partsOf (a .parts)) (at-number32 .number32 .result) (at-number322 .number322 .result))
+    (sym (at-is-listed .is-listed .ensures) ∙ at-enum-told4 .enum-told4 .given .1)) in
+    rw (sized at-enum-told, absent) (serves-same (a .pending) (a .parts) _ _ _ _ (start .pre) (at-answer2 .answer2 .ensures))
+
+is-roomy-requires : tie.Need-is-roomy-requires
+is-roomy-requires c κs = search needs
+
+enum-told-5 : tie.Need-enum-told-5
+enum-told-5 c = search needs
+
+enum-told-6 : tie.Need-enum-told-6
+enum-told-6 c = search needs
+
+answer-requires-3 : tie.Need-answer-requires-3
+answer-requires-3 c κs = search needs
+
+same-length-3 : tie.Need-same-length-3
+same-length-3 c = search needs
+
+returns-3 : tie.Need-returns-3
+unfolding information
+returns-3 c =
+    let at-answer3 = c .before .before in
+    let at-enum-told6 = at-answer3 .before .before in
+    let at-is-roomy = at-enum-told6 .before .before in
+    let at-enum-told3 = at-is-roomy .before in
+    let at-enum-told = at-enum-told3 .before .before .before in
+    let at-number323 = at-enum-told .before .before .before in
+    let at-number322 = at-number323 .before in
+    let start = at-number322 .before .before .before .before in
+    let a = start .args in
+    let narrow : roomy (word (a .request .now) 2) (word (a .request .now) 3) (a .room) ≡ false =
+    rw (← (at-number322 .number322 .ensures), ← (at-number323 .number323 .ensures))
+    (check-failed (roomy (at-number322 .number322 .result) (at-number323 .number323 .result) (a .room))
+    (sym (at-is-roomy .is-roomy .ensures) ∙ at-enum-told6 .enum-told6 .given .1)) in
+    rw (sized at-enum-told, there-asked at-enum-told3, narrow)
+    (serves-same (a .pending) (a .parts) _ _ _ _ (start .pre) (at-answer3 .answer3 .ensures))
+
+list-requires : tie.Need-list-requires
+list-requires c κs =
+    let at-enum-told3 = c .before .before .before .before in
+    let back10 = at-enum-told3 .before .before .before .before .before .before in
+    let at-number322 = back10 .before in
+    let at-number32 = at-number322 .before in
+    let start = at-number32 .before .before .before in
+    let n : at-number32 .number32 .result + at-number322 .number322 .result ≤ length
+    (itemsOf (start .args .l) (partsOf (start .args .parts))) =
+    leb-true _ _ (there at-enum-told3) in
+    (start .pre, n)
+
+same-length-4 : tie.Need-same-length-4
+same-length-4 c = search needs
+
+returns-4 : tie.Need-returns-4
+unfolding information
+returns-4 c =
+    let at-list = c .before .before in
+    let at-enum-told5 = at-list .before .before in
+    let at-is-roomy = at-enum-told5 .before .before in
+    let at-enum-told3 = at-is-roomy .before in
+    let at-enum-told = at-enum-told3 .before .before .before in
+    let at-number323 = at-enum-told .before .before .before in
     let at-number322 = at-number323 .before in
     let at-number32 = at-number322 .before in
-    let start = at-number32 .before .before .before .before in
+    let start = at-number32 .before .before .before in
     let a = start .args in
-    let q = a .request .now in
-    let w = c .before .before .write-items in
-    let h : listable (a .card .parts) (a .l) (word q 1) (word q 2) (word q 3) (a .room) ≡ true =
-    rw (at-number32 .number32 .ensures, at-number322 .number322 .ensures, at-number323 .number323 .ensures) at (there back8) in
-    rw (inform-done (a .card) (a .l) q (a .room) h, ← (at-number32 .number32 .ensures), ← (at-number322 .number322 .ensures))
-    (serves-items (a .card) _ (a .out .now) _ _ (start .pre .0) (start .pre .1) (w .ensures .0 ∙ rw (at-set32 .set32 .ensures))
-    (w .ensures .1) (w .ensures .2))
+    let enough : roomy (word (a .request .now) 2) (word (a .request .now) 3) (a .room) ≡ true =
+    rw (← (at-number322 .number322 .ensures), ← (at-number323 .number323 .ensures))
+    (check-passed (roomy (at-number322 .number322 .result) (at-number323 .number323 .result) (a .room))
+    (sym (at-is-roomy .is-roomy .ensures) ∙ at-enum-told5 .enum-told5 .given .1)) in
+    rw (
+      sized at-enum-told,
+      there-asked at-enum-told3,
+      enough,
+      ← (at-number32 .number32 .ensures),
+      ← (at-number322 .number322 .ensures),
+    )
+    (serves-same (a .pending) (a .parts) _ _ _ _ (start .pre) (at-list .list .ensures))
 
 pub inform-spec : {M : Type 1} → statement M
 inform-spec =
@@ -107,15 +203,24 @@ inform-spec =
     number32-requires
     number32-requires-2
     number32-requires-3
-    is-listable-requires
+    has-item-size-requires
     enum-told
     enum-told-2
-    reply-requires
+    answer-requires
     same-length
     returns
-    set32-requires
-    cast-write-items
-    cast-write-items-2
-    write-items-requires
+    is-listed-requires
+    enum-told-3
+    enum-told-4
+    answer-requires-2
     same-length-2
-    returns-2)
+    returns-2
+    is-roomy-requires
+    enum-told-5
+    enum-told-6
+    answer-requires-3
+    same-length-3
+    returns-3
+    list-requires
+    same-length-4
+    returns-4)

@@ -1,0 +1,169 @@
+-- A stream that is there and a lawful transition are obeyed; else BAD_MSG. `t2` is the parameter `parts`.
+use mathlib.Core.Path.{_≡_, _∙_, sym}
+use mathlib.Core.Bool.{true, false}
+use Prim.Native.Nat.{_<_}
+use native.Mathlib.Omega.{arith}
+use borrow.Author.Tests.{ltb-true}
+use lib.Dec.{ltb}
+use lib.ListN.{getD}
+use Rattle.card.specs.Card.{noStream}
+use Rattle.rules.specs.Control.{lawfulFrom, word}
+use Rattle.reply.proofs.Laws.{serves-same}
+use Rattle.requests.proofs.Laws.{found-there, found-absent, check-passed, check-failed}
+use Rattle.commands.proofs.Laws.{command-absent, command-unlawful, command-obeyed}
+use borrow.Author.Needs.{needs}
+use Rattle.commands.proofs.command.Statement.{statement}
+use Rattle.commands.proofs.command.Tie as tie
+
+-- the stream that was found is the one asked for
+the-stream : (c : tie.After-known-told) →
+    let at-i = c .before in
+    let start = at-i .before .before .before .before .before .before in
+    at-i .i .given .0 .0 ≡ word (start .args .request .now) 1
+the-stream c =
+    let at-i = c .before in
+    let at-find = at-i .before .before in
+    let at-number32 = at-find .before in
+    let start = at-number32 .before .before .before in
+    found-there (ltb (at-number32 .number32 .result) (start .args .t2 .«stream_count»)) _ _
+    (sym (at-find .find .ensures) ∙ at-i .i .given .1) .1
+    ∙ at-number32 .number32 .ensures
+
+there : (c : tie.After-known-told) →
+    let back6 = c .before .before .before .before .before .before in
+    let start = back6 .before in
+    ltb (word (start .args .request .now) 1) (start .args .t2 .«stream_count») ≡ true
+there c =
+    let at-i = c .before in
+    let at-find = at-i .before .before in
+    let at-number32 = at-find .before in
+    rw (← (at-number32 .number32 .ensures)) (found-there _ _ _ (sym (at-find .find .ensures) ∙ at-i .i .given .1) .0)
+
+inside : (c : tie.After-known-told) →
+    let at-i = c .before in
+    let start = at-i .before .before .before .before .before .before in
+    at-i .i .given .0 .0 < start .args .t2 .«stream_count»
+inside c = rw (the-stream c) (ltb-true _ _ (there c))
+
+number32-requires : tie.Need-number32-requires
+number32-requires c κs = search needs
+
+find-requires : tie.Need-find-requires
+find-requires c κs = search needs
+
+enum-known-i : tie.Need-enum-known-i
+enum-known-i c = search needs
+
+enum-told : tie.Need-enum-told
+enum-told c = search needs
+
+answer-requires : tie.Need-answer-requires
+answer-requires c κs = search needs
+
+same-length : tie.Need-same-length
+same-length c = search needs
+
+returns : tie.Need-returns
+returns c =
+    let at-answer = c .before .before in
+    let at-enum-told = at-answer .before .before in
+    let at-find = at-enum-told .before .before in
+    let at-number32 = at-find .before in
+    let start = at-number32 .before .before .before in
+    let a = start .args in
+    let absent : ltb (word (a .request .now) 1) (a .t2 .«stream_count») ≡ false = rw (← (at-number32 .number32 .ensures))
+    (found-absent _ _ (sym (at-find .find .ensures) ∙ at-enum-told .enum-told .given .1)) in
+    rw (command-absent (a .t2) (start .pre) (a .asked) (a .request .now) absent)
+    (serves-same (a .pending) (a .t2) _ _ _ _ (start .pre) (at-answer .answer .ensures))
+
+mul-stream : tie.Need-mul-stream
+mul-stream c =
+    let back6 = c .before .before .before .before .before .before in
+    let start = back6 .before in
+    omega (arith, inside c, start .pre .streams)
+
+element-copy-out-stream : tie.Need-element-copy-out-stream
+element-copy-out-stream c =
+    let back6 = c .before .before .before .before .before .before in
+    let start = back6 .before in
+    omega (arith, inside c, start .pre .streams)
+
+is-lawful-requires : tie.Need-is-lawful-requires
+is-lawful-requires c κs = search needs
+
+enum-told-2 : tie.Need-enum-told-2
+enum-told-2 c = search needs
+
+enum-told-3 : tie.Need-enum-told-3
+enum-told-3 c = search needs
+
+answer-requires-2 : tie.Need-answer-requires-2
+answer-requires-2 c κs = search needs
+
+same-length-2 : tie.Need-same-length-2
+same-length-2 c = search needs
+
+returns-2 : tie.Need-returns-2
+returns-2 c =
+    let at-answer2 = c .before .before in
+    let at-enum-told3 = at-answer2 .before .before in
+    let at-is-lawful = at-enum-told3 .before .before in
+    let at-known-told = at-is-lawful .before .before in
+    let back14 = at-known-told .before .before .before .before .before .before in
+    let start = back14 .before in
+    let a = start .args in
+    let unlawful : lawfulFrom (a .asked) (getD (a .t2 .streams) (word (a .request .now) 1) noStream .state) ≡ false =
+    rw (← (the-stream at-known-told))
+    (check-failed (lawfulFrom (a .asked) (getD (a .t2 .streams) (at-known-told .before .i .given .0 .0) noStream .state))
+    (sym (at-is-lawful .is-lawful .ensures) ∙ at-enum-told3 .enum-told3 .given .1)) in
+    rw (command-unlawful (a .t2) (start .pre) (a .asked) (a .request .now) (there at-known-told) unlawful)
+    (serves-same (a .pending) (a .t2) _ _ _ _ (start .pre) (at-answer2 .answer2 .ensures))
+
+obey-requires : tie.Need-obey-requires
+obey-requires c κs =
+    let at-known-told = c .before .before .before .before .before in
+    let back11 = at-known-told .before .before .before .before .before .before in
+    let start = back11 .before in
+    (start .pre, inside at-known-told)
+
+same-length-3 : tie.Need-same-length-3
+same-length-3 c = search needs
+
+returns-3 : tie.Need-returns-3
+returns-3 c =
+    let at-obey = c .before .before in
+    let at-enum-told2 = at-obey .before .before in
+    let at-is-lawful = at-enum-told2 .before .before in
+    let at-known-told = at-is-lawful .before .before in
+    let back14 = at-known-told .before .before .before .before .before .before in
+    let start = back14 .before in
+    let a = start .args in
+    let lawful : lawfulFrom (a .asked) (getD (a .t2 .streams) (word (a .request .now) 1) noStream .state) ≡ true =
+    rw (← (the-stream at-known-told))
+    (check-passed (lawfulFrom (a .asked) (getD (a .t2 .streams) (at-known-told .before .i .given .0 .0) noStream .state))
+    (sym (at-is-lawful .is-lawful .ensures) ∙ at-enum-told2 .enum-told2 .given .1)) in
+    rw (command-obeyed (a .t2) (start .pre) (a .asked) (a .request .now) (there at-known-told) lawful, ← (the-stream at-known-told))
+    (at-obey .obey .ensures)
+
+pub command-spec : {M : Type 1} → statement M
+command-spec =
+    tie.close
+    (tie.spec
+    number32-requires
+    find-requires
+    enum-known-i
+    enum-told
+    answer-requires
+    same-length
+    returns
+    mul-stream
+    element-copy-out-stream
+    is-lawful-requires
+    enum-told-2
+    enum-told-3
+    answer-requires-2
+    same-length-2
+    returns-2
+    obey-requires
+    same-length-3
+    returns-3)

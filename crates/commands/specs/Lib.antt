@@ -1,2 +1,0 @@
--- PCM commands.
-pub mod Commands

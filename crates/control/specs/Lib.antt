@@ -1,2 +1,0 @@
--- How a control request is decoded and answered.
-pub mod Control

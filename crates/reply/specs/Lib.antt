@@ -1,0 +1,2 @@
+-- A control message that is taken, and its completion.
+pub mod Reply

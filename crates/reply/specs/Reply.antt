@@ -1,0 +1,80 @@
+-- What the completion of a control message leaves, and what a request comes to: memory, the parts of the card and the used entry, all
+-- of it, as the rules have it (01, Completing and Control messages).
+use mathlib.Core.Path.{_≡_}
+use mathlib.Core.List.{List}
+use Prim.Native.Nat.{ℕ}
+use lib.ListN.{length}
+use lib.Seq.{sets}
+use Rattle.ranges.specs.Ranges.{rangesOf, places, putAt}
+use Rattle.registers.specs.Map.{sizeOf}
+use Rattle.ring.specs.Rules.{Completion, postOf}
+use Rattle.ring.specs.declared.Posted.{Posted}
+use Rattle.card.specs.Fit.{FitParts}
+use Rattle.card.specs.declared.Parts.{Parts}
+use Rattle.meaning.specs.Card.{partsOf}
+use Rattle.rules.specs.Control as rules
+use Rattle.rules.specs.Numbers.{controlQueue}
+use Rattle.reply.specs.declared.Kind.the-variants as kinds
+use Rattle.reply.specs.declared.Pending.{Pending}
+use Rattle.reply.specs.declared.Served.{Served}
+
+-- ---- completing
+
+-- the used entry of a message
+unfoldable pub closedOf : Pending → ℕ → List ℕ → Completion
+closedOf p len m = postOf m (p .page) (sizeOf controlQueue) (p .completed) (p .head) len
+
+-- the addresses of the reply's bytes
+abbrev pub replyPlaces : Pending → List ℕ
+replyPlaces p = places (rangesOf (p .reply))
+
+-- the reply's bytes, then the used entry
+abbrev pub completionOf : Pending → List ℕ → List ℕ → Completion
+completionOf p bytes m = closedOf p (length bytes) (putAt m (replyPlaces p) bytes)
+
+-- ---- what a request comes to
+
+-- memory after it, and what is served
+pub record Outcome : Type 0 where
+  pub memory : List ℕ
+  pub served : Served
+
+abbrev pub outcome : List ℕ → Served → Outcome
+outcome m r = record { memory = m; served = r }
+
+abbrev pub postedBy : Completion → Posted
+postedBy k = record { completed = k .completed; interrupt = k .interrupt }
+
+-- these bytes are the reply, these the parts after it
+abbrev pub completedWith : Pending → Parts → List ℕ → List ℕ → Outcome
+completedWith p parts bytes m =
+    let k : Completion = completionOf p bytes m in
+    outcome (k .memory) (record { parts = parts; kind = kinds.Completed (postedBy k) })
+
+-- the parts with the rules' jacks and streams; what stands past the counts stays
+abbrev pub partsWith : rules.Parts → Parts → Parts
+partsWith r p =
+    record {
+      «jack_count» = p .«jack_count»;
+      «map_count» = p .«map_count»;
+      «stream_count» = p .«stream_count»;
+      jacks = sets (p .jacks) 0 (r .jacks);
+      maps = p .maps;
+      streams = sets (p .streams) 0 (r .streams);
+    }
+
+-- all that a request leaves; "If the queue breaks, the control message stays taken, uncompleted": at a Release nothing is changed yet
+abbrev pub outcomeOf : Pending → Parts → rules.Served → List ℕ → Outcome
+outcomeOf p parts (rules.Reply after bytes) m = completedWith p (partsWith after parts) bytes m
+outcomeOf p parts (rules.Release id) m = outcome m (record { parts = parts; kind = kinds.Release id })
+
+-- the parts stand for those of the rule
+abbrev pub standFor : rules.Served → Parts → Type 0
+standFor (rules.Reply after bytes) parts = partsOf parts ≡ after
+standFor (rules.Release id) parts = Unit
+
+-- a request is served as a rule has it, over memory before and after
+pub record Serves (pending : Pending) (parts : Parts) (rule : rules.Served) (r : Served) (before after : List ℕ) : Type 0 where
+  pub whole : outcome after r ≡ outcomeOf pending parts rule before
+  pub stand : standFor rule (r .parts)
+  pub fit : FitParts (r .parts)
