@@ -48,7 +48,7 @@ enum wekshurag_answer {
     WEKSHURAG_NOT_RUNNING = 6,       /* the stream is absent, or not Running */
     WEKSHURAG_EVENT_NOT_ALLOWED = 7, /* no such kind of event, jack or stream, or an XRUN that was not selected */
     WEKSHURAG_NO_EVENT_BUFFER = 8,   /* the guest has put no buffer for it; send it again later */
-    WEKSHURAG_QUEUE_BROKEN = 9,      /* the guest's ring makes no sense; what was done before stands and is counted */
+    WEKSHURAG_QUEUE_BROKEN = 9,      /* the guest's ring makes no sense (`queue` says which); what was done before stands and is counted */
     WEKSHURAG_BAD_DESCRIPTION = 10
 };
 
@@ -161,7 +161,8 @@ bool wekshurag_interrupt_line(const struct wekshurag_card *card);
 
 struct wekshurag_result {
     uint8_t answer;
-    size_t count; /* control messages completed, or bytes; 0 for an event */
+    uint8_t queue; /* with WEKSHURAG_QUEUE_BROKEN the queue that broke, an enum wekshurag_queue; else WEKSHURAG_NO_QUEUE */
+    size_t count;  /* control messages completed, or bytes; 0 for an event */
 };
 WEKSHURAG_ASSERT(sizeof(struct wekshurag_result) == 16, "what a call answers");
 

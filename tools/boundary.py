@@ -26,8 +26,9 @@ ROOT = os.path.dirname(os.path.dirname(os.path.abspath(__file__)))
 CARD = ('card', '')
 CARDS = ['Rattle.card.specs.Rules.{readCard, writeCard}', 'Rattle.card.specs.Fit.{Fit}']
 STEPS = ['lib.ListN.{take}', 'Rattle.meaning.specs.Card.{stepOf, leaves}', 'Rattle.rules.specs.Calls.{Request, Event}',
-         'Rattle.card.specs.Fit.{Fit}']
-ANSWER, COUNT = ('answer', 'u8'), ('count', 'usize')
+         'Rattle.card.specs.Fit.{Fit}', 'Rattle.entries.specs.Entries.{answered}']
+ANSWER, QUEUE, COUNT = ('answer', 'u8'), ('queue', 'u8'), ('count', 'usize')
+CALL = dict(after='QueueAnswer', fields=[ANSWER, QUEUE, COUNT, CARD], result='CallResult', holds=['answer', 'queue', 'count'])
 
 ENTRIES = [
     dict(entry='wekshurag_read', lib='card', callee='read_register', after='ReadAnswer', fields=[ANSWER, ('value', 'u32'), CARD],
@@ -36,20 +37,16 @@ ENTRIES = [
     dict(entry='wekshurag_write', lib='card', callee='write_register', after='WriteAnswer', fields=[ANSWER, ('rung', 'u8'), CARD],
          result='WriteResult', holds=['answer', 'rung'], params='offset:u64 width:u64 value:u64', names=CARDS,
          contract='(r ≡ writeCard c offset width value) × Fit (r .card)'),
-    dict(entry='wekshurag_control', lib='controlq', callee='control', after='ControlAnswer', fields=[ANSWER, COUNT, CARD],
-         result='CallResult', holds=['answer', 'count'], params='ram:mut', names=STEPS,
-         contract="(stepOf c Request.Control ram ≡ leaves (r .card) (r .answer) (r .count) [] [] ram') × Fit (r .card)"),
-    dict(entry='wekshurag_play', lib='pcm', callee='play', after='TransferAnswer', fields=[ANSWER, COUNT, CARD],
-         result='CallResult', holds=['answer', 'count'], params='ram:mut host:mut', names=STEPS,
-         contract="(stepOf c (Request.Play host) ram ≡ leaves (r .card) (r .answer) (r .count) (take (r .count) host') host' ram')"
+    dict(entry='wekshurag_control', lib='entries', callee='control', params='ram:mut', names=STEPS, **CALL,
+         contract="(stepOf c Request.Control ram ≡ leaves (r .card) (answered r) (r .count) [] [] ram') × Fit (r .card)"),
+    dict(entry='wekshurag_play', lib='entries', callee='play', params='ram:mut host:mut', names=STEPS, **CALL,
+         contract="(stepOf c (Request.Play host) ram ≡ leaves (r .card) (answered r) (r .count) (take (r .count) host') host' ram')"
                   ' × Fit (r .card)'),
-    dict(entry='wekshurag_capture', lib='pcm', callee='capture', after='TransferAnswer', fields=[ANSWER, COUNT, CARD],
-         result='CallResult', holds=['answer', 'count'], params='ram:mut host:shared', names=STEPS,
-         contract="(stepOf c (Request.Capture host) ram ≡ leaves (r .card) (r .answer) (r .count) (take (r .count) host) [] ram')"
+    dict(entry='wekshurag_capture', lib='entries', callee='capture', params='ram:mut host:shared', names=STEPS, **CALL,
+         contract="(stepOf c (Request.Capture host) ram ≡ leaves (r .card) (answered r) (r .count) (take (r .count) host) [] ram')"
                   ' × Fit (r .card)'),
-    dict(entry='wekshurag_event', lib='event', callee='event', after='EventAnswer', fields=[ANSWER, CARD],
-         result='CallResult', holds=['answer', 'count'], params='ram:mut code:u32 data:u32', names=STEPS,
-         contract="(stepOf c (Event code data) ram ≡ leaves (r .card) (r .answer) 0 [] [] ram') × Fit (r .card)"),
+    dict(entry='wekshurag_event', lib='entries', callee='event', params='ram:mut code:u32 data:u32', names=STEPS, **CALL,
+         contract="(stepOf c (Event code data) ram ≡ leaves (r .card) (answered r) (r .count) [] [] ram') × Fit (r .card)"),
 ]
 
 WIDTH = {'u8': 'w8', 'u16': 'w16', 'u32': 'w32', 'u64': 'w64', 'usize': 'w64'}

@@ -9,6 +9,7 @@ ghost use Rattle.card.specs.Rules.{poweredOf, readCard, writeCard};
 ghost use Rattle.meaning.specs.Card.{stepOf, leaves};
 ghost use Rattle.registers.specs.Rules.{raised};
 ghost use Rattle.rules.specs.Calls.{Request, Event};
+ghost use Rattle.wekshurag.specs.Told.{told};
 use card::Card;
 use description::Description;
 
@@ -26,10 +27,12 @@ pub struct WriteResult {
     pub rung: u8,
 }
 
-// What a call on a queue answers: the count is that of control messages completed, or of bytes.
+// What a call on a queue answers: the queue is the one that broke, or 255; the count is that of control
+// messages completed, or of bytes.
 #[repr(C)]
 pub struct CallResult {
     pub answer: u8,
+    pub queue: u8,
     pub count: usize,
 }
 
@@ -101,14 +104,15 @@ pub extern "C" fn wekshurag_write(
 pub extern "C" fn wekshurag_control(card: &mut Card, ram: &mut [u8]) -> CallResult
     requires { ⌜ Fit (now card) ⌝ }
     ensures { λ r. ⌜ (stepOf (now (card .entry)) Request.Control (now (ram .entry))
-        ≡ leaves (now (card .exit)) (r .answer) (r .count) [] [] (now (ram .exit)))
+        ≡ leaves (now (card .exit)) (told r) (r .count) [] [] (now (ram .exit)))
         × Fit (now (card .exit)) ⌝ }
 {
     let before = *card;
-    let after = controlq::control(before, ram);
+    let after = entries::control(before, ram);
     *card = after.card;
     CallResult {
         answer: after.answer,
+        queue: after.queue,
         count: after.count,
     }
 }
@@ -118,14 +122,15 @@ pub extern "C" fn wekshurag_control(card: &mut Card, ram: &mut [u8]) -> CallResu
 pub extern "C" fn wekshurag_play(card: &mut Card, ram: &mut [u8], host: &mut [u8]) -> CallResult
     requires { ⌜ Fit (now card) ⌝ }
     ensures { λ r. ⌜ (stepOf (now (card .entry)) (Request.Play (now (host .entry))) (now (ram .entry))
-        ≡ leaves (now (card .exit)) (r .answer) (r .count) (take (r .count) (now (host .exit))) (now (host .exit)) (now (ram .exit)))
+        ≡ leaves (now (card .exit)) (told r) (r .count) (take (r .count) (now (host .exit))) (now (host .exit)) (now (ram .exit)))
         × Fit (now (card .exit)) ⌝ }
 {
     let before = *card;
-    let after = pcm::play(before, ram, host);
+    let after = entries::play(before, ram, host);
     *card = after.card;
     CallResult {
         answer: after.answer,
+        queue: after.queue,
         count: after.count,
     }
 }
@@ -135,14 +140,15 @@ pub extern "C" fn wekshurag_play(card: &mut Card, ram: &mut [u8], host: &mut [u8
 pub extern "C" fn wekshurag_capture(card: &mut Card, ram: &mut [u8], host: &[u8]) -> CallResult
     requires { ⌜ Fit (now card) ⌝ }
     ensures { λ r. ⌜ (stepOf (now (card .entry)) (Request.Capture (now (host .entry))) (now (ram .entry))
-        ≡ leaves (now (card .exit)) (r .answer) (r .count) (take (r .count) (now (host .entry))) [] (now (ram .exit)))
+        ≡ leaves (now (card .exit)) (told r) (r .count) (take (r .count) (now (host .entry))) [] (now (ram .exit)))
         × Fit (now (card .exit)) ⌝ }
 {
     let before = *card;
-    let after = pcm::capture(before, ram, host);
+    let after = entries::capture(before, ram, host);
     *card = after.card;
     CallResult {
         answer: after.answer,
+        queue: after.queue,
         count: after.count,
     }
 }
@@ -157,14 +163,15 @@ pub extern "C" fn wekshurag_event(
 ) -> CallResult
     requires { ⌜ Fit (now card) ⌝ }
     ensures { λ r. ⌜ (stepOf (now (card .entry)) (Event code «data») (now (ram .entry))
-        ≡ leaves (now (card .exit)) (r .answer) (r .count) [] [] (now (ram .exit)))
+        ≡ leaves (now (card .exit)) (told r) (r .count) [] [] (now (ram .exit)))
         × Fit (now (card .exit)) ⌝ }
 {
     let before = *card;
-    let after = event::event(before, ram, code, data);
+    let after = entries::event(before, ram, code, data);
     *card = after.card;
     CallResult {
         answer: after.answer,
-        count: 0,
+        queue: after.queue,
+        count: after.count,
     }
 }

@@ -1,4 +1,4 @@
--- `wekshurag_capture` meets its contract: the card is copied out of its borrow and passed to `pcm::capture`, of which
+-- `wekshurag_capture` meets its contract: the card is copied out of its borrow and passed to `entries::capture`, of which
 -- only its contract is known; the card that comes back is stored, and the borrow is closed at it. A walk of the MIR, written
 -- by tools/boundary.py.
 -- A slice's borrow is given up for good, to the callee.
@@ -70,19 +70,20 @@ use lib.ListN.{take}
 use Rattle.meaning.specs.Card.{stepOf, leaves}
 use Rattle.rules.specs.Calls.{Request, Event}
 use Rattle.card.specs.Fit.{Fit}
+use Rattle.entries.specs.Entries.{answered}
 use Rattle.card.specs.declared.Card.{Card}
-use Rattle.pcm.specs.declared.TransferAnswer.{TransferAnswer}
+use Rattle.entries.specs.declared.QueueAnswer.{QueueAnswer}
 use Rattle.wekshurag.specs.declared.CallResult.{CallResult}
 use Rattle.card.proofs.Card as T
 use Rattle.card.proofs.Card.Laws as T′
-use Rattle.pcm.proofs.TransferAnswer as S
-use Rattle.pcm.proofs.TransferAnswer.Laws as S′
+use Rattle.entries.proofs.QueueAnswer as S
+use Rattle.entries.proofs.QueueAnswer.Laws as S′
 use Rattle.wekshurag.proofs.CallResult as O
 use Rattle.wekshurag.proofs.CallResult.Laws as O′
-use Rattle.pcm.proofs.capture as g
-use Rattle.pcm.proofs.capture.Symbol as g-def
-use Rattle.pcm.proofs.capture.Symbol.{name as #g}
-use Rattle.pcm.proofs.capture.Met as g-thm
+use Rattle.entries.proofs.capture as g
+use Rattle.entries.proofs.capture.Symbol as g-def
+use Rattle.entries.proofs.capture.Symbol.{name as #g}
+use Rattle.entries.proofs.capture.Met as g-thm
 use Rattle.wekshurag.proofs.wekshurag_capture.Key.{name as #f}
 use Rattle.wekshurag.proofs.wekshurag_capture as f
 use Rattle.wekshurag.proofs.wekshurag_capture.Statement as stated
@@ -91,7 +92,7 @@ use Rattle.wekshurag.proofs.wekshurag_capture.Code.Mir.{table}
 
 -- how what the callee returns lies in memory; the locals, by their places
 abbrev after-fields : Tys
-after-fields = tcons (tyInt w8) (tcons (tyInt w64) (tcons T′.mir tnil))
+after-fields = tcons (tyInt w8) (tcons (tyInt w8) (tcons (tyInt w64) (tcons T′.mir tnil)))
 
 after-is : S′.mir ≡ tyStruct (S.struct .name) after-fields
 after-is = refl
@@ -115,10 +116,13 @@ module _ {M : Type 1} (𝓤 : URA M) (H : Heap 𝓤) (l0 l1 l2 l3 l4 l5 l6 l7 : 
   at-answer : fieldOf ((spotOf 𝓤 H locals 5) .0) 0 ≡ some ((tyInt w8), 0)
   at-answer = refl
 
-  at-count : fieldOf ((spotOf 𝓤 H locals 5) .0) 1 ≡ some ((tyInt w64), 8)
+  at-queue : fieldOf ((spotOf 𝓤 H locals 5) .0) 1 ≡ some ((tyInt w8), 1)
+  at-queue = refl
+
+  at-count : fieldOf ((spotOf 𝓤 H locals 5) .0) 2 ≡ some ((tyInt w64), 8)
   at-count = refl
 
-  at-card : fieldOf ((spotOf 𝓤 H locals 5) .0) 2 ≡ some (T′.mir, 16)
+  at-card : fieldOf ((spotOf 𝓤 H locals 5) .0) 3 ≡ some (T′.mir, 16)
   at-card = refl
 
 abbrev stayed : Stays (f.ended .signature .params) (f.ended .kept)
@@ -159,8 +163,8 @@ module _ {M : Type 1} (𝓤 : URA M) (H : Heap 𝓤) (A : Atoms 𝓤) (W : Given
   abbrev at : List Val × (List Val × (List Val × (Unit {0})))
   at = (vptr b o ∷ [], (s0 ∷ [], (s1 ∷ [], tt)))
 
-  abbrev told : TransferAnswer → CallResult
-  told r = (record { answer = (r .answer); count = (r .count) })
+  abbrev told : QueueAnswer → CallResult
+  told r = (record { answer = (r .answer); queue = (r .queue); count = (r .count) })
 
   abbrev Post : Val → SProp 𝓤
   Post = walkOf 𝓤 H A f.ended stayed (f.clauses 𝓤 H A at-mem run) .post (((κ, (κ0, (κ1, tt))), (q, (q0, (q1, tt))), tt, x, at), tt)
@@ -175,31 +179,26 @@ module _ {M : Type 1} (𝓤 : URA M) (H : Heap 𝓤) (A : Atoms 𝓤) (W : Given
   goes-by fit = qed W ((‵ (flft κ0 q0) ⊛ ‵ (flft κ1 q1) ⊛ ‵ ftrue) ∷ ‵ (owns (T.the-row ∷ MutSlice (named 0) κ0 u8 ∷ ShrSlice (named 1) κ1
       u8 ∷ []) (h, (x0, (x1, tt))) (mach h ∷ [], (s0 ∷ [], (s1 ∷ [], tt)))) ∷ []) ∵ says ! fit $ frame ! $ done !
 
-  exits : (r : TransferAnswer) (z0 : List ℕ) → (stepOf h (Request.Capture (x1 .now)) (x0 .now) ≡ leaves (r .card) (r .answer) (r .count)
+  exits : (r : QueueAnswer) (z0 : List ℕ) → (stepOf h (Request.Capture (x1 .now)) (x0 .now) ≡ leaves (r .card) (answered r) (r .count)
       (take (r .count) (x1 .now)) [] z0) × Fit (r .card) → length z0 ≡ length (x0 .now) → Is u8 (r .answer) ((vint w8 (r .answer)) ∷ [])
-      → Is usize (r .count) ((vint w64 (r .count)) ∷ []) → ent 𝓤 (⋆ 𝓤 H A (‵ (fobs γ (T.the-row .coded .code (r .card))) ∷ ‵ (fbor κ
-      (Body (mem T.the-row) b o γ)) ∷ ‵ (flft κ q) ∷ (‵ (flft κ0 q0) ⊛ ‵ (flft κ1 q1) ⊛ ‵ ftrue) ∷ ‵ (finally u8 (x0 .name) z0) ∷ []))
-      (Post (vstruct (vcons (vint w8 (r .answer)) (vcons (vint w64 (r .count)) vnil))))
-  exits r z0 e l0 is-answer is-count =
+      → Is u8 (r .queue) ((vint w8 (r .queue)) ∷ []) → Is usize (r .count) ((vint w64 (r .count)) ∷ []) → ent 𝓤 (⋆ 𝓤 H A (‵ (fobs γ
+      (T.the-row .coded .code (r .card))) ∷ ‵ (fbor κ (Body (mem T.the-row) b o γ)) ∷ ‵ (flft κ q) ∷ (‵ (flft κ0 q0) ⊛ ‵ (flft κ1 q1) ⊛
+      ‵ ftrue) ∷ ‵ (finally u8 (x0 .name) z0) ∷ [])) (Post (vstruct (vcons (vint w8 (r .answer)) (vcons (vint w8 (r .queue)) (vcons
+      (vint w64 (r .count)) vnil)))))
+  exits r z0 e l0 is-answer is-queue is-count =
       qed W (‵ (fobs γ (T.the-row .coded .code (r .card))) ∷ ‵ (fbor κ (Body (mem T.the-row) b o γ)) ∷ ‵ (flft κ q) ∷ (‵ (flft κ0 q0) ⊛ ‵
       (flft κ1 q1) ⊛ ‵ ftrue) ∷ ‵ (finally u8 (x0 .name) z0) ∷ []) ∵
       suffices ! _ (ends-at 𝓤 H A f.ended stayed (f.clauses 𝓤 H A at-mem run) W (
         ((κ, (κ0, (κ1, tt))), (q, (q0, (q1, tt))), tt, x, at),
         tt,
-      ) (vstruct (vcons (vint w8 (r .answer)) (vcons (vint w64 (r .count)) vnil))) (told r) ((r .card), (z0, (tt, tt))) (
-        tt,
-        (
-          l0,
-          (
-            tt,
-            tt,
-          ),
-        ),
-      )) $ says ! e $
+      ) (vstruct (vcons (vint w8 (r .answer)) (vcons (vint w8 (r .queue)) (vcons (vint w64 (r .count)) vnil)))) (told r) (
+        (r .card),
+        (z0, (tt, tt)),
+      ) (tt, (l0, (tt, tt)))) $ says ! e $
       move ! (2 ∷ 3 ∷ []) $ join ! $ frame ! $ feqI ! (List Val) (vptr b o ∷ []) (vptr b o ∷ []) refl $ fjoin3 ! $ nothing ! $ nothing ! $
       fjoin ! $ move ! (2 ∷ 0 ∷ []) $ fjoin ! $ move ! (1 ∷ 0 ∷ []) $ fjoin ! $
       owned ! O.the-row (Is O.the-row) (LL.makes O.the-type O′.the-plain 𝓤 H A) (told r) _ (LL.owes O.the-type O′.the-laws (told r)
-      (is-answer, (is-count, tt))) $ move ! (1 ∷ 0 ∷ []) $ done !
+      (is-answer, (is-queue, (is-count, tt)))) $ move ! (1 ∷ 0 ∷ []) $ done !
 
   module _ (C : Calls 𝓤 H) (Λ : Loops 𝓤 H) (fm : FmC 𝓤 H (W .laws) C) (known : Triple 𝓤 (C #g) (By 𝓤 H A at-mem run)) where
     walk : Room u8 (length (x0 .now)) → Room u8 (length (x1 .now)) → Fit h → ent 𝓤 (onEntry 𝓤 H A f.signature (κ, (κ0, (κ1, tt))) (
@@ -243,13 +242,13 @@ module _ {M : Type 1} (𝓤 : URA M) (H : Heap 𝓤) (A : Atoms 𝓤) (W : Given
         move ! (1 ∷ 21 ∷ []) $ fjoin ! $ move ! (21 ∷ 0 ∷ []) $ use2 W (raw (By 𝓤 H A at-mem run .pre to)) (goes-by fit) $
         calls-at ! fm (By 𝓤 H A at-mem run) known to (and-then ! (load ! (from ! (stop !)) (look ! 11 refl)) (and-then ! (load ! (from !
         (stop !)) (look ! 5 refl)) (and-then ! (load ! (from ! (stop !)) (look ! 13 refl)) (no-more !)))) (λ w.
-        use1 W (later (any (λ (r : TransferAnswer). ((‵ (flft κ0 q0) ⊛ ‵ (flft κ1 q1) ⊛ ‵ ftrue) ⊛ ‵ (S.the-row .own r (w ∷ []))) ⊛ raw
+        use1 W (later (any (λ (r : QueueAnswer). ((‵ (flft κ0 q0) ⊛ ‵ (flft κ1 q1) ⊛ ‵ ftrue) ⊛ ‵ (S.the-row .own r (w ∷ []))) ⊛ raw
         (ensured 𝓤 H A g.ended (g.clauses 𝓤 H A at-mem run) (κ0, (κ1, tt)) (h, (x0, (x1, tt))) tt r)))) (id⊢ 𝓤 _) $ await ! tt $ pick ! (λ
         r.
         split ! $ move ! (1 ∷ []) $ use1 W (any (λ (zs : Unit {0} × (List ℕ × (Unit {0} × (Unit {0})))). ‵ (lasts g.ended (κ0, (κ1, tt))
-        (h, (x0, (x1, tt))) zs) ⊛ raw (fact 𝓤 ((stepOf h (Request.Capture (x1 .now)) (x0 .now) ≡ leaves (r .card) (r .answer) (r .count)
+        (h, (x0, (x1, tt))) zs) ⊛ raw (fact 𝓤 ((stepOf h (Request.Capture (x1 .now)) (x0 .now) ≡ leaves (r .card) (answered r) (r .count)
         (take (r .count) (x1 .now)) [] (zs .1 .0)) × Fit (r .card))))) (id⊢ 𝓤 _) $ pick ! (λ zs.
-        split ! $ move ! (1 ∷ []) $ heard ! ((stepOf h (Request.Capture (x1 .now)) (x0 .now) ≡ leaves (r .card) (r .answer) (r .count)
+        split ! $ move ! (1 ∷ []) $ heard ! ((stepOf h (Request.Capture (x1 .now)) (x0 .now) ≡ leaves (r .card) (answered r) (r .count)
         (take (r .count) (x1 .now)) [] (zs .1 .0)) × Fit (r .card)) (λ e.
         fsplit ! $ drop ! $ fsplit ! $ fsplit ! $ move ! (1 ∷ []) $ feqL ! (λ same0. move ! (1 ∷ []) $ fsplit ! $ drop ! $ drop ! $
         -- [the last lists, the last first; the tokens and the result; the card's cell; the open borrow; obs; auth; the locals]
@@ -259,31 +258,36 @@ module _ {M : Type 1} (𝓤 : URA M) (H : Heap 𝓤) (A : Atoms 𝓤) (W : Given
         rewrite ! 11 (λ (v : Val). ‵ (fat fullShare S′.mir l5 0 v)) (ap only (LL.tells S.the-type S′.the-laws r (w ∷ []) is)) refl $
         rewrite ! 11 (λ (τ : Ty). ‵ (fat fullShare τ l5 0 (LL.val S.the-type S′.the-laws r))) after-is refl $
         assigns ! (of-opd ! (load ! (from ! (fld ! {τ = T′.mir} {d = 16} (at-card 𝓤 H l0 l1 l2 l3 l4 l5 l6 l7) (stop !))) (look-in ! 11
-        (sub ! {τs = after-fields} 2 {τ = T′.mir} {d = 16} refl (whole !))))) (from ! (hop ! (look ! 19 refl) (stop !))) (store-raw ! 3
-        refl (LL.lawful T.the-type T′.the-laws 𝓤 H A W .typed (r .card) _ (fields .1 .1 .0) .0)) $
+        (sub ! {τs = after-fields} 3 {τ = T′.mir} {d = 16} refl (whole !))))) (from ! (hop ! (look ! 19 refl) (stop !))) (store-raw ! 3
+        refl (LL.lawful T.the-type T′.the-laws 𝓤 H A W .typed (r .card) _ (fields .1 .1 .1 .0) .0)) $
         assigns ! (agg ! (and-then ! (load ! (from ! (fld ! {τ = (tyInt w8)} {d = 0} (at-answer 𝓤 H l0 l1 l2 l3 l4 l5 l6 l7) (stop !)))
         (look-in ! 11 (sub ! {τs = after-fields} 0 {τ = (tyInt w8)} {d = 0} refl (whole !)))) (and-then ! (load ! (from ! (fld ! {τ =
-        (tyInt w64)} {d = 8} (at-count 𝓤 H l0 l1 l2 l3 l4 l5 l6 l7) (stop !))) (look-in ! 11 (sub ! {τs = after-fields} 1 {τ = (tyInt
-        w64)} {d = 8} refl (whole !)))) (no-more !)))) (from ! (stop !)) (init ! 21 refl (
+        (tyInt w8)} {d = 1} (at-queue 𝓤 H l0 l1 l2 l3 l4 l5 l6 l7) (stop !))) (look-in ! 11 (sub ! {τs = after-fields} 1 {τ = (tyInt w8)}
+        {d = 1} refl (whole !)))) (and-then ! (load ! (from ! (fld ! {τ = (tyInt w64)} {d = 8} (at-count 𝓤 H l0 l1 l2 l3 l4 l5 l6 l7)
+        (stop !))) (look-in ! 11 (sub ! {τs = after-fields} 2 {τ = (tyInt w64)} {d = 8} refl (whole !)))) (no-more !))))) (from ! (stop
+        !)) (init ! 21 refl (
           tt,
           (
             record { fits = fields .0 .1 },
             (
-              record {
-                fits = fields .1 .0 .1;
-              },
-              tt,
+              record { fits = fields .1 .0 .1 },
+              (
+                record {
+                  fits = fields .1 .1 .0 .1;
+                },
+                tt,
+              ),
             ),
           ),
         )) $
-        drop ! $ owned ! T.the-row (Is T.the-row) (LL.makes T.the-type T′.the-plain 𝓤 H A) (r .card) _ (fields .1 .1 .0) $ move ! (3 ∷ 0 ∷
-        4 ∷ 5 ∷ 6 ∷ []) $ closes ! tt T.the-row (r .card) (LL.vals T.the-type T′.the-laws (r .card)) b o $
+        drop ! $ owned ! T.the-row (Is T.the-row) (LL.makes T.the-type T′.the-plain 𝓤 H A) (r .card) _ (fields .1 .1 .1 .0) $ move ! (3 ∷
+        0 ∷ 4 ∷ 5 ∷ 6 ∷ []) $ closes ! tt T.the-row (r .card) (LL.vals T.the-type T′.the-laws (r .card)) b o $
         returns ! (look ! 19 refl) $ forget ! 5 refl $ forget ! 7 refl $ forget ! 9 refl $ forget ! 11 refl $ forget ! 13 refl $ forget !
         15 refl $ forget ! 17 refl $ forget ! 19 refl $
         move ! (19 ∷ 20 ∷ []) $ free1 ! $ move ! (17 ∷ 18 ∷ []) $ free1 ! $ move ! (15 ∷ 16 ∷ []) $ free1 ! $ move ! (13 ∷ 14 ∷ []) $
         free1 ! $ move ! (11 ∷ 12 ∷ []) $ free1 ! $ move ! (9 ∷ 10 ∷ []) $ free1 ! $ move ! (7 ∷ 8 ∷ []) $ free1 ! $ move ! (5 ∷ 6 ∷ []) $
         free1 ! $ free0 ! $
-        keep ! (0 ∷ 1 ∷ 2 ∷ 3 ∷ 4 ∷ []) $ by ! (exits r (zs .1 .0) e same0 (fields .0) (fields .1 .0))))))))))))))))))
+        keep ! (0 ∷ 1 ∷ 2 ∷ 3 ∷ 4 ∷ []) $ by ! (exits r (zs .1 .0) e same0 (fields .0) (fields .1 .0) (fields .1 .1 .0))))))))))))))))))
 
 module _ {M : Type 1} (𝓤 : URA M) (H : Heap 𝓤) (A : Atoms 𝓤) (W : Given 𝓤 H A) (at-mem : Memory → SProp 𝓤) (run : Routine → Fun 𝓤) where
   walks : (C : Calls 𝓤 H) (Λ : Loops 𝓤 H) → FmC 𝓤 H (W .laws) C → Triple 𝓤 (C #g) (By 𝓤 H A at-mem run) → Walks 𝓤 H A f.ended stayed (WpFn
@@ -328,4 +332,4 @@ wekshurag-capture-spec 𝓤 H 𝓜 𝓖 𝓡 =
     entered 𝓤 H (tripleOf 𝓤 H (𝓖 .A) f.signature (f.spec 𝓤 H (𝓖 .A) (𝓜 .mem) (𝓡 .run)))
     (tables 𝓤 H 𝓜 𝓡 code.env .C) (tables 𝓤 H 𝓜 𝓡 code.env .Λ) #f code.function (code.unfolded 𝓤 H 𝓜 𝓡)
     (meets 𝓤 H (𝓖 .A) (givenOf 𝓤 H 𝓜 𝓖) (𝓜 .mem) (𝓡 .run) (tablesOf 𝓤 H 𝓜 (tables 𝓤 H 𝓜 𝓡 code.env))
-    (cited 𝓤 H (By 𝓤 H (𝓖 .A) (𝓜 .mem) (𝓡 .run)) 𝓜 𝓡 code.env #g g-def.routine code.calls-pcm·capture (g-thm.met 𝓤 H 𝓜 𝓖 𝓡)))
+    (cited 𝓤 H (By 𝓤 H (𝓖 .A) (𝓜 .mem) (𝓡 .run)) 𝓜 𝓡 code.env #g g-def.routine code.calls-entries·capture (g-thm.met 𝓤 H 𝓜 𝓖 𝓡)))

@@ -1,4 +1,4 @@
--- `wekshurag_event` meets its contract: the card is copied out of its borrow and passed to `event::event`, of which
+-- `wekshurag_event` meets its contract: the card is copied out of its borrow and passed to `entries::event`, of which
 -- only its contract is known; the card that comes back is stored, and the borrow is closed at it. A walk of the MIR, written
 -- by tools/boundary.py.
 -- A slice's borrow is given up for good, to the callee.
@@ -66,24 +66,24 @@ use denote.Triple.Table.{entered, cited}
 use denote.Triple.Walked.{says, needs, Stays, stay-none, stay-dropped, stay-ref, gave-slice, walkOf, AllGo, goes-none, goes-dropped}
 use denote.Triple.Walked.{goes-ref, goes-gave-slice, Walks, ends-at, walked, walk-meets}
 use denote.Exit.{yes}
-use native.Mathlib.Omega.{arith}
 use lib.ListN.{take}
 use Rattle.meaning.specs.Card.{stepOf, leaves}
 use Rattle.rules.specs.Calls.{Request, Event}
 use Rattle.card.specs.Fit.{Fit}
+use Rattle.entries.specs.Entries.{answered}
 use Rattle.card.specs.declared.Card.{Card}
-use Rattle.event.specs.declared.EventAnswer.{EventAnswer}
+use Rattle.entries.specs.declared.QueueAnswer.{QueueAnswer}
 use Rattle.wekshurag.specs.declared.CallResult.{CallResult}
 use Rattle.card.proofs.Card as T
 use Rattle.card.proofs.Card.Laws as T′
-use Rattle.event.proofs.EventAnswer as S
-use Rattle.event.proofs.EventAnswer.Laws as S′
+use Rattle.entries.proofs.QueueAnswer as S
+use Rattle.entries.proofs.QueueAnswer.Laws as S′
 use Rattle.wekshurag.proofs.CallResult as O
 use Rattle.wekshurag.proofs.CallResult.Laws as O′
-use Rattle.event.proofs.event as g
-use Rattle.event.proofs.event.Symbol as g-def
-use Rattle.event.proofs.event.Symbol.{name as #g}
-use Rattle.event.proofs.event.Met as g-thm
+use Rattle.entries.proofs.event as g
+use Rattle.entries.proofs.event.Symbol as g-def
+use Rattle.entries.proofs.event.Symbol.{name as #g}
+use Rattle.entries.proofs.event.Met as g-thm
 use Rattle.wekshurag.proofs.wekshurag_event.Key.{name as #f}
 use Rattle.wekshurag.proofs.wekshurag_event as f
 use Rattle.wekshurag.proofs.wekshurag_event.Statement as stated
@@ -92,7 +92,7 @@ use Rattle.wekshurag.proofs.wekshurag_event.Code.Mir.{table}
 
 -- how what the callee returns lies in memory; the locals, by their places
 abbrev after-fields : Tys
-after-fields = tcons (tyInt w8) (tcons T′.mir tnil)
+after-fields = tcons (tyInt w8) (tcons (tyInt w8) (tcons (tyInt w64) (tcons T′.mir tnil)))
 
 after-is : S′.mir ≡ tyStruct (S.struct .name) after-fields
 after-is = refl
@@ -120,7 +120,13 @@ module _ {M : Type 1} (𝓤 : URA M) (H : Heap 𝓤) (l0 l1 l2 l3 l4 l5 l6 l7 l8
   at-answer : fieldOf ((spotOf 𝓤 H locals 6) .0) 0 ≡ some ((tyInt w8), 0)
   at-answer = refl
 
-  at-card : fieldOf ((spotOf 𝓤 H locals 6) .0) 1 ≡ some (T′.mir, 8)
+  at-queue : fieldOf ((spotOf 𝓤 H locals 6) .0) 1 ≡ some ((tyInt w8), 1)
+  at-queue = refl
+
+  at-count : fieldOf ((spotOf 𝓤 H locals 6) .0) 2 ≡ some ((tyInt w64), 8)
+  at-count = refl
+
+  at-card : fieldOf ((spotOf 𝓤 H locals 6) .0) 3 ≡ some (T′.mir, 16)
   at-card = refl
 
 abbrev stayed : Stays (f.ended .signature .params) (f.ended .kept)
@@ -161,8 +167,8 @@ module _ {M : Type 1} (𝓤 : URA M) (H : Heap 𝓤) (A : Atoms 𝓤) (W : Given
   abbrev at : List Val × (List Val × (List Val × (List Val × (Unit {0}))))
   at = (vptr b o ∷ [], (s0 ∷ [], ((vint w32 x1) ∷ [], ((vint w32 x2) ∷ [], tt))))
 
-  abbrev told : EventAnswer → CallResult
-  told r = (record { answer = (r .answer); count = 0 })
+  abbrev told : QueueAnswer → CallResult
+  told r = (record { answer = (r .answer); queue = (r .queue); count = (r .count) })
 
   abbrev Post : Val → SProp 𝓤
   Post = walkOf 𝓤 H A f.ended stayed (f.clauses 𝓤 H A at-mem run) .post (((κ, (κ0, tt)), (q, (q0, tt)), tt, x, at), tt)
@@ -188,21 +194,33 @@ module _ {M : Type 1} (𝓤 : URA M) (H : Heap 𝓤) (A : Atoms 𝓤) (W : Given
     ),
   ) (mach h ∷ [], (s0 ∷ [], ((vint w32 x1) ∷ [], ((vint w32 x2) ∷ [], tt))))) ∷ []) ∵ says ! fit $ frame ! $ done !
 
-  exits : (r : EventAnswer) (z0 : List ℕ) → (stepOf h (Event x1 x2) (x0 .now) ≡ leaves (r .card) (r .answer) 0 [] [] z0) × Fit (r .card) →
-      length z0 ≡ length (x0 .now) → Is u8 (r .answer) ((vint w8 (r .answer)) ∷ []) → ent 𝓤 (⋆ 𝓤 H A (‵ (fobs γ (T.the-row .coded .code
-      (r .card))) ∷ ‵ (fbor κ (Body (mem T.the-row) b o γ)) ∷ ‵ (flft κ q) ∷ (‵ (flft κ0 q0) ⊛ ‵ ftrue) ∷ ‵ (finally u8 (x0 .name) z0) ∷
-      [])) (Post (vstruct (vcons (vint w8 (r .answer)) (vcons (vint w64 0) vnil))))
-  exits r z0 e l0 is-answer =
+  exits : (r : QueueAnswer) (z0 : List ℕ) → (stepOf h (Event x1 x2) (x0 .now) ≡ leaves (r .card) (answered r) (r .count) [] [] z0) × Fit
+      (r .card) → length z0 ≡ length (x0 .now) → Is u8 (r .answer) ((vint w8 (r .answer)) ∷ []) → Is u8 (r .queue) ((vint w8 (r .queue))
+      ∷ []) → Is usize (r .count) ((vint w64 (r .count)) ∷ []) → ent 𝓤 (⋆ 𝓤 H A (‵ (fobs γ (T.the-row .coded .code (r .card))) ∷ ‵ (fbor
+      κ (Body (mem T.the-row) b o γ)) ∷ ‵ (flft κ q) ∷ (‵ (flft κ0 q0) ⊛ ‵ ftrue) ∷ ‵ (finally u8 (x0 .name) z0) ∷ [])) (Post (vstruct
+      (vcons (vint w8 (r .answer)) (vcons (vint w8 (r .queue)) (vcons (vint w64 (r .count)) vnil)))))
+  exits r z0 e l0 is-answer is-queue is-count =
       qed W (‵ (fobs γ (T.the-row .coded .code (r .card))) ∷ ‵ (fbor κ (Body (mem T.the-row) b o γ)) ∷ ‵ (flft κ q) ∷ (‵ (flft κ0 q0) ⊛ ‵
       ftrue) ∷ ‵ (finally u8 (x0 .name) z0) ∷ []) ∵
       suffices ! _ (ends-at 𝓤 H A f.ended stayed (f.clauses 𝓤 H A at-mem run) W (((κ, (κ0, tt)), (q, (q0, tt)), tt, x, at), tt) (vstruct
-      (vcons (vint w8 (r .answer)) (vcons (vint w64 0) vnil))) (told r) ((r .card), (z0, (tt, (tt, tt)))) (tt, (l0, (tt, (tt, tt))))) $
-      says ! e $
+      (vcons (vint w8 (r .answer)) (vcons (vint w8 (r .queue)) (vcons (vint w64 (r .count)) vnil)))) (told r) (
+        (r .card),
+        (
+          z0,
+          (
+            tt,
+            (
+              tt,
+              tt,
+            ),
+          ),
+        ),
+      ) (tt, (l0, (tt, (tt, tt))))) $ says ! e $
       move ! (2 ∷ 3 ∷ []) $ join ! $ frame ! $ feqI ! (List Val) (vptr b o ∷ []) (vptr b o ∷ []) refl $ fjoin3 ! $ nothing ! $ owned ! u32
       (Is u32) (uint-makes 𝓤 H A W w32) x2 _ (refl, fits2) $ fjoin ! $ owned ! u32 (Is u32) (uint-makes 𝓤 H A W w32) x1 _ (refl, fits1) $
       fjoin ! $ move ! (2 ∷ 0 ∷ []) $ fjoin ! $ move ! (1 ∷ 0 ∷ []) $ fjoin ! $
       owned ! O.the-row (Is O.the-row) (LL.makes O.the-type O′.the-plain 𝓤 H A) (told r) _ (LL.owes O.the-type O′.the-laws (told r)
-      (is-answer, ((refl, omega arith), tt))) $ move ! (1 ∷ 0 ∷ []) $ done !
+      (is-answer, (is-queue, (is-count, tt)))) $ move ! (1 ∷ 0 ∷ []) $ done !
 
   module _ (C : Calls 𝓤 H) (Λ : Loops 𝓤 H) (fm : FmC 𝓤 H (W .laws) C) (known : Triple 𝓤 (C #g) (By 𝓤 H A at-mem run)) where
     walk : Room u8 (length (x0 .now)) → Fit h → ent 𝓤 (onEntry 𝓤 H A f.signature (κ, (κ0, tt)) (q, (q0, tt)) x at) (WpFn 𝓤 H C Λ
@@ -241,13 +259,13 @@ module _ {M : Type 1} (𝓤 : URA M) (H : Heap 𝓤) (A : Atoms 𝓤) (W : Given
         calls-at ! fm (By 𝓤 H A at-mem run) known to (and-then ! (load ! (from ! (stop !)) (look ! 11 refl)) (and-then ! (load ! (from !
         (stop !)) (look ! 5 refl)) (and-then ! (load ! (from ! (stop !)) (look ! 15 refl)) (and-then ! (load ! (from ! (stop !)) (look !
         13 refl)) (no-more !))))) (λ w.
-        use1 W (later (any (λ (r : EventAnswer). ((‵ (flft κ0 q0) ⊛ ‵ ftrue) ⊛ ‵ (S.the-row .own r (w ∷ []))) ⊛ raw (ensured 𝓤 H A g.ended
+        use1 W (later (any (λ (r : QueueAnswer). ((‵ (flft κ0 q0) ⊛ ‵ ftrue) ⊛ ‵ (S.the-row .own r (w ∷ []))) ⊛ raw (ensured 𝓤 H A g.ended
         (g.clauses 𝓤 H A at-mem run) (κ0, tt) (h, (x0, (x1, (x2, tt)))) tt r)))) (id⊢ 𝓤 _) $ await ! tt $ pick ! (λ r.
         split ! $ move ! (1 ∷ []) $ use1 W (any (λ (zs : Unit {0} × (List ℕ × (Unit {0} × (Unit {0} × (Unit {0}))))). ‵ (lasts g.ended
-        (κ0, tt) (h, (x0, (x1, (x2, tt)))) zs) ⊛ raw (fact 𝓤 ((stepOf h (Event x1 x2) (x0 .now) ≡ leaves (r .card) (r .answer) 0 [] [] (zs
-        .1 .0)) × Fit (r .card))))) (id⊢ 𝓤 _) $ pick ! (λ zs.
-        split ! $ move ! (1 ∷ []) $ heard ! ((stepOf h (Event x1 x2) (x0 .now) ≡ leaves (r .card) (r .answer) 0 [] [] (zs .1 .0)) × Fit (r
-        .card)) (λ e.
+        (κ0, tt) (h, (x0, (x1, (x2, tt)))) zs) ⊛ raw (fact 𝓤 ((stepOf h (Event x1 x2) (x0 .now) ≡ leaves (r .card) (answered r) (r .count)
+        [] [] (zs .1 .0)) × Fit (r .card))))) (id⊢ 𝓤 _) $ pick ! (λ zs.
+        split ! $ move ! (1 ∷ []) $ heard ! ((stepOf h (Event x1 x2) (x0 .now) ≡ leaves (r .card) (answered r) (r .count) [] [] (zs .1
+        .0)) × Fit (r .card)) (λ e.
         fsplit ! $ drop ! $ fsplit ! $ fsplit ! $ move ! (1 ∷ []) $ feqL ! (λ same0. move ! (1 ∷ []) $ fsplit ! $ drop ! $ fsplit ! $ drop
         ! $ drop ! $
         -- [the last lists, the last first; the tokens and the result; the card's cell; the open borrow; obs; auth; the locals]
@@ -256,20 +274,38 @@ module _ {M : Type 1} (𝓤 : URA M) (H : Heap 𝓤) (A : Atoms 𝓤) (W : Given
         land ! (from ! (stop !)) (init ! 11 refl (LL.lawful S.the-type S′.the-laws 𝓤 H A W .typed r _ is .0)) $
         rewrite ! 11 (λ (v : Val). ‵ (fat fullShare S′.mir l6 0 v)) (ap only (LL.tells S.the-type S′.the-laws r (w ∷ []) is)) refl $
         rewrite ! 11 (λ (τ : Ty). ‵ (fat fullShare τ l6 0 (LL.val S.the-type S′.the-laws r))) after-is refl $
-        assigns ! (of-opd ! (load ! (from ! (fld ! {τ = T′.mir} {d = 8} (at-card 𝓤 H l0 l1 l2 l3 l4 l5 l6 l7 l8) (stop !))) (look-in ! 11
-        (sub ! {τs = after-fields} 1 {τ = T′.mir} {d = 8} refl (whole !))))) (from ! (hop ! (look ! 21 refl) (stop !))) (store-raw ! 3
-        refl (LL.lawful T.the-type T′.the-laws 𝓤 H A W .typed (r .card) _ (fields .1 .0) .0)) $
+        assigns ! (of-opd ! (load ! (from ! (fld ! {τ = T′.mir} {d = 16} (at-card 𝓤 H l0 l1 l2 l3 l4 l5 l6 l7 l8) (stop !))) (look-in ! 11
+        (sub ! {τs = after-fields} 3 {τ = T′.mir} {d = 16} refl (whole !))))) (from ! (hop ! (look ! 21 refl) (stop !))) (store-raw ! 3
+        refl (LL.lawful T.the-type T′.the-laws 𝓤 H A W .typed (r .card) _ (fields .1 .1 .1 .0) .0)) $
         assigns ! (agg ! (and-then ! (load ! (from ! (fld ! {τ = (tyInt w8)} {d = 0} (at-answer 𝓤 H l0 l1 l2 l3 l4 l5 l6 l7 l8) (stop !)))
-        (look-in ! 11 (sub ! {τs = after-fields} 0 {τ = (tyInt w8)} {d = 0} refl (whole !)))) (and-then ! (lit ! tt) (no-more !)))) (from
-        ! (stop !)) (init ! 23 refl (tt, (record { fits = fields .0 .1 }, (record { fits = omega arith }, tt)))) $
-        drop ! $ owned ! T.the-row (Is T.the-row) (LL.makes T.the-type T′.the-plain 𝓤 H A) (r .card) _ (fields .1 .0) $ move ! (3 ∷ 0 ∷ 4
-        ∷ 5 ∷ 6 ∷ []) $ closes ! tt T.the-row (r .card) (LL.vals T.the-type T′.the-laws (r .card)) b o $
+        (look-in ! 11 (sub ! {τs = after-fields} 0 {τ = (tyInt w8)} {d = 0} refl (whole !)))) (and-then ! (load ! (from ! (fld ! {τ =
+        (tyInt w8)} {d = 1} (at-queue 𝓤 H l0 l1 l2 l3 l4 l5 l6 l7 l8) (stop !))) (look-in ! 11 (sub ! {τs = after-fields} 1 {τ = (tyInt
+        w8)} {d = 1} refl (whole !)))) (and-then ! (load ! (from ! (fld ! {τ = (tyInt w64)} {d = 8} (at-count 𝓤 H l0 l1 l2 l3 l4 l5 l6 l7
+        l8) (stop !))) (look-in ! 11 (sub ! {τs = after-fields} 2 {τ = (tyInt w64)} {d = 8} refl (whole !)))) (no-more !))))) (from !
+        (stop !)) (init ! 23 refl (
+          tt,
+          (
+            record { fits = fields .0 .1 },
+            (
+              record { fits = fields .1 .0 .1 },
+              (
+                record {
+                  fits = fields .1 .1
+                      .0 .1;
+                },
+                tt,
+              ),
+            ),
+          ),
+        )) $
+        drop ! $ owned ! T.the-row (Is T.the-row) (LL.makes T.the-type T′.the-plain 𝓤 H A) (r .card) _ (fields .1 .1 .1 .0) $ move ! (3 ∷
+        0 ∷ 4 ∷ 5 ∷ 6 ∷ []) $ closes ! tt T.the-row (r .card) (LL.vals T.the-type T′.the-laws (r .card)) b o $
         returns ! (look ! 21 refl) $ forget ! 5 refl $ forget ! 7 refl $ forget ! 9 refl $ forget ! 11 refl $ forget ! 13 refl $ forget !
         15 refl $ forget ! 17 refl $ forget ! 19 refl $ forget ! 21 refl $
         move ! (21 ∷ 22 ∷ []) $ free1 ! $ move ! (19 ∷ 20 ∷ []) $ free1 ! $ move ! (17 ∷ 18 ∷ []) $ free1 ! $ move ! (15 ∷ 16 ∷ []) $
         free1 ! $ move ! (13 ∷ 14 ∷ []) $ free1 ! $ move ! (11 ∷ 12 ∷ []) $ free1 ! $ move ! (9 ∷ 10 ∷ []) $ free1 ! $ move ! (7 ∷ 8 ∷ [])
         $ free1 ! $ move ! (5 ∷ 6 ∷ []) $ free1 ! $ free0 ! $
-        keep ! (0 ∷ 1 ∷ 2 ∷ 3 ∷ 4 ∷ []) $ by ! (exits r (zs .1 .0) e same0 (fields .0)))))))))))))))))))
+        keep ! (0 ∷ 1 ∷ 2 ∷ 3 ∷ 4 ∷ []) $ by ! (exits r (zs .1 .0) e same0 (fields .0) (fields .1 .0) (fields .1 .1 .0)))))))))))))))))))
 
 module _ {M : Type 1} (𝓤 : URA M) (H : Heap 𝓤) (A : Atoms 𝓤) (W : Given 𝓤 H A) (at-mem : Memory → SProp 𝓤) (run : Routine → Fun 𝓤) where
   walks : (C : Calls 𝓤 H) (Λ : Loops 𝓤 H) → FmC 𝓤 H (W .laws) C → Triple 𝓤 (C #g) (By 𝓤 H A at-mem run) → Walks 𝓤 H A f.ended stayed (WpFn
@@ -315,4 +351,4 @@ wekshurag-event-spec 𝓤 H 𝓜 𝓖 𝓡 =
     entered 𝓤 H (tripleOf 𝓤 H (𝓖 .A) f.signature (f.spec 𝓤 H (𝓖 .A) (𝓜 .mem) (𝓡 .run)))
     (tables 𝓤 H 𝓜 𝓡 code.env .C) (tables 𝓤 H 𝓜 𝓡 code.env .Λ) #f code.function (code.unfolded 𝓤 H 𝓜 𝓡)
     (meets 𝓤 H (𝓖 .A) (givenOf 𝓤 H 𝓜 𝓖) (𝓜 .mem) (𝓡 .run) (tablesOf 𝓤 H 𝓜 (tables 𝓤 H 𝓜 𝓡 code.env))
-    (cited 𝓤 H (By 𝓤 H (𝓖 .A) (𝓜 .mem) (𝓡 .run)) 𝓜 𝓡 code.env #g g-def.routine code.calls-event·event (g-thm.met 𝓤 H 𝓜 𝓖 𝓡)))
+    (cited 𝓤 H (By 𝓤 H (𝓖 .A) (𝓜 .mem) (𝓡 .run)) 𝓜 𝓡 code.env #g g-def.routine code.calls-entries·event (g-thm.met 𝓤 H 𝓜 𝓖 𝓡)))
