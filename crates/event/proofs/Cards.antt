@@ -21,7 +21,7 @@ use Rattle.rules.specs.Control.{noJack}
 use Rattle.rules.specs.Device.{Rest, Device, Queue, withJacks, streamAt}
 use Rattle.rules.specs.Numbers.{jackConnected, jackDisconnected, eventQueue}
 use Rattle.meaning.specs.Card.{restOf, deviceOf, stepOf, leaves}
-use Rattle.event_queue.specs.Attempts.{holding, resultIn, sentOf}
+use Rattle.event_queue.specs.Attempts.{holding, sentIn, sentOf}
 use Rattle.event.specs.Event.{cardConnected, cardHolding, withRest}
 use Rattle.event_queue.specs.declared.Attempt.{Attempt}
 
@@ -102,8 +102,8 @@ module _ (c : Card) (f : Fit c) where
         )
 
     pub sent-leaves : (code data′ : ℕ) (m after : List ℕ)
-        → sentOf code data′ (holding (c .registers) (getD (c .queues) eventQueue noCounters) (restOf c)) m ≡ resultIn (restOf c) a after
-        → ended (sentOf code data′ (restOf c) m) (deviceOf c)
+        → sentOf code data′ (holding (c .registers) (getD (c .queues) eventQueue noCounters) (restOf c)) m ≡ sentIn (restOf c) a after
+        → ended (sentOf code data′ (restOf c) m .result) (deviceOf c)
         ≡ leaves (cardHolding (a .registers) (a .counters) c) (a .answer) 0 [] [] after
     unfolding restOf
     sent-leaves code data′ m after h = rw (h, held-device)
@@ -125,7 +125,7 @@ recorded-keeps r code data′ = kept (eqb code jackConnected) (eqb code jackDisc
 tested : (r : Rest) (code data′ : ℕ) (m : List ℕ)
     → eventOf r code data′ m
     ≡ admitted r m (λ answer. refused answer r m)
-    (cond (eventAllowed r code data′) (sentOf code data′ (recorded r code data′) m) (refused eventNotAllowed r m))
+    (cond (eventAllowed r code data′) (sentOf code data′ (recorded r code data′) m .result) (refused eventNotAllowed r m))
 unfolding eventOf
 tested r code data′ m = rw (recorded-keeps r code data′ .0, recorded-keeps r code data′ .1)
 
@@ -134,7 +134,7 @@ module _ (c : Card) (code data′ : ℕ) (m : List ℕ) where
   byTests =
       cond (eqb (length m) (c .«ram_len»))
       (cond (live (c .registers))
-      (cond (eventAllowed (restOf c) code data′) (sentOf code data′ (recorded (restOf c) code data′) m) (refused eventNotAllowed (restOf c) m))
+      (cond (eventAllowed (restOf c) code data′) (sentOf code data′ (recorded (restOf c) code data′) m .result) (refused eventNotAllowed (restOf c) m))
       (refused notLive (restOf c) m))
       (refused lengthDiffers (restOf c) m)
 
@@ -147,10 +147,10 @@ module _ (c : Card) (code data′ : ℕ) (m : List ℕ) where
   event-refused number h = rw (event-by ∙ h)
 
   -- an event that is sent, from the card `n` in which it is recorded
-  pub event-sent : (n : Card) (o : Step (Device Queue)) → byTests ≡ sentOf code data′ (recorded (restOf c) code data′) m
+  pub event-sent : (n : Card) (o : Step (Device Queue)) → byTests ≡ sentOf code data′ (recorded (restOf c) code data′) m .result
       → deviceOf n ≡ withRest (recorded (restOf c) code data′) (deviceOf c)
-      → ended (sentOf code data′ (restOf n) m) (deviceOf n) ≡ o
+      → ended (sentOf code data′ (restOf n) m .result) (deviceOf n) ≡ o
       → stepOf c (Event code data′) m ≡ o
   unfolding deviceOf
   event-sent n o h d x =
-      rw (event-by ∙ h) (ap (λ (v : Device Queue). ended (sentOf code data′ (v .rest) m) v) (sym d) ∙ x)
+      rw (event-by ∙ h) (ap (λ (v : Device Queue). ended (sentOf code data′ (v .rest) m .result) v) (sym d) ∙ x)

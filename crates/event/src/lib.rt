@@ -32,7 +32,7 @@ pub struct EventAnswer {
 // The event sent from the card, in which its state is recorded.
 fn send_from(card: Card, m: &mut [u8], code: u32, data: u32) -> EventAnswer
     requires { ⌜ Fit card ⌝ }
-    ensures { λ r. ⌜ (ended (sentOf code «data» (restOf card) (now (m .entry))) (deviceOf card)
+    ensures { λ r. ⌜ (ended (sentOf code «data» (restOf card) (now (m .entry)) .result) (deviceOf card)
         ≡ leaves (r .card) (r .answer) 0 [] [] (now (m .exit)))
         × Fit (r .card) ⌝ }
 {

@@ -26,7 +26,7 @@ use Rattle.card.specs.declared.Counters.{Counters}
 use Rattle.rules.specs.Calls.{Result, Ended, Further, refused, broke, eventBytes, eventPosted, eventRoom, eventChain, tried, onward, eventRun}
 use Rattle.rules.specs.Device.{Rest, bytesOf, signalledIf, oneTaken}
 use Rattle.rules.specs.Numbers.{eventQueue}
-use Rattle.event_queue.specs.Attempts.{holding, resultIn, triedIn, postingOf, attemptOf}
+use Rattle.event_queue.specs.Attempts.{holding, resultIn, sentIn, triedIn, postingOf, attemptOf}
 use Rattle.event_queue.specs.declared.Attempt.{Attempt}
 
 -- ---- completing
@@ -57,15 +57,15 @@ resultOn r g q k =
       mem = k .memory;
     }
 
-pub posted-result : (over : Bool) (r : Rest) (g : Registers) (q : Counters) (m after : List ℕ) (head : ℕ) (reply : List Range) (bytes : List ℕ) (p : Posted)
+pub posted-result : (over : Bool) (left : ℕ) (r : Rest) (g : Registers) (q : Counters) (m after : List ℕ) (head : ℕ) (reply : List Range) (bytes : List ℕ) (p : Posted)
     → completion after p ≡ postingOf m (getD (g .pages) eventQueue (record { 0 = 0 })) (q .completed) head reply bytes
-    → eventPosted (holding g q r) m head reply bytes ≡ resultIn r (attemptOf over g q p) after
+    → eventPosted (holding g q r) m head reply bytes ≡ resultIn r (attemptOf over left g q p) after
 unfolding eventPosted postingOf resultOn
-posted-result over r g q m after head reply bytes p h = ap (resultOn r g q) (sym h)
+posted-result over left r g q m after head reply bytes p h = ap (resultOn r g q) (sym h)
 
 -- ---- one entry
 
-module _ (code data′ : ℕ) (g : Registers) (q : Counters) (m : List ℕ) where
+module _ (code data′ left : ℕ) (g : Registers) (q : Counters) (m : List ℕ) where
   -- the next head of the event queue
   abbrev pub nextHead : Head
   nextHead = headOf m (getD (g .pages) eventQueue (record { 0 = 0 })) (sizeOf eventQueue) (q .taken)
@@ -92,28 +92,28 @@ module _ (code data′ : ℕ) (g : Registers) (q : Counters) (m : List ℕ) wher
     Posts reply bytes = completion after p ≡ postingOf m (getD (g .pages) eventQueue (record { 0 = 0 })) (q .completed) (n .0) reply bytes
 
     pub tried-delivered : (reply : List Range) → Found n (some reply) → Posts reply (eventBytes code data′) → (r : Rest)
-        → tried code data′ (holding g q r) m ≡ triedIn r (attemptOf true g q p) after
+        → tried code data′ (holding g q r) m ≡ triedIn r (attemptOf true left g q p) after
     tried-delivered reply f h r =
-        tried-at n (some reply) f r ∙ ap Ended (posted-result true r g q m after (n .0) reply (eventBytes code data′) p h)
+        tried-at n (some reply) f r ∙ ap Ended (posted-result true left r g q m after (n .0) reply (eventBytes code data′) p h)
 
-    pub tried-passed : Found n none → Posts [] [] → (r : Rest) → tried code data′ (holding g q r) m ≡ triedIn r (attemptOf false g q p) after
-    tried-passed f h r = tried-at n none f r ∙ ap Further (posted-result false r g q m after (n .0) [] [] p h)
+    pub tried-passed : Found n none → Posts [] [] → (r : Rest) → tried code data′ (holding g q r) m ≡ triedIn r (attemptOf false left g q p) after
+    tried-passed f h r = tried-at n none f r ∙ ap Further (posted-result false left r g q m after (n .0) [] [] p h)
 
 -- ---- the entries, one after the other
 
 module _ (code data′ n : ℕ) (r : Rest) (m : List ℕ) where
-  pub run-none : n ≡ 0 → eventRun code data′ n r m ≡ refused noEventBuffer r m
+  pub run-none : n ≡ 0 → eventRun code data′ n r m ≡ record { result = refused noEventBuffer r m; left = 0 }
   unfolding eventRun
   run-none h = rw h
 
-  run-more : (k : ℕ) → n ≡ k + 1 → eventRun code data′ n r m ≡ onward code data′ (tried code data′ r m) (eventRun code data′ k)
+  run-more : (k : ℕ) → n ≡ k + 1 → eventRun code data′ n r m ≡ onward code data′ (tried code data′ r m) k (eventRun code data′ k)
   unfolding eventRun
   run-more k h = rw (h, add-one)
 
   module _ (r′ : Rest) (a : Attempt) (after : List ℕ) (h : tried code data′ r m ≡ triedIn r′ a after) where
     -- an attempt that ended ends the run
-    pub run-ended : (k : ℕ) → n ≡ k + 1 → a .ended ≡ true → eventRun code data′ n r m ≡ resultIn r′ a after
-    run-ended k e t = run-more k e ∙ rw (h, t)
+    pub run-ended : (k : ℕ) → n ≡ k + 1 → a .left ≡ k → a .ended ≡ true → eventRun code data′ n r m ≡ sentIn r′ a after
+    run-ended k e l t = run-more k e ∙ rw (h, t, l)
 
     -- else the run goes on from what it left
     pub run-further : (k : ℕ) → n ≡ k + 1 → a .ended ≡ false

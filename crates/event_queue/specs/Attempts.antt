@@ -17,7 +17,7 @@ use Rattle.ring.specs.declared.Cause.{Cause}
 use Rattle.ring.specs.declared.Posted.{Posted}
 use Rattle.card.specs.declared.Counters.{Counters}
 use Rattle.rules.specs.Answers.{brokenAnswer}
-use Rattle.rules.specs.Calls.{Result, Tried, Ended, Further, eventFound}
+use Rattle.rules.specs.Calls.{Result, Sent, Tried, Ended, Further, eventFound}
 use Rattle.rules.specs.Device.{Rest, withRegisters, withEvent, pageOf, signalledIf, oneTaken}
 use Rattle.rules.specs.Numbers.{eventQueue}
 use Rattle.event_queue.specs.declared.Attempt.{Attempt}
@@ -27,9 +27,12 @@ use Rattle.event_queue.specs.declared.Room.{Room}
 abbrev pub holding : Registers → Counters → Rest → Rest
 holding g q r = withRegisters g (withEvent q r)
 
--- what an attempt makes of the rest
+-- what an attempt makes of the rest, and the entries left
 abbrev pub resultIn : Rest → Attempt → List ℕ → Result
 resultIn r a m = record { rest = holding (a .registers) (a .counters) r; answer = a .answer; count = 0; mem = m }
+
+abbrev pub sentIn : Rest → Attempt → List ℕ → Sent
+sentIn r a m = record { result = resultIn r a m; left = a .left }
 
 abbrev pub triedIn : Rest → Attempt → List ℕ → Tried
 triedIn r a m = cond (a .ended) (Ended (resultIn r a m)) (Further (resultIn r a m))
@@ -44,22 +47,23 @@ postingOf m page completed head reply bytes =
     record { memory = after; completed = nextOf completed; interrupt = interrupts after (baseOf page) (sizeOf eventQueue) }
 
 -- one entry taken and completed
-abbrev pub attemptOf : Bool → Registers → Counters → Posted → Attempt
-attemptOf over g q p =
+abbrev pub attemptOf : Bool → ℕ → Registers → Counters → Posted → Attempt
+attemptOf over left g q p =
     record {
       ended = over;
+      left = left;
       answer = plain done;
       registers = signalledIf (p .interrupt) g;
       counters = record { taken = oneTaken q .taken; completed = p .completed };
     }
 
 -- the queue is broken, or no chain has room
-abbrev pub haltedBy : Cause → Registers → Counters → Attempt
-haltedBy cause g q = record { ended = true; answer = brokenAnswer eventQueue cause; registers = broken g; counters = q }
+abbrev pub haltedBy : Cause → ℕ → Registers → Counters → Attempt
+haltedBy cause left g q = record { ended = true; left = left; answer = brokenAnswer eventQueue cause; registers = broken g; counters = q }
 
 abbrev pub withoutBuffer : Registers → Counters → Attempt
-withoutBuffer g q = record { ended = true; answer = plain noEventBuffer; registers = g; counters = q }
+withoutBuffer g q = record { ended = true; left = 0; answer = plain noEventBuffer; registers = g; counters = q }
 
 -- an event that may be sent, over the rest in which its state is recorded
-abbrev pub sentOf : ℕ → ℕ → Rest → List ℕ → Result
+abbrev pub sentOf : ℕ → ℕ → Rest → List ℕ → Sent
 sentOf code data′ r m = eventFound code data′ r m (checkOf m (pageOf r eventQueue) (sizeOf eventQueue) (r .event .taken) 0)

@@ -12,7 +12,7 @@ ghost use Rattle.ring.specs.Rules.{baseOf, completion};
 ghost use Rattle.rules.specs.Calls.{eventRoom, eventBytes, tried, eventRun};
 ghost use Rattle.rules.specs.Device.{Rest};
 ghost use Rattle.rules.specs.Numbers.{eventQueue};
-ghost use Rattle.event_queue.specs.Attempts.{holding, roomIn, postingOf, attemptOf, haltedBy, withoutBuffer, resultIn, triedIn, sentOf};
+ghost use Rattle.event_queue.specs.Attempts.{holding, roomIn, postingOf, attemptOf, haltedBy, withoutBuffer, sentIn, triedIn, sentOf};
 use card::Counters;
 use counts::DescriptorNumber;
 use counts::PageNumber;
@@ -25,9 +25,11 @@ use ring::Posted;
 // The number of the event queue.
 pub const NUMBER: usize = 1;
 
-// Where an event stands after an entry was tried: `ended`, it was delivered or can't be.
+// Where an event stands after an entry was tried: `ended`, it was delivered or can't be; so many
+// new entries are left.
 pub struct Attempt {
     pub ended: bool,
+    pub left: u16,
     pub answer: Answer,
     pub registers: Registers,
     pub counters: Counters,
@@ -126,9 +128,15 @@ fn pass_over(m: &mut [u8], page: PageNumber, completed: u16, head: DescriptorNum
 }
 
 // One entry taken and completed; the guest may want an interrupt.
-fn counted(ended: bool, registers: Registers, counters: Counters, posted: Posted) -> Attempt
+fn counted(
+    ended: bool,
+    left: u16,
+    registers: Registers,
+    counters: Counters,
+    posted: Posted,
+) -> Attempt
     requires { ⌜ FitRegisters registers ⌝ }
-    ensures { λ r. ⌜ (r ≡ attemptOf ended registers counters posted) × FitRegisters (r .registers) ⌝ }
+    ensures { λ r. ⌜ (r ≡ attemptOf ended left registers counters posted) × FitRegisters (r .registers) ⌝ }
 {
     let after = Counters {
         taken: std::num::wrapping_add_u16(counters.taken, 1),
@@ -137,6 +145,7 @@ fn counted(ended: bool, registers: Registers, counters: Counters, posted: Posted
     if posted.interrupt {
         return Attempt {
             ended: ended,
+            left: left,
             answer: registers::plain(registers::DONE),
             registers: registers.signal(),
             counters: after,
@@ -144,6 +153,7 @@ fn counted(ended: bool, registers: Registers, counters: Counters, posted: Posted
     }
     Attempt {
         ended: ended,
+        left: left,
         answer: registers::plain(registers::DONE),
         registers: registers,
         counters: after,
@@ -151,12 +161,13 @@ fn counted(ended: bool, registers: Registers, counters: Counters, posted: Posted
 }
 
 // The event can't be delivered: the queue is broken.
-fn halted(registers: Registers, counters: Counters, cause: Cause) -> Attempt
+fn halted(left: u16, registers: Registers, counters: Counters, cause: Cause) -> Attempt
     requires { ⌜ FitRegisters registers ⌝ }
-    ensures { λ r. ⌜ (r ≡ haltedBy cause registers counters) × FitRegisters (r .registers) ⌝ }
+    ensures { λ r. ⌜ (r ≡ haltedBy cause left registers counters) × FitRegisters (r .registers) ⌝ }
 {
     Attempt {
         ended: true,
+        left: left,
         answer: rules::broken_answer(NUMBER as u8, cause),
         registers: registers.break_down(),
         counters: counters,
@@ -169,15 +180,17 @@ fn without_buffer(registers: Registers, counters: Counters) -> Attempt
 {
     Attempt {
         ended: true, // there is no entry to try
+        left: 0,
         answer: registers::plain(registers::NO_EVENT_BUFFER),
         registers: registers,
         counters: counters,
     }
 }
 
-// The next entry of the event queue, tried.
+// The next entry of the event queue, tried: so many are left after it.
 fn try_entry(
     m: &mut [u8],
+    left: u16,
     registers: Registers,
     counters: Counters,
     code: u32,
@@ -185,21 +198,21 @@ fn try_entry(
 ) -> Attempt
     requires { ⌜ FitRegisters registers ⌝ }
     ensures { λ r. ⌜ ((rest : Rest) → tried code «data» (holding registers counters rest) (now (m .entry)) ≡ triedIn rest r (now (m .exit)))
-        × FitRegisters (r .registers) ⌝ }
+        × FitRegisters (r .registers) × (r .left ≡ left) ⌝ }
 {
     let page = registers.pages[NUMBER];
     let size = queue_size();
     match ring::next_head(m, page, size, counters.taken) {
-        ring::Head::Broken(cause) => halted(registers, counters, cause),
+        ring::Head::Broken(cause) => halted(left, registers, counters, cause),
         ring::Head::At(head) => {
             let indirect = registers.features / registers::HOST_FEATURES % 2 == 1;
             let room = room_at(m, page, head, indirect);
             if room.fits {
                 let posted = deliver(m, page, counters.completed, head, room.reply, code, data);
-                return counted(true, registers, counters, posted);
+                return counted(true, left, registers, counters, posted);
             }
             let posted = pass_over(m, page, counters.completed, head);
-            counted(false, registers, counters, posted)
+            counted(false, left, registers, counters, posted)
         }
     }
 }
@@ -214,14 +227,14 @@ fn try_entries(
     data: u32,
 ) -> Attempt
     requires { ⌜ FitRegisters registers ⌝ }
-    ensures { λ r. ⌜ ((rest : Rest) → eventRun code «data» new (holding registers counters rest) (now (m .entry)) ≡ resultIn rest r (now (m .exit)))
+    ensures { λ r. ⌜ ((rest : Rest) → eventRun code «data» new (holding registers counters rest) (now (m .entry)) ≡ sentIn rest r (now (m .exit)))
         × FitRegisters (r .registers) × (r .ended ≡ true) ⌝ }
 {
     let mut file = registers;
     let mut counts = counters;
     let mut left = new;
     while 0 < left {
-        let attempt = try_entry(m, file, counts, code, data);
+        let attempt = try_entry(m, left - 1, file, counts, code, data);
         if attempt.ended {
             return attempt;
         }
@@ -235,14 +248,14 @@ fn try_entries(
 // The event queue is checked, then its new entries are tried: the attempt that is returned has ended.
 pub fn send(m: &mut [u8], registers: Registers, counters: Counters, code: u32, data: u32) -> Attempt
     requires { ⌜ FitRegisters registers ⌝ }
-    ensures { λ r. ⌜ ((rest : Rest) → sentOf code «data» (holding registers counters rest) (now (m .entry)) ≡ resultIn rest r (now (m .exit)))
+    ensures { λ r. ⌜ ((rest : Rest) → sentOf code «data» (holding registers counters rest) (now (m .entry)) ≡ sentIn rest r (now (m .exit)))
         × FitRegisters (r .registers) × (r .ended ≡ true) ⌝ }
 {
     let page = registers.pages[NUMBER];
     let size = queue_size();
     match ring::check_queue(m, page, size, counters.taken, 0) {
         ring::Check::Idle => without_buffer(registers, counters),
-        ring::Check::Broken(cause) => halted(registers, counters, cause),
+        ring::Check::Broken(cause) => halted(0, registers, counters, cause),
         ring::Check::New(new) => try_entries(m, registers, counters, new, code, data),
     }
 }

@@ -53,8 +53,8 @@ all = taken 0 16 7 64 wellFormed ∷ taken 1 24 4 72 refused ∷ taken 3 32 8 80
 
 abbrev pub answered : List Entry
 answered =
-    record { head = 0; length = 8; ending = finished; status = some sOk }
-    ∷ record { head = 1; length = 8; ending = illFormed; status = some sIoErr }
+    record { head = 0; length = 8; ending = finished; status = some sOk; latency = 0 }
+    ∷ record { head = 1; length = 8; ending = illFormed; status = some sIoErr; latency = 0 }
     ∷ []
 
 abbrev pub begun : List Note
@@ -84,7 +84,7 @@ pub given-up :
     after (plays ++ Control ∷ Control ∷ [])
     ≡ record {
       takings = all;
-      entries = answered ++ record { head = 3; length = 8; ending = released; status = some sIoErr } ∷ [];
+      entries = answered ++ record { head = 3; length = 8; ending = released; status = some sIoErr; latency = 0 } ∷ [];
       notes = heard;
       losses = loss 2 2 ∷ loss 2 3 ∷ [];
     }

@@ -504,7 +504,7 @@ release-of-a-broken-queue = refl
 
 -- the play queue at a page, indirect tables negotiated
 abbrev pub playAt : ℕ → Virtqueue
-playAt page = record { direction = output; page = record { 0 = page }; negotiated = true }
+playAt page = record { direction = output; page = record { 0 = page }; negotiated = true; latency = 0 }
 
 -- what a RELEASE does to the play queue, at page 1, with counters about to wrap: a message in work, two of its three bytes
 -- played; behind it, at ring places 255 and 0, heads 1 and 9. The reply to 1 lies over the start of the available ring: the index
@@ -779,7 +779,7 @@ capturing done mem bytes host room =
     }
 
 pub capture-moves :
-    moved (countersOf input) (record { direction = input; page = record { 0 = 1 }; negotiated = true }) (capturing 0 (replicate 6 0) [] (7 ∷ 8 ∷ 9 ∷ []) 3)
+    moved (countersOf input) (record { direction = input; page = record { 0 = 1 }; negotiated = true; latency = 0 }) (capturing 0 (replicate 6 0) [] (7 ∷ 8 ∷ 9 ∷ []) 3)
     ≡ capturing 2 (0 ∷ 7 ∷ 0 ∷ 0 ∷ 8 ∷ 0 ∷ []) (7 ∷ 8 ∷ []) (9 ∷ []) 1
 unfolding runs
 capture-moves = refl

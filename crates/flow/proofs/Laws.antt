@@ -146,8 +146,8 @@ advanced-fit len room f n bytes framing t b e =
 -- the message's count gone, with the counters and the interrupt of a completion
 pub ended-run : (v : rules.Virtqueue) (e : rules.Ending) (code : ℕ) (m host : List ℕ) (f : Flow) → Busy f
     → some code ≡ statusOf (v .direction) e rules.wellFormed
-    → runOf (endedBy (answeredOf (v .direction) m (v .page) (f .counters .completed) (f .message .head .0) (rangesOf (f .message .reply)) (some code) (f .message .done)) f)
-    (answeredOf (v .direction) m (v .page) (f .counters .completed) (f .message .head .0) (rangesOf (f .message .reply)) (some code) (f .message .done) .memory) host
+    → runOf (endedBy (answeredOf (v .direction) m (v .page) (f .counters .completed) (f .message .head .0) (rangesOf (f .message .reply)) (some code) (v .latency) (f .message .done)) f)
+    (answeredOf (v .direction) m (v .page) (f .counters .completed) (f .message .head .0) (rangesOf (f .message .reply)) (some code) (v .latency) (f .message .done) .memory) host
     ≡ completed (countersOf (v .direction)) v e (runOf f m host)
 unfolding runOf completed answeredOf
 ended-run v e code m host f busy s = rw (busy, ← s)
@@ -194,8 +194,8 @@ module _ (v : rules.Virtqueue) (m host : List ℕ) (f : Flow) (busy : Busy f) (g
 -- an ill-formed chain
 pub refused-run : (v : rules.Virtqueue) (t : rules.Taking) (status : Option ℕ) (m host : List ℕ) (f : Flow)
     → f .message .count ≡ 0 → status ≡ statusOf (v .direction) rules.illFormed (t .form)
-    → runOf (refusedBy (answeredOf (v .direction) m (v .page) (f .counters .completed) (t .head) (t .reply) status 0) f)
-    (answeredOf (v .direction) m (v .page) (f .counters .completed) (t .head) (t .reply) status 0 .memory) host
+    → runOf (refusedBy (answeredOf (v .direction) m (v .page) (f .counters .completed) (t .head) (t .reply) status (v .latency) 0) f)
+    (answeredOf (v .direction) m (v .page) (f .counters .completed) (t .head) (t .reply) status (v .latency) 0 .memory) host
     ≡ refusedIn v t (runOf f m host)
 unfolding runOf completed answeredOf
 refused-run v t status m host f free s = rw (free, s)

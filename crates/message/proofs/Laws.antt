@@ -33,10 +33,10 @@ le-of-four (a ∷ b ∷ c ∷ []) h = refl
 le-of-four (a ∷ b ∷ c ∷ e ∷ []) h = refl
 le-of-four (a ∷ b ∷ c ∷ e ∷ f ∷ l) h = absurd (omega arith)
 
--- a status is its code, then four zeros
-pub status-put : (code : ℕ) → put 4 (replicate 8 0) 0 code ≡ statusBytes code
+-- a status is its code, then its latency
+pub status-put : (code latency : ℕ) → put 4 (put 4 (replicate 8 0) 0 code) 4 latency ≡ statusBytes code latency
 unfolding put rules.bytesOf
-status-put code = refl
+status-put code latency = refl
 
 -- a taking goes by the outcome of the walk
 pub taken-by : (v : rules.Virtqueue) (m : List ℕ) (head : ℕ) (o : Outcome)
@@ -45,14 +45,14 @@ unfolding takingOf
 taken-by v m head o h = ap (walkedTaking (v .direction) m head) h
 
 -- a completion whose eight bytes go to the reply's last eight is an answer
-pub completed-answer : (d : rules.Direction) (m : List ℕ) (page : PageNumber) (completed : ℕ) (head : DescriptorNumber) (reply : List Range) (code recorded : ℕ)
-    → completedOf m page (sizeOf (rules.queueNumber d)) completed head (answeredLength d recorded) reply (total reply - 8) (statusBytes code) 8
-    ≡ answeredOf d m page completed (head .0) reply (some code) recorded
+pub completed-answer : (d : rules.Direction) (m : List ℕ) (page : PageNumber) (completed : ℕ) (head : DescriptorNumber) (reply : List Range) (code latency recorded : ℕ)
+    → completedOf m page (sizeOf (rules.queueNumber d)) completed head (answeredLength d recorded) reply (total reply - 8) (statusBytes code latency) 8
+    ≡ answeredOf d m page completed (head .0) reply (some code) latency recorded
 unfolding completedOf postOf answeredOf rules.bytesOf
-completed-answer rules.output m page completed head reply code recorded =
-    rw (putAt-take 8 m (drop (total reply - 8) (places reply)) (statusBytes code) (omega arith))
-completed-answer rules.input m page completed head reply code recorded =
-    rw (putAt-take 8 m (drop (total reply - 8) (places reply)) (statusBytes code) (omega arith))
+completed-answer rules.output m page completed head reply code latency recorded =
+    rw (putAt-take 8 m (drop (total reply - 8) (places reply)) (statusBytes code latency) (omega arith))
+completed-answer rules.input m page completed head reply code latency recorded =
+    rw (putAt-take 8 m (drop (total reply - 8) (places reply)) (statusBytes code latency) (omega arith))
 
 -- a chain without ranges, that can't be walked
 pub no-ranges-fit : (len : ℕ) (f : Fault) (head : DescriptorNumber) → FitTaken len (record { form = Unwalked f; head = head; request = noRanges; reply = noRanges })

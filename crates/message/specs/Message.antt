@@ -26,7 +26,7 @@ directionOf Input = rules.input
 
 -- a stream's queue as the guest laid it out; the same for a direction that the caller knows
 abbrev pub virtqueueAs : rules.Direction → Virtqueue → rules.Virtqueue
-virtqueueAs d q = record { direction = d; page = q .page; negotiated = q .indirect }
+virtqueueAs d q = record { direction = d; page = q .page; negotiated = q .indirect; latency = q .latency }
 
 abbrev pub virtqueueIn : Virtqueue → rules.Virtqueue
 virtqueueIn q = virtqueueAs (directionOf (q .direction)) q
@@ -60,8 +60,8 @@ abbrev pub answeredLength : rules.Direction → ℕ → ℕ
 answeredLength d recorded = usedLength d (some 0) recorded
 
 -- one completion: status, used element and index, and whether an interrupt is wanted
-unfoldable pub answeredOf : rules.Direction → List ℕ → PageNumber → ℕ → ℕ → List Range → Option ℕ → ℕ → Completion
-answeredOf d m page completed head reply status recorded =
+unfoldable pub answeredOf : rules.Direction → List ℕ → PageNumber → ℕ → ℕ → List Range → Option ℕ → ℕ → ℕ → Completion
+answeredOf d m page completed head reply status latency recorded =
     let after : List ℕ =
-    postedOf (withStatus status reply m) (baseOf page) (sizeOf (rules.queueNumber d)) completed head (usedLength d status recorded) in
+    postedOf (withStatus status latency reply m) (baseOf page) (sizeOf (rules.queueNumber d)) completed head (usedLength d status recorded) in
     record { memory = after; completed = nextOf completed; interrupt = interrupts after (baseOf page) (sizeOf (rules.queueNumber d)) }

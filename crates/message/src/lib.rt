@@ -41,11 +41,13 @@ pub enum Status {
     Code(u32),
 }
 
-// A stream's queue as its guest laid it out; `indirect`: bit 28 was negotiated.
+// A stream's queue in a call, as its guest laid it out; `indirect`: bit 28 was negotiated; `latency`
+// is what the statuses completed in the call carry.
 pub struct Virtqueue {
     pub direction: Direction,
     pub page: PageNumber,
     pub indirect: bool,
+    pub latency: u32,
 }
 
 // A chain as it was taken.
@@ -167,12 +169,13 @@ pub fn take_chain(m: &[u8], q: Virtqueue, head: DescriptorNumber) -> Taken
     }
 }
 
-// The eight bytes of a status, with latency 0.
-fn status_bytes(code: u32) -> [u8; 8]
-    ensures { λ r. ⌜ r ≡ statusBytes code ⌝ }
+// The eight bytes of a status.
+fn status_bytes(code: u32, latency: u32) -> [u8; 8]
+    ensures { λ r. ⌜ r ≡ statusBytes code latency ⌝ }
 {
     let mut bytes = [0u8; 8];
     memory::set32(&mut bytes, 0, code);
+    memory::set32(&mut bytes, 4, latency);
     bytes
 }
 
@@ -199,14 +202,14 @@ pub fn answer(
 ) -> Posted
     requires { ⌜ Sound reply × (recorded ≤ 1048576) ⌝ }
     ensures { λ r. ⌜ completion (now (m .exit)) r
-        ≡ answeredOf (directionOf (q .direction)) (now (m .entry)) (q .page) completed (head .0) (rangesOf reply) (statusIn status) recorded ⌝ }
+        ≡ answeredOf (directionOf (q .direction)) (now (m .entry)) (q .page) completed (head .0) (rangesOf reply) (statusIn status) (q .latency) recorded ⌝ }
 {
     let direction = q.direction;
     let size = queue_size(direction);
     match status {
         Status::Nothing => ring::post(m, q.page, size, completed, head, 0),
         Status::Code(code) => {
-            let bytes = status_bytes(code);
+            let bytes = status_bytes(code, q.latency);
             let offset = last_eight(reply.bytes);
             let len = used_length(direction, recorded);
             ring::complete(

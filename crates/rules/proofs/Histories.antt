@@ -71,9 +71,9 @@ module _ (d : Direction) where
   unfolding noted
   noted-busy h bytes xs = refl
 
-  entered-same : (w : List ℕ) (h : History) (e : Ending) → Good d w h → card d .complete e (queueOf h) ≡ queueOf (entered d e h)
+  entered-same : (w : List ℕ) (h : History) (e : Ending) (n : ℕ) → Good d w h → card d .complete e n (queueOf h) ≡ queueOf (entered d e n h)
   unfolding entered
-  entered-same w h e g = rw (next-wrap, length-append, le-leb (length (h .takings)) (number h + 1) (omega (arith, g .one)))
+  entered-same w h e n g = rw (next-wrap, length-append, le-leb (length (h .takings)) (number h + 1) (omega (arith, g .one)))
 
   pub nothing-left : (h : History) → drop (handedNow h) (payloadOf d (current h)) ≡ [] → waiting d h ≡ []
   nothing-left h e = none-left d h (omega (arith, simp length-drop at (ap length e)))
@@ -98,6 +98,6 @@ module _ (d : Direction) where
         hand-same = noted-same;
         hand-keeps = λ w h bytes room g all. noted-good d w h g bytes room all;
         hand-busy = noted-busy;
-        complete-same = λ w h e g busy. entered-same w h e g;
-        complete-keeps = λ w h e g busy all. entered-good d w h g e busy (λ n. nothing-left h (all n));
+        complete-same = λ w h e n g busy. entered-same w h e n g;
+        complete-keeps = λ w h e n g busy all. entered-good d w h g e n busy (λ k. nothing-left h (all k));
       }

@@ -119,16 +119,16 @@ module _ (d : Direction) where
 
   -- ---- an entry: nothing may wait, unless it is a Release's
 
-  module _ (said : List ℕ) (h : History) (g : Good d said h) (e : Ending) (busy : leb (length (h .takings)) (number h) ≡ false)
+  module _ (said : List ℕ) (h : History) (g : Good d said h) (e : Ending) (latency : ℕ) (busy : leb (length (h .takings)) (number h) ≡ false)
       (all : (e ≡ released → ⊥) → waiting d h ≡ []) where
-    entered-waits : waiting d (entered d e h) ≡ []
+    entered-waits : waiting d (entered d e latency h) ≡ []
     unfolding entered
-    entered-waits = none-waits (entered d e h) (rw length-append (omega (arith, g .one)))
+    entered-waits = none-waits (entered d e latency h) (rw length-append (omega (arith, g .one)))
 
     entered-once :
         (t : ℕ)
         → Dec (t ≡ number h)
-        → handedOf t (h .notes) ++ (lostOf t (h .losses ++ lossesOf (number h) (waiting d h)) ++ waitingOf d t (entered d e h))
+        → handedOf t (h .notes) ++ (lostOf t (h .losses ++ lossesOf (number h) (waiting d h)) ++ waitingOf d t (entered d e latency h))
         ≡ upFrom 0 (length (payloadAt d t h))
     entered-once t (yes q) =
         rw (q, only-append, lostOf-same, entered-waits, cond-same, append-nil) (rw (eq-eqb (number h) (number h) refl) at (g .once (number h)))
@@ -139,15 +139,15 @@ module _ (d : Direction) where
     entered-blamed :
         (t : ℕ)
         → Dec (t ≡ number h)
-        → (getD (entered d e h .entries) t unanswered .ending ≡ released → ⊥)
-        → lostOf t (entered d e h .losses) ≡ []
+        → (getD (entered d e latency h .entries) t unanswered .ending ≡ released → ⊥)
+        → lostOf t (entered d e latency h .losses) ≡ []
     unfolding entered
     entered-blamed t (yes q) k = rw (q, only-append, none-lost said h g, all (rw (q, getD-append-seam) at k))
     entered-blamed t (no n) k =
         rw (only-append, lostOf-other t (number h) (waiting d h) n, append-nil)
         (g .blamed t (rw (getD-snoc-other (h .entries) _ t unanswered n) at k))
 
-    pub entered-good : Good d said (entered d e h)
+    pub entered-good : Good d said (entered d e latency h)
     unfolding entered
     entered-good =
         let b : number h < length (h .takings) = leb-false (length (h .takings)) (number h) busy in

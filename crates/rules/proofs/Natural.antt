@@ -77,9 +77,13 @@ pub record Alike {H Q : Type 0} (A : Ops H) (D : Ops Q) (d : Direction) (f : H �
       → length bytes ≡ length (take room (A .left h))
       → I (w ++ bytes) (A .hand bytes (take room (A .left h)) h)
   pub hand-busy : (h : H) (bytes xs : List ℕ) → A .idle (A .hand bytes xs h) ≡ A .idle h
-  pub complete-same : (w : List ℕ) (h : H) (e : Ending) → I w h → A .idle h ≡ false → D .complete e (f h) ≡ f (A .complete e h)
+  pub complete-same : (w : List ℕ) (h : H) (e : Ending) (n : ℕ) → I w h → A .idle h ≡ false → D .complete e n (f h) ≡ f (A .complete e n h)
   pub complete-keeps :
-      (w : List ℕ) (h : H) (e : Ending) → I w h → A .idle h ≡ false → ((e ≡ released → ⊥) → A .left h ≡ []) → I w (A .complete e h)
+      (w : List ℕ) (h : H) (e : Ending) (n : ℕ)
+      → I w h
+      → A .idle h ≡ false
+      → ((e ≡ released → ⊥) → A .left h ≡ [])
+      → I w (A .complete e n h)
 
 -- an ill-formed message has no payload
 ill-formed-none : (d : Direction) (t : Taking) → isWell (t .form) ≡ false → payloadOf d t ≡ []
@@ -132,7 +136,7 @@ module _
   unfolding lower completed
   completed-same w e s i busy =
       rw (
-        L .complete-same w (s .queue) e i busy,
+        L .complete-same w (s .queue) e (v .latency) i busy,
         L .usedPlace-same (s .queue),
         L .usedIndex-same (s .queue),
         L .work-same (s .queue) busy,
@@ -165,7 +169,7 @@ module _
         → ((e ≡ released → ⊥) → A .left (s .queue) ≡ [])
         → Fine (completed A v e s)
     unfolding completed
-    completed-keeps e s i busy all = L .complete-keeps (g (s .bytes)) (s .queue) e i busy all
+    completed-keeps e s i busy all = L .complete-keeps (g (s .bytes)) (s .queue) e (v .latency) i busy all
 
     pub give-keeps : (s : Run H) → Fine s → Fine (givenUp A v s)
     give-keeps s i = by-cond Fine (A .idle (s .queue)) (λ e. i) (λ e. completed-keeps released s i e (λ n. absurd (n refl)))

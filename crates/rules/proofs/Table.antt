@@ -19,7 +19,7 @@ use Rattle.rules.specs.Table.{Table, finds}
 -- with its region inside memory, the number of entries decides what is found
 pub entries-decide : (index : ℕ) (work : Option Message) → finds index work (entriesOf 256 (newOf index 10) (cond (isNone work) 0 1))
 unfolding foundOf sizeOf
-entries-decide index work m page negotiated completed s =
+entries-decide index work m page negotiated latency completed s =
     rw (s .reads, ne-eqb (page .0) 0 (λ e. omega arith), le-ltb (length m) (baseOf page + 6664) (omega arith))
 
 pub table : Table

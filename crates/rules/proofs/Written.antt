@@ -101,7 +101,7 @@ module _ (page : PageNumber) where
 
 -- a queue, as the play queue
 abbrev pub v : Virtqueue → Virtqueue
-v lies = record { direction = output; page = lies .page; negotiated = lies .negotiated }
+v lies = record { direction = output; page = lies .page; negotiated = lies .negotiated; latency = lies .latency }
 
 abbrev pub ops : Ops History
 ops = historiesOf output
@@ -325,10 +325,11 @@ module _ (lies : Virtqueue) where
             length = usedLength output (statusOf output e (current cur .form)) (handedNow cur);
             ending = e;
             status = statusOf output e (current cur .form);
+            latency = lies .latency;
           }
 
       abbrev done : History
-      done = history.entered output e cur
+      done = history.entered output e (lies .latency) cur
 
       last-one : length (cur .takings) ≡ suc (number cur)
       last-one = let b = leb-false (length (cur .takings)) (number cur) busy in omega (arith, g .one)
@@ -350,7 +351,8 @@ module _ (lies : Virtqueue) where
       entered-same =
           record { taking-is = λ k b. refl; entry-is = λ k b. getD-snoc-other (cur .entries) entry k _ (λ z. omega arith) }
 
-      status-written : (x : Option ℕ) → withStatus x (current cur .reply) (s .mem) ≡ statusWritten x (current cur .reply) (s .mem)
+      status-written : (x : Option ℕ)
+          → withStatus x (lies .latency) (current cur .reply) (s .mem) ≡ statusWritten x (lies .latency) (current cur .reply) (s .mem)
       status-written none = refl
       status-written (some code) = refl
 

@@ -40,10 +40,10 @@ Each P (x ∷ xs) = P x × Each P xs
 
 -- ---- memory
 
--- "Status (code, latency 0) is the last 8 reply bytes."
-abbrev pub statusWritten : Option ℕ → List Range → List ℕ → List ℕ
-statusWritten none reply m = m
-statusWritten (some code) reply m = putAt m (drop (total reply - 8) (places reply)) (bytesOf 4 code ++ bytesOf 4 0)
+-- "Status (code, latency ..) is the last 8 reply bytes."
+abbrev pub statusWritten : Option ℕ → ℕ → List Range → List ℕ → List ℕ
+statusWritten none latency reply m = m
+statusWritten (some code) latency reply m = putAt m (drop (total reply - 8) (places reply)) (bytesOf 4 code ++ bytesOf 4 latency)
 
 -- "Completing writes, in order: reply bytes, used element (head, length) at completed mod N, then as used index .. completed + 1
 -- modulo 65,536", for entry number k. "With N = 256: used at 4,612": its index stands at 4,614, its elements from 4,616 on
@@ -52,7 +52,7 @@ written page h k m =
     let e : Entry = entryAt h k in
     let element : ℕ = 4616 + 8 * (k % 256) in
     put 2
-    (put 4 (put 4 (statusWritten (e .status) (takingAt h k .reply) m) (baseOf page + element) (e .head)) (baseOf page + (element + 4)) (e .length))
+    (put 4 (put 4 (statusWritten (e .status) (e .latency) (takingAt h k .reply) m) (baseOf page + element) (e .head)) (baseOf page + (element + 4)) (e .length))
     (baseOf page + 4614) ((k + 1) % 65536)
 
 -- memory once n entries, from number k on, are written

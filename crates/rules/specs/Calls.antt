@@ -89,9 +89,13 @@ admitted r m refuse go = cond (eqb (length m) (r .ram)) (cond (live (r .register
 abbrev pub indirect : Rest → Bool
 indirect r = hasBit (r .registers .features) 28
 
--- the queue of a direction as the guest laid it out
+-- "latency 0"
+abbrev pub noLatency : ℕ
+noLatency = 0
+
+-- the queue of a direction in a call
 abbrev pub virtqueueOf : Rest → Direction → Virtqueue
-virtqueueOf r d = record { direction = d; page = pageOf r (queueNumber d); negotiated = indirect r }
+virtqueueOf r d = record { direction = d; page = pageOf r (queueNumber d); negotiated = indirect r; latency = noLatency }
 
 -- ---- registers
 
@@ -318,6 +322,11 @@ pub data Tried : Type 0 where
   Ended : Result → Tried
   Further : Result → Tried
 
+-- what sending an event came to, and how many new entries are left
+pub record Sent : Type 0 where
+  pub result : Result
+  pub left : ℕ
+
 module _ (code data′ : ℕ) where
   -- ".. completes with length 0 and the next is tried"
   abbrev pub eventChain : Rest → List ℕ → ℕ → Option (List Range) → Tried
@@ -332,18 +341,19 @@ module _ (code data′ : ℕ) where
   unfoldable pub tried : Rest → List ℕ → Tried
   tried r m = eventHead r m (headOf m (pageOf r eventQueue) (sizeOf eventQueue) (r .event .taken))
 
-  abbrev pub onward : Tried → (Rest → List ℕ → Result) → Result
-  onward (Ended o) go = o
-  onward (Further o) go = go (o .rest) (o .mem)
+  -- with so many entries left after the one that was tried
+  abbrev pub onward : Tried → ℕ → (Rest → List ℕ → Sent) → Sent
+  onward (Ended o) left go = record { result = o; left = left }
+  onward (Further o) left go = go (o .rest) (o .mem)
 
-  unfoldable pub eventRun : ℕ → Rest → List ℕ → Result
-  eventRun zero r m = refused noEventBuffer r m
-  eventRun (suc k) r m = onward (tried r m) (eventRun k)
+  unfoldable pub eventRun : ℕ → Rest → List ℕ → Sent
+  eventRun zero r m = record { result = refused noEventBuffer r m; left = 0 }
+  eventRun (suc k) r m = onward (tried r m) k (eventRun k)
 
 -- "An idle queue is answer 8."
-abbrev pub eventFound : ℕ → ℕ → Rest → List ℕ → Check → Result
-eventFound code data′ r m Check.Idle = refused noEventBuffer r m
-eventFound code data′ r m (Check.Broken cause) = broke eventQueue cause r m
+abbrev pub eventFound : ℕ → ℕ → Rest → List ℕ → Check → Sent
+eventFound code data′ r m Check.Idle = record { result = refused noEventBuffer r m; left = 0 }
+eventFound code data′ r m (Check.Broken cause) = record { result = broke eventQueue cause r m; left = 0 }
 eventFound code data′ r m (Check.New n) = eventRun code data′ n r m
 
 -- "Event: 1, 5, 7, then 8 or 9."
@@ -352,7 +362,7 @@ eventOf r code data′ m =
     admitted r m (λ answer. refused answer r m)
     (cond (eventAllowed r code data′)
     (eventFound code data′ (recorded r code data′) m
-    (checkOf m (pageOf r eventQueue) (sizeOf eventQueue) (r .event .taken) 0))
+    (checkOf m (pageOf r eventQueue) (sizeOf eventQueue) (r .event .taken) 0) .result)
     (refused eventNotAllowed r m))
 
 -- ---- a call

@@ -38,5 +38,5 @@ countersOf d =
       left = λ q. drop (doneIn (q .work)) (payloadOf d (takingIn (q .work)));
       take = λ t q. record { taken = (q .taken + 1) % 65536; completed = q .completed; work = some (record { taking = t; done = 0 }) };
       hand = λ bytes xs q. record { taken = q .taken; completed = q .completed; work = further (length xs) (q .work) };
-      complete = λ e q. record { taken = q .taken; completed = (q .completed + 1) % 65536; work = none };
+      complete = λ e latency q. record { taken = q .taken; completed = (q .completed + 1) % 65536; work = none };
     }

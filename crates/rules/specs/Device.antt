@@ -35,11 +35,13 @@ queueNumber input = 3
 abbrev pub directionOf : ℕ → Direction
 directionOf id = cond (eqb id 0) output input
 
--- a stream's queue as the guest laid it out: its direction, its page, and whether indirect tables are negotiated
+-- a stream's queue in a call: its direction, and its page and whether indirect tables are negotiated, as the guest laid it out; the
+-- latency that the statuses completed in the call carry
 pub record Virtqueue : Type 0 where
   pub direction : Direction
   pub page : PageNumber
   pub negotiated : Bool
+  pub latency : ℕ
 
 -- its number of descriptors
 abbrev pub queueSize : Virtqueue → ℕ

@@ -12,12 +12,13 @@ use Rattle.ring.specs.Rules.{newOf}
 use Rattle.rules.specs.Device.{Direction, queueNumber, Taking, nobody, Ending, finished}
 use Rattle.rules.specs.Transfer.{Ops, payloadOf, statusOf, usedLength}
 
--- a used entry: the head it names, its length, why the message was completed and the status it was given
+-- a used entry: the head it names, its length, why the message was completed, the status it was given and the latency beside that
 pub record Entry : Type 0 where
   pub head : ℕ
   pub length : ℕ
   pub ending : Ending
   pub status : Option ℕ
+  pub latency : ℕ
 
 -- position `pos` of the payload of taking number `of` was handed on (for capture, recorded): its address, and the byte
 pub record Note : Type 0 where
@@ -42,7 +43,7 @@ blank = record { takings = []; entries = []; notes = []; losses = [] }
 
 -- what stands past the end of the entries
 abbrev pub unanswered : Entry
-unanswered = record { head = 0; length = 0; ending = finished; status = none }
+unanswered = record { head = 0; length = 0; ending = finished; status = none; latency = 0 }
 
 -- of the elements with this key, in order, the values
 abbrev pub only : {A : Type 0} → (A → ℕ) → (A → ℕ) → ℕ → List A → List ℕ
@@ -93,9 +94,9 @@ module _ (d : Direction) where
       record { takings = h .takings; entries = h .entries; notes = h .notes ++ notesOf (number h) (handedNow h) bytes xs; losses = h .losses }
 
   -- the taking in work gets its entry; what still waits is given up
-  unfoldable pub entered : Ending → History → History
+  unfoldable pub entered : Ending → ℕ → History → History
   unfolding waiting
-  entered e h =
+  entered e latency h =
       record {
         takings = h .takings;
         entries =
@@ -105,6 +106,7 @@ module _ (d : Direction) where
               length = usedLength d (statusOf d e (current h .form)) (handedNow h);
               ending = e;
               status = statusOf d e (current h .form);
+              latency = latency;
             }
             ∷ [];
         notes = h .notes;

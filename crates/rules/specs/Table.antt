@@ -34,8 +34,8 @@ pub record Shows (m : List ℕ) (page : PageNumber) (index : ℕ) : Type 0 where
 -- page that shows it
 abbrev pub finds : ℕ → Option Message → Check → Type 0
 finds index work check =
-    (m : List ℕ) (page : PageNumber) (negotiated : Bool) (completed : ℕ) → Shows m page index
-    → found (countersOf output) (record { direction = output; page = page; negotiated = negotiated })
+    (m : List ℕ) (page : PageNumber) (negotiated : Bool) (latency completed : ℕ) → Shows m page index
+    → found (countersOf output) (record { direction = output; page = page; negotiated = negotiated; latency = latency })
     (record { taken = 10; completed = completed; work = work }) m
     ≡ check
 

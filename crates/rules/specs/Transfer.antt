@@ -72,13 +72,13 @@ statusOf d illFormed refused = some sIoErr
 statusOf d illFormed silent = none
 statusOf d illFormed (unwalked f) = none
 
--- "Status (code, latency 0) is the last 8 reply bytes."
-abbrev pub statusBytes : ℕ → List ℕ
-statusBytes code = bytesOf 4 code ++ bytesOf 4 0
+-- "Status (code, latency ..) is the last 8 reply bytes."
+abbrev pub statusBytes : ℕ → ℕ → List ℕ
+statusBytes code latency = bytesOf 4 code ++ bytesOf 4 latency
 
-abbrev pub withStatus : Option ℕ → List Range → List ℕ → List ℕ
-withStatus none reply m = m
-withStatus (some code) reply m = putAt m (drop (total reply - 8) (places reply)) (statusBytes code)
+abbrev pub withStatus : Option ℕ → ℕ → List Range → List ℕ → List ℕ
+withStatus none latency reply m = m
+withStatus (some code) latency reply m = putAt m (drop (total reply - 8) (places reply)) (statusBytes code latency)
 
 -- "length 8 for play, 8 + recorded for capture"
 abbrev pub usedLength : Direction → Option ℕ → ℕ → ℕ
@@ -100,7 +100,7 @@ pub record Ops (Q : Type 0) : Type 0 where
   pub left : Q → List ℕ  -- the addresses of those that wait
   pub take : Taking → Q → Q
   pub hand : List ℕ → List ℕ → Q → Q  -- the bytes moved, and their addresses
-  pub complete : Ending → Q → Q
+  pub complete : Ending → ℕ → Q → Q  -- with this latency
 
 -- a queue within a call: memory now, the bytes moved, host bytes and host room left, whether the queue broke, an interrupt wanted
 pub record Run (Q : Type 0) : Type 0 where
@@ -135,10 +135,10 @@ module _ {Q : Type 0} (ops : Ops Q) (v : Virtqueue) where
       let t : Taking = ops .work (r .queue) in
       let status : Option ℕ = statusOf (v .direction) e (t .form) in
       let after : List ℕ =
-      postedAt (withStatus status (t .reply) (r .mem)) (baseOf (v .page)) (queueSize v) (ops .usedPlace (r .queue))
+      postedAt (withStatus status (v .latency) (t .reply) (r .mem)) (baseOf (v .page)) (queueSize v) (ops .usedPlace (r .queue))
       (ops .usedIndex (r .queue)) (t .head) (usedLength (v .direction) status (ops .done (r .queue))) in
       record {
-        queue = ops .complete e (r .queue);
+        queue = ops .complete e (v .latency) (r .queue);
         mem = after;
         bytes = r .bytes;
         host = r .host;

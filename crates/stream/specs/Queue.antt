@@ -14,7 +14,7 @@ use Rattle.message.specs.Message.{directionOf}
 use Rattle.message.specs.declared.Virtqueue.{Virtqueue}
 use Rattle.message.specs.declared.Direction.{Direction}
 use Rattle.message.specs.declared.Direction.the-variants.{Output, Input}
-use Rattle.rules.specs.Calls.{emptied, virtqueueOf}
+use Rattle.rules.specs.Calls.{emptied, virtqueueOf, noLatency}
 use Rattle.rules.specs.Counters.{countersOf}
 use Rattle.rules.specs.Device as rules
 use Rattle.flow.specs.declared.Flow.{Flow}
@@ -34,6 +34,7 @@ queueIn c d =
       direction = d;
       page = getD (c .registers .pages) (rules.queueNumber (directionOf d)) (record { 0 = 0 });
       indirect = hasBit (c .registers .features) 28;
+      latency = noLatency;
     }
 
 -- its counters and message in work

@@ -16,6 +16,9 @@ use registers::Registers;
 use ring::Stop;
 use transfer::Flow;
 
+// "latency 0"
+const NO_LATENCY: u32 = 0;
+
 // What a RELEASE made of a stream's queue: where it stands, an interrupt wanted, the card.
 pub struct Emptied {
     pub stop: Stop,
@@ -59,6 +62,7 @@ pub fn virtqueue(card: Card, direction: Direction) -> Virtqueue
         direction: direction,
         page: page,
         indirect: indirect,
+        latency: NO_LATENCY,
     }
 }
 

@@ -24,6 +24,9 @@ abbrev μ-loop : tie.MeasureT-loop
 loop-holds : tie.Need-loop-holds Inv-loop μ-loop
 loop-holds c = (refl, λ rest. refl, c .before .pre)
 
+sub-try-entry : tie.Need-sub-try-entry Inv-loop μ-loop
+sub-try-entry c = omega arith
+
 try-entry-requires : tie.Need-try-entry-requires Inv-loop μ-loop
 try-entry-requires c κs = c .before .before .loop .inv .2
 
@@ -38,7 +41,7 @@ returns c =
     let a = p .before .before .before .before .before .args in (
       λ rest. sym (l .inv .1 rest)
           ∙ run-ended (a .code) (a .«data») (l .left) (holding (l .file) (l .counts) rest) (l .m) rest (t .result) (t .last .0)
-          (t .ensures .0 rest) (l .left - 1) (omega arith) (c .if1 .taken),
+          (t .ensures .0 rest) (l .left - 1) (omega arith) (t .ensures .2) (c .if1 .taken),
       t .ensures .1,
       c .if1 .taken,
     )
@@ -86,6 +89,7 @@ try-entries-spec =
     Inv-loop
     μ-loop
     loop-holds
+    sub-try-entry
     try-entry-requires
     same-length
     returns

@@ -1,5 +1,5 @@
 -- The next head is looked up; its chain's room decides which completion is posted.
-use mathlib.Core.Path.{_≡_, _∙_, sym}
+use mathlib.Core.Path.{_≡_, _∙_, refl, sym}
 use Rattle.ranges.specs.Ranges.{rangesOf}
 use Rattle.ring.specs.declared.Head.{Head}
 use Rattle.event_queue.proofs.Laws.{nextHead, tried-broken, tried-delivered, tried-passed}
@@ -13,7 +13,7 @@ start c = c .before .before .before .before .before
 
 head-found : (c : tie.After-next-head)
     → let a = c .before .before .before .before .before .args in
-    c .next-head .result ≡ nextHead (a .code) (a .«data») (a .t2) (a .counters) (a .m .now)
+    c .next-head .result ≡ nextHead (a .code) (a .«data») (a .left) (a .t3) (a .counters) (a .m .now)
 head-found c = c .next-head .ensures ∙ rw (c .before .before .queue-size .ensures)
 
 abbrev looked : tie.After-room-at → tie.After-next-head
@@ -21,7 +21,7 @@ looked c = c .before .before .before .before .before
 
 head-at : (c : tie.After-room-at)
     → let a = start (looked c) .args in
-    nextHead (a .code) (a .«data») (a .t2) (a .counters) (a .m .now) ≡ Head.At (c .before .before .before .head .given .0 .0)
+    nextHead (a .code) (a .«data») (a .left) (a .t3) (a .counters) (a .m .now) ≡ Head.At (c .before .before .before .head .given .0 .0)
 head-at c = sym (head-found (looked c)) ∙ c .before .before .before .head .given .1
 
 element-copy-out-page : tie.Need-element-copy-out-page
@@ -61,9 +61,10 @@ returns c =
     let d = c .before .before .before .deliver in
     let room = rw (c .before .before .before .before .before .if1 .taken) at (k .room-at .ensures) in
     rw (c .counted .ensures .0) (
-      tried-delivered (a .code) (a .«data») (a .t2) (a .counters) (a .m .now) _ (d .result) (d .last .0)
+      tried-delivered (a .code) (a .«data») (a .left) (a .t3) (a .counters) (a .m .now) _ (d .result) (d .last .0)
           (rangesOf (k .room-at .result .reply)) (head-at k, room) (d .ensures),
       rw (c .counted .ensures .0) at (c .counted .ensures .1),
+      refl,
     )
 
 pass-over-requires : tie.Need-pass-over-requires
@@ -80,8 +81,9 @@ returns-2 c =
     let k = c .before .before .before .before in
     let a = start k .args in
     rw (c .halted .ensures .0) (
-      tried-broken (a .code) (a .«data») (a .t2) (a .counters) (a .m .now) _ (sym (head-found k) ∙ c .before .before .cause .given .1),
+      tried-broken (a .code) (a .«data») (a .left) (a .t3) (a .counters) (a .m .now) _ (sym (head-found k) ∙ c .before .before .cause .given .1),
       rw (c .halted .ensures .0) at (c .halted .ensures .1),
+      refl,
     )
 
 same-length-3 : tie.Need-same-length-3
@@ -94,8 +96,9 @@ returns-3 c =
     let d = c .before .before .before .pass-over in
     let room = rw (c .before .before .before .before .before .if1 .left) at (k .room-at .ensures) in
     rw (c .counted2 .ensures .0) (
-      tried-passed (a .code) (a .«data») (a .t2) (a .counters) (a .m .now) _ (d .result) (d .last .0) (head-at k, room) (d .ensures),
+      tried-passed (a .code) (a .«data») (a .left) (a .t3) (a .counters) (a .m .now) _ (d .result) (d .last .0) (head-at k, room) (d .ensures),
       rw (c .counted2 .ensures .0) at (c .counted2 .ensures .1),
+      refl,
     )
 
 pub try-entry-spec : {M : Type 1} → statement M

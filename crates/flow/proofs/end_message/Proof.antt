@@ -29,7 +29,7 @@ returns c =
     let f = a .f in
     let code = c .before .before .before .before .before .before .status-of .result in
     let k : Completion =
-    answeredOf (directionOf (a .q .direction)) (a .m .now) (a .q .page) (f .counters .completed) (f .message .head .0) (rangesOf (f .message .reply)) (some code) (f .message .done) in
+    answeredOf (directionOf (a .q .direction)) (a .m .now) (a .q .page) (f .counters .completed) (f .message .head .0) (rangesOf (f .message .reply)) (some code) (a .q .latency) (f .message .done) in
     let e : completion (c .before .before .before .answer .last .0) (c .before .before .before .answer .result) ≡ k = c .before .before .before .answer .ensures in
     let em : c .before .before .before .answer .last .0 ≡ k .memory = ap (λ (x : Completion). x .memory) e in
     let ec : c .before .before .before .answer .result .completed ≡ k .completed = ap (λ (x : Completion). x .completed) e in

@@ -51,7 +51,7 @@ returns-2 c =
     let a = s .args in
     rw (c .before .before .before .before .before .before .before .before .before .status .given .1) (c .before .before .complete .ensures
     ∙ rw (c .before .before .before .before .before .before .before .before .before .before .before .queue-size .ensures, c .before .before .before .before .before .used-length .ensures, c .before .before .before .before .before .before .last-eight .ensures, c .before .before .before .before .before .before .before .status-bytes .ensures, s .pre .0 .sum)
-    (completed-answer (directionOf (a .q .direction)) (a .m .now) (a .q .page) (a .completed) (a .head) (rangesOf (a .reply)) _ (a .recorded)))
+    (completed-answer (directionOf (a .q .direction)) (a .m .now) (a .q .page) (a .completed) (a .head) (rangesOf (a .reply)) _ (a .q .latency) (a .recorded)))
 
 pub answer-spec : {M : Type 1} → statement M
 answer-spec =
