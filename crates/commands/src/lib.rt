@@ -6,10 +6,11 @@ ghost use Rattle.card.specs.Fit.{FitParts};
 ghost use Rattle.meaning.specs.Card.{partsOf};
 ghost use Rattle.reply.specs.Reply.{Serves};
 ghost use Rattle.requests.specs.Requests.{checked};
-ghost use Rattle.rules.specs.Control.{commanded, obeyed, lawfulFrom, moves, setParams, setBy, judgedOffer, paramsOf, streamIn};
+ghost use Rattle.rules.specs.Control.{commanded, obeyed, moves, setParams, setBy, judgedOffer, paramsOf, streamIn};
 ghost use Rattle.rules.specs.Control.{offers as offersOf, unpadded, sized, periodic, bufferOffered, featuresOffered};
 ghost use Rattle.rules.specs.Control.{channelsOffered, formatOffered, rateOffered};
-ghost use Rattle.rules.specs.declared.Command.the-variants.{Prepare};
+ghost use Rattle.rules.specs.Lifecycle.{transition as leadsFrom};
+ghost use Rattle.commands.specs.Commands.{transitionOf, leadsToState};
 use card::Params;
 use card::Parts;
 use card::Stream;
@@ -21,37 +22,45 @@ use requests::Check;
 use requests::Found;
 use rules::Command;
 
-// PREPARE is lawful in Set, Prepared and Released.
-fn is_preparable(state: u8) -> bool
-    ensures { λ r. ⌜ r ≡ lawfulFrom Prepare state ⌝ }
-{
-    if state == card::SET {
-        return true;
-    }
-    state == card::PREPARED || state == card::RELEASED
+// Where a command leads a stream.
+enum Transition {
+    To(u8),
+    Unlawful,
 }
 
-// The lifecycle of a stream: whether a command is lawful in a state.
-fn allows(command: Command, state: u8) -> bool
-    ensures { λ r. ⌜ r ≡ lawfulFrom command state ⌝ }
+// The lifecycle of a stream (000, PCM Command Lifecycle): command, state, the state that it leads to.
+fn lifecycle(command: Command, state: u8) -> Transition
+    ensures { λ r. ⌜ (r ≡ transitionOf (leadsFrom command state)) × leadsToState r ⌝ }
 {
     match command {
-        Command::SetParams => state == card::FRESH || is_preparable(state),
-        Command::Prepare => is_preparable(state),
-        Command::Start => state == card::PREPARED || state == card::STOPPED,
-        Command::Stop => state == card::RUNNING,
-        Command::Release => state == card::PREPARED || state == card::STOPPED,
+        Command::SetParams => match state {
+            card::FRESH => Transition::To(card::SET),
+            card::SET => Transition::To(card::SET),
+            card::PREPARED => Transition::To(card::SET),
+            card::RELEASED => Transition::To(card::SET),
+            _ => Transition::Unlawful,
+        },
+        Command::Prepare => match state {
+            card::SET => Transition::To(card::PREPARED),
+            card::PREPARED => Transition::To(card::PREPARED),
+            card::RELEASED => Transition::To(card::PREPARED),
+            _ => Transition::Unlawful,
+        },
+        Command::Start => match state {
+            card::PREPARED => Transition::To(card::RUNNING),
+            card::STOPPED => Transition::To(card::RUNNING),
+            _ => Transition::Unlawful,
+        },
+        Command::Stop => match state {
+            card::RUNNING => Transition::To(card::STOPPED),
+            _ => Transition::Unlawful,
+        },
+        Command::Release => match state {
+            card::PREPARED => Transition::To(card::RELEASED),
+            card::STOPPED => Transition::To(card::RELEASED),
+            _ => Transition::Unlawful,
+        },
     }
-}
-
-// The transition of a command is lawful.
-fn is_lawful(command: Command, state: u8) -> Check
-    ensures { λ r. ⌜ r ≡ checked (lawfulFrom command state) ⌝ }
-{
-    if allows(command, state) {
-        return Check::Passed;
-    }
-    Check::Failed
 }
 
 // SET_PARAMS: padding is 0.
@@ -169,9 +178,16 @@ fn params_in(request: &[u8]) -> Params
 }
 
 // SET_PARAMS of well-formed parameters: the stream `i` takes what it offers.
-fn set_offered(m: &mut [u8], parts: Parts, pending: Pending, i: usize, p: Params) -> Served
-    requires { ⌜ FitParts parts × (i < parts .«stream_count») ⌝ }
-    ensures { λ r. ⌜ Serves pending parts (setBy (partsOf parts) i p (judgedOffer (streamIn (partsOf parts) i .info) p))
+fn set_offered(
+    m: &mut [u8],
+    parts: Parts,
+    pending: Pending,
+    i: usize,
+    state: u8,
+    p: Params,
+) -> Served
+    requires { ⌜ FitParts parts × (i < parts .«stream_count») × (state ≤ 5) ⌝ }
+    ensures { λ r. ⌜ Serves pending parts (setBy (partsOf parts) i state p (judgedOffer (streamIn (partsOf parts) i .info) p))
         r (now (m .entry)) (now (m .exit)) ⌝ }
 {
     let stream = parts.streams[i];
@@ -193,16 +209,23 @@ fn set_offered(m: &mut [u8], parts: Parts, pending: Pending, i: usize, p: Params
     };
     let set = Stream {
         info: info,
-        state: card::SET,
+        state: state,
         params: p,
     };
     reply::answer(m, parts.with_stream(i, set), pending, rules::OK)
 }
 
 // SET_PARAMS of the stream `i`.
-fn set_params(m: &mut [u8], parts: Parts, pending: Pending, i: usize, request: &[u8]) -> Served
-    requires { ⌜ FitParts parts × (i < parts .«stream_count») ⌝ }
-    ensures { λ r. ⌜ Serves pending parts (setParams (partsOf parts) i (now (request .entry))) r (now (m .entry)) (now (m .exit)) ⌝ }
+fn set_params(
+    m: &mut [u8],
+    parts: Parts,
+    pending: Pending,
+    i: usize,
+    state: u8,
+    request: &[u8],
+) -> Served
+    requires { ⌜ FitParts parts × (i < parts .«stream_count») × (state ≤ 5) ⌝ }
+    ensures { λ r. ⌜ Serves pending parts (setParams (partsOf parts) i state (now (request .entry))) r (now (m .entry)) (now (m .exit)) ⌝ }
 {
     let p = params_in(request);
     let Check::Passed = is_unpadded(memory::number8(request, 23)) else {
@@ -214,7 +237,7 @@ fn set_params(m: &mut [u8], parts: Parts, pending: Pending, i: usize, request: &
     let Check::Passed = is_periodic(p) else {
         return reply::answer(m, parts, pending, rules::BAD_MSG);
     };
-    set_offered(m, parts, pending, i, p)
+    set_offered(m, parts, pending, i, state, p)
 }
 
 // PREPARE, START, STOP: the stream `i` goes to `state`.
@@ -233,23 +256,25 @@ fn move_stream(m: &mut [u8], parts: Parts, pending: Pending, i: usize, state: u8
     reply::answer(m, parts.with_stream(i, moved), pending, rules::OK)
 }
 
-// A lawful command of the stream `i`. Of a RELEASE nothing is done yet.
+// A lawful command of the stream `i`, and the state that it leads to. Of a RELEASE nothing is done yet.
 fn obey(
     m: &mut [u8],
     parts: Parts,
     pending: Pending,
     command: Command,
     i: usize,
+    state: u8,
     request: &[u8],
 ) -> Served
-    requires { ⌜ FitParts parts × (i < parts .«stream_count») ⌝ }
-    ensures { λ r. ⌜ Serves pending parts (obeyed (partsOf parts) command i (now (request .entry))) r (now (m .entry)) (now (m .exit)) ⌝ }
+    requires { ⌜ FitParts parts × (i < parts .«stream_count») × (state ≤ 5) ⌝ }
+    ensures { λ r. ⌜ Serves pending parts (obeyed (partsOf parts) command i state (now (request .entry)))
+        r (now (m .entry)) (now (m .exit)) ⌝ }
 {
     match command {
-        Command::SetParams => set_params(m, parts, pending, i, request),
-        Command::Prepare => move_stream(m, parts, pending, i, card::PREPARED),
-        Command::Start => move_stream(m, parts, pending, i, card::RUNNING),
-        Command::Stop => move_stream(m, parts, pending, i, card::STOPPED),
+        Command::SetParams => set_params(m, parts, pending, i, state, request),
+        Command::Prepare => move_stream(m, parts, pending, i, state),
+        Command::Start => move_stream(m, parts, pending, i, state),
+        Command::Stop => move_stream(m, parts, pending, i, state),
         Command::Release => Served {
             parts: parts,
             kind: Kind::Release(i as u32),
@@ -272,8 +297,8 @@ pub fn command(
         return reply::answer(m, parts, pending, rules::BAD_MSG);
     };
     let stream = parts.streams[i];
-    let Check::Passed = is_lawful(asked, stream.state) else {
+    let Transition::To(state) = lifecycle(asked, stream.state) else {
         return reply::answer(m, parts, pending, rules::BAD_MSG);
     };
-    obey(m, parts, pending, asked, i, request)
+    obey(m, parts, pending, asked, i, state, request)
 }

@@ -2,6 +2,7 @@
 use mathlib.Core.Path.{_≡_, refl, sym, _∙_, ap}
 use mathlib.Core.Bool.{Bool, true, false}
 use mathlib.Core.List.{List, [], _∷_, _++_, map}
+use mathlib.Core.Option.{Option, none, some}
 use Prim.Native.Nat.{ℕ, zero, suc, _+_, _-_, _≤_, _<_}
 use native.Mathlib.Omega.{arith}
 use borrow.Author.Tests.{ltb-true, ltb-false}
@@ -14,6 +15,7 @@ use Rattle.ranges.specs.Ranges.{Sound, rangesOf, places, bytesAt}
 use Rattle.ranges.specs.declared.Ranges.{Ranges}
 use Rattle.ranges.proofs.Laws.{length-places}
 use Rattle.rules.specs.Control as rules
+use Rattle.rules.specs.Lifecycle.{transition}
 use Rattle.rules.specs.declared.Asked.{Asked}
 use Rattle.rules.specs.declared.Asked.the-variants.{Information, Remap, Pcm}
 use Rattle.rules.specs.declared.Command.{Command}
@@ -57,9 +59,9 @@ words-agree m ps n at h =
 
 -- a command goes by the first 24 bytes
 module _ (p : rules.Parts) (xs ys : List ℕ) (h : (n at : ℕ) → at + n ≤ 24 → le n xs at ≡ le n ys at) where
-  obeyed-agree : (c : Command) (id : ℕ) → rules.obeyed p c id xs ≡ rules.obeyed p c id ys
+  obeyed-agree : (c : Command) (id state : ℕ) → rules.obeyed p c id state xs ≡ rules.obeyed p c id state ys
   unfolding rules.setParams rules.judgedParams
-  obeyed-agree command.SetParams id =
+  obeyed-agree command.SetParams id state =
       rw (
         h 4 8 (omega arith),
         h 4 12 (omega arith),
@@ -69,17 +71,21 @@ module _ (p : rules.Parts) (xs ys : List ℕ) (h : (n at : ℕ) → at + n ≤ 2
         h 1 22 (omega arith),
         h 1 23 (omega arith),
       )
-  obeyed-agree command.Prepare id = refl
-  obeyed-agree command.Start id = refl
-  obeyed-agree command.Stop id = refl
-  obeyed-agree command.Release id = refl
+  obeyed-agree command.Prepare id state = refl
+  obeyed-agree command.Start id state = refl
+  obeyed-agree command.Stop id state = refl
+  obeyed-agree command.Release id state = refl
+
+  led-agree : (c : Command) (id : ℕ) (o : Option ℕ) → rules.led p c id xs o ≡ rules.led p c id ys o
+  led-agree c id none = refl
+  led-agree c id (some state) = obeyed-agree c id state
 
   -- and so does any answer
   pub answers-agree : (a : Asked) (room : ℕ) → rules.answerTo a p xs room ≡ rules.answerTo a p ys room
   unfolding rules.information rules.remap rules.commanded
   answers-agree (Information l) room = rw (h 4 4 (omega arith), h 4 8 (omega arith), h 4 12 (omega arith))
   answers-agree Remap room = rw (h 4 4 (omega arith), h 4 8 (omega arith), h 4 12 (omega arith))
-  answers-agree (Pcm c) room = rw (h 4 4 (omega arith), obeyed-agree c (rules.word ys 1))
+  answers-agree (Pcm c) room = rw (h 4 4 (omega arith), led-agree c (rules.word ys 1) (transition c (rules.streamIn p (rules.word ys 1) .state)))
 
 pub length-request : (m : List ℕ) (r : Ranges) → Sound r → length (bytesAt m (places (rangesOf r))) ≡ r .bytes
 length-request m r s = rw (length-map, length-places) (sym (s .sum))

@@ -26,9 +26,8 @@ use Rattle.ring.specs.declared.Cause.{Cause}
 use Rattle.ring.specs.declared.Stop.{Stop}
 use Rattle.rules.specs.Calls.{Request, ReadRegister, WriteRegister, Control, Play, Capture, Event, Call, Told, toldAll, step, Order as Decided, Done, ReleaseFirst, readMessage, Emptied, eventRoom, replied, orderOf, emptied, releasedOf, transferred, eventAllowed, recorded, eventPosted, tried, eventRun, eventOf, readStep, writeStep, releaseStep, transferStep}
 use Rattle.rules.specs.Claim.{card, toldBy}
-use Rattle.rules.specs.Control.{Parts, Served, Reply, Release, joined, information, remap, lawfulFrom, judgedParams, setParams, commanded, decodedOf, served}
-use Rattle.rules.specs.declared.Command.{Command}
-use Rattle.rules.specs.declared.Command.the-variants.{SetParams, Prepare, Start, Stop, Release as Released}
+use Rattle.rules.specs.Control.{Parts, Served, Reply, Release, joined, information, remap, judgedParams, setParams, commanded, decodedOf, served}
+use Rattle.rules.specs.Lifecycle.{transition}
 use Rattle.rules.specs.Counters.{countersOf}
 use Rattle.rules.specs.Device.{Virtqueue, Direction, output, input, Form, wellFormed, refused, silent, Taking, Queue, emptyQueue, Device, withRegisters, withJacks, withControl, withEvent, bytesOf}
 use Rattle.rules.specs.Loop.{loop}
@@ -155,7 +154,7 @@ pub record Ran (Q : Type 0) : Type 0 where
   pub memory : List ℕ
 
 unfoldable pub runs : {Q : Type 0} → (Direction → Ops Q) → Device Q → List ℕ → List Request → Ran Q
-unfolding descriptorAt descriptors joinedOf enterOf inTable direct le put total places upFrom putAt allInside registerAt configAt sizeOf readOf writeOf live signalled broken pageRead configBytes configValue isrRead wroteFeatures wrotePage wroteSelector wroteNotify storedStatus wroteStatus foundOf headAt postedAt interrupts replied orderOf emptied releasedOf transferred eventAllowed recorded eventPosted tried eventRun eventOf readStep writeStep releaseStep transferStep information remap judgedParams setParams commanded decodedOf served formOf takingOf payloadOf completed moved entered next transferRun releaseRun loop bytesOf toldBy handedNow waiting took noted history.entered
+unfolding descriptorAt descriptors joinedOf enterOf inTable direct le put total places upFrom putAt allInside registerAt configAt sizeOf readOf writeOf live signalled broken pageRead configBytes configValue isrRead wroteFeatures wrotePage wroteSelector wroteNotify storedStatus wroteStatus foundOf headAt postedAt interrupts replied orderOf emptied releasedOf transferred eventAllowed recorded eventPosted tried eventRun eventOf readStep writeStep releaseStep transferStep information remap judgedParams setParams transition commanded decodedOf served formOf takingOf payloadOf completed moved entered next transferRun releaseRun loop bytesOf toldBy handedNow waiting took noted history.entered
 runs ops b m [] = record { answers = []; counts = []; state = b; memory = m }
 runs ops b m (q ∷ qs) =
     let s = step ops b (record { asked = q; lent = m }) in
@@ -668,24 +667,6 @@ pub layouts :
     × (asks runningState (take 7 (words (261 ∷ 0 ∷ []))) ≡ some sBadMsg)
 unfolding runs
 layouts = (refl, refl, refl, refl, refl)
-
--- the lifecycle, all 30 pairs: a row for SET_PARAMS, PREPARE, START, STOP, RELEASE, a column for Fresh, Set, Prepared, Running,
--- Stopped, Released
-abbrev pub commands : List Command
-commands = SetParams ∷ Prepare ∷ Start ∷ Stop ∷ Released ∷ []
-
-abbrev pub states : List ℕ
-states = freshState ∷ setState ∷ preparedState ∷ runningState ∷ stoppedState ∷ releasedState ∷ []
-
-pub twelve-lawful-pairs :
-    map (λ (command : Command). map (lawfulFrom command) states) commands
-    ≡ (true ∷ true ∷ true ∷ false ∷ false ∷ true ∷ [])
-    ∷ (false ∷ true ∷ true ∷ false ∷ false ∷ true ∷ [])
-    ∷ (false ∷ false ∷ true ∷ false ∷ true ∷ false ∷ [])
-    ∷ (false ∷ false ∷ false ∷ true ∷ false ∷ false ∷ [])
-    ∷ (false ∷ false ∷ true ∷ false ∷ true ∷ false ∷ [])
-    ∷ []
-twelve-lawful-pairs = refl
 
 -- a lawful request leads to its state, SET_PARAMS with what it asks; another, or one for an absent stream, changes nothing. 258 is
 -- PREPARE, 260 START, 261 STOP, 259 RELEASE.

@@ -16,4 +16,5 @@ pub mod Theorem
 pub mod Reading
 pub mod Release
 pub mod Drained
+pub mod Lifecycle
 pub mod Table

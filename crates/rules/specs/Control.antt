@@ -2,17 +2,18 @@
 -- whose stream's queue comes first, is told apart.
 use mathlib.Core.Bool.{Bool, cond, _&&_, _||_, not}
 use mathlib.Core.List.{List, [], _∷_, _++_, map}
+use mathlib.Core.Option.{Option, none, some}
 use Prim.Native.Nat.{ℕ, suc, _+_, _*_, _/_, _%_, _^_}
 use lib.Dec.{eqb, leb, ltb}
 use lib.ListN.{length, getD, set, take, drop, replicate}
 use Rattle.description.specs.declared.MapInfo.{MapInfo}
 use Rattle.description.specs.declared.StreamInfo.{StreamInfo}
 use Rattle.memory.specs.Bytes.{le}
-use Rattle.card.specs.Card.{jackAtPower, noJackInfo, noStream, freshState, setState, preparedState, runningState, stoppedState}
-use Rattle.card.specs.Card.{releasedState}
+use Rattle.card.specs.Card.{jackAtPower, noJackInfo, noStream}
 use Rattle.card.specs.declared.Jack.{Jack}
 use Rattle.card.specs.declared.Params.{Params}
 use Rattle.card.specs.declared.Stream.{Stream}
+use Rattle.rules.specs.Lifecycle.{transition}
 use Rattle.rules.specs.Device.{Rest, withStreams, bytesOf}
 use Rattle.rules.specs.Numbers.{jackInfo, jackRemap, pcmInfo, pcmSetParams, pcmPrepare, pcmRelease, pcmStart, pcmStop, chmapInfo, sOk}
 use Rattle.rules.specs.Numbers.{sBadMsg, sNotSupp}
@@ -171,20 +172,11 @@ streamIn p i = getD (p .streams) i noStream
 abbrev pub withStreamIn : ℕ → Stream → Parts → Parts
 withStreamIn i s p = record { jacks = p .jacks; maps = p .maps; streams = set (p .streams) i s }
 
--- "Lawful: SET_PARAMS from Fresh, Set, Prepared, Released; PREPARE from Set, Prepared, Released; START from Prepared, Stopped;
--- STOP from Running; RELEASE from Prepared, Stopped."
-abbrev pub lawfulFrom : Command → ℕ → Bool
-lawfulFrom command.SetParams state = eqb state freshState || eqb state setState || eqb state preparedState || eqb state releasedState
-lawfulFrom command.Prepare state = eqb state setState || eqb state preparedState || eqb state releasedState
-lawfulFrom command.Start state = eqb state preparedState || eqb state stoppedState
-lawfulFrom command.Stop state = eqb state runningState
-lawfulFrom command.Release state = eqb state preparedState || eqb state stoppedState
-
 abbrev pub withState : ℕ → Stream → Stream
 withState v s = record { info = s .info; state = v; params = s .params }
 
-abbrev pub withParams : Params → Stream → Stream
-withParams p s = record { info = s .info; state = setState; params = p }
+abbrev pub withParams : ℕ → Params → Stream → Stream
+withParams v p s = record { info = s .info; state = v; params = p }
 
 -- a stream's entry in the list
 abbrev pub withStream : Rest → ℕ → Stream → Rest
@@ -259,27 +251,31 @@ judgedParams i p padding =
     need (unpadded padding) sBadMsg (need (sized p) sBadMsg (need (periodic p) sBadMsg (judgedOffer i p)))
 
 -- "A refusal keeps state and parameters."
-abbrev pub setBy : Parts → ℕ → Params → ℕ → Served
-setBy p id params code =
-    cond (eqb code sOk) (Reply (withStreamIn id (withParams params (streamIn p id)) p) (status sOk)) (refusal p code)
+abbrev pub setBy : Parts → ℕ → ℕ → Params → ℕ → Served
+setBy p id state params code =
+    cond (eqb code sOk) (Reply (withStreamIn id (withParams state params (streamIn p id)) p) (status sOk)) (refusal p code)
 
-unfoldable pub setParams : Parts → ℕ → List ℕ → Served
-setParams p id request = setBy p id (paramsOf request) (judgedParams (streamIn p id .info) (paramsOf request) (le 1 request 23))
+unfoldable pub setParams : Parts → ℕ → ℕ → List ℕ → Served
+setParams p id state request = setBy p id state (paramsOf request) (judgedParams (streamIn p id .info) (paramsOf request) (le 1 request 23))
 
--- a lawful command of a stream that is there
-abbrev pub obeyed : Parts → Command → ℕ → List ℕ → Served
-obeyed p command.SetParams id request = setParams p id request
-obeyed p command.Prepare id request = moves p id preparedState
-obeyed p command.Start id request = moves p id runningState
-obeyed p command.Stop id request = moves p id stoppedState
-obeyed p command.Release id request = Release id
+-- a lawful command of a stream that is there, and the state that it leads to. A RELEASE leads there once the stream's queue is empty.
+abbrev pub obeyed : Parts → Command → ℕ → ℕ → List ℕ → Served
+obeyed p command.SetParams id state request = setParams p id state request
+obeyed p command.Prepare id state request = moves p id state
+obeyed p command.Start id state request = moves p id state
+obeyed p command.Stop id state request = moves p id state
+obeyed p command.Release id state request = Release id
 
--- "stream absent: BAD_MSG; transition not lawful: BAD_MSG"
+-- "transition not lawful: BAD_MSG"
+abbrev pub led : Parts → Command → ℕ → List ℕ → Option ℕ → Served
+led p c id request none = refusal p sBadMsg
+led p c id request (some state) = obeyed p c id state request
+
+-- "stream absent: BAD_MSG; .."
 unfoldable pub commanded : Parts → Command → List ℕ → Served
 commanded p c request =
     let id = word request 1 in
-    passing p (ltb id (length (p .streams))) sBadMsg
-    (passing p (lawfulFrom c (streamIn p id .state)) sBadMsg (obeyed p c id request))
+    passing p (ltb id (length (p .streams))) sBadMsg (led p c id request (transition c (streamIn p id .state)))
 
 -- ---- a request
 

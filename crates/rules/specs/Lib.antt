@@ -4,6 +4,7 @@ pub mod Answers
 pub mod Device
 pub mod Loop
 pub mod Transfer
+pub mod Lifecycle
 pub mod Control
 pub mod Counters
 pub mod Calls

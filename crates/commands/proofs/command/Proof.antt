@@ -1,16 +1,18 @@
 -- A stream that is there and a lawful transition are obeyed; else BAD_MSG. `t2` is the parameter `parts`.
 use mathlib.Core.Path.{_≡_, _∙_, sym}
 use mathlib.Core.Bool.{true, false}
+use mathlib.Core.Option.{none, some}
 use Prim.Native.Nat.{_<_}
 use native.Mathlib.Omega.{arith}
 use borrow.Author.Tests.{ltb-true}
 use lib.Dec.{ltb}
 use lib.ListN.{getD}
 use Rattle.card.specs.Card.{noStream}
-use Rattle.rules.specs.Control.{lawfulFrom, word}
+use Rattle.rules.specs.Control.{word}
+use Rattle.rules.specs.Lifecycle.{transition}
 use Rattle.reply.proofs.Laws.{serves-same}
-use Rattle.requests.proofs.Laws.{found-there, found-absent, check-passed, check-failed}
-use Rattle.commands.proofs.Laws.{command-absent, command-unlawful, command-obeyed}
+use Rattle.requests.proofs.Laws.{found-there, found-absent}
+use Rattle.commands.proofs.Laws.{command-absent, command-led, led-to, led-nowhere}
 use borrow.Author.Needs.{needs}
 use Rattle.commands.proofs.command.Statement.{statement}
 use Rattle.commands.proofs.command.Tie as tie
@@ -88,14 +90,14 @@ element-copy-out-stream c =
     let start = back6 .before in
     omega (arith, inside c, start .pre .streams)
 
-is-lawful-requires : tie.Need-is-lawful-requires
-is-lawful-requires c κs = search needs
+lifecycle-requires : tie.Need-lifecycle-requires
+lifecycle-requires c κs = search needs
+
+enum-known-state : tie.Need-enum-known-state
+enum-known-state c = search needs
 
 enum-told-2 : tie.Need-enum-told-2
 enum-told-2 c = search needs
-
-enum-told-3 : tie.Need-enum-told-3
-enum-told-3 c = search needs
 
 answer-requires-2 : tie.Need-answer-requires-2
 answer-requires-2 c κs = search needs
@@ -106,25 +108,26 @@ same-length-2 c = search needs
 returns-2 : tie.Need-returns-2
 returns-2 c =
     let at-answer2 = c .before .before in
-    let at-enum-told3 = at-answer2 .before .before in
-    let at-is-lawful = at-enum-told3 .before .before in
-    let at-known-told = at-is-lawful .before .before in
+    let at-enum-told2 = at-answer2 .before .before in
+    let at-lifecycle = at-enum-told2 .before .before in
+    let at-known-told = at-lifecycle .before .before in
     let back14 = at-known-told .before .before .before .before .before .before in
     let start = back14 .before in
     let a = start .args in
-    let unlawful : lawfulFrom (a .asked) (getD (a .t2 .streams) (word (a .request .now) 1) noStream .state) ≡ false =
-    rw (← (the-stream at-known-told))
-    (check-failed (lawfulFrom (a .asked) (getD (a .t2 .streams) (at-known-told .before .i .given .0 .0) noStream .state))
-    (sym (at-is-lawful .is-lawful .ensures) ∙ at-enum-told3 .enum-told3 .given .1)) in
-    rw (command-unlawful (a .t2) (start .pre) (a .asked) (a .request .now) (there at-known-told) unlawful)
+    let unlawful : transition (a .asked) (getD (a .t2 .streams) (word (a .request .now) 1) noStream .state) ≡ none = rw (← (the-stream at-known-told))
+    (led-nowhere (transition (a .asked) (getD (a .t2 .streams) (at-known-told .before .i .given .0 .0) noStream .state))
+    (sym (at-lifecycle .lifecycle .ensures .0) ∙ at-enum-told2 .enum-told2 .given .1)) in
+    rw (command-led (a .t2) (start .pre) (a .asked) (a .request .now) (there at-known-told) none unlawful)
     (serves-same (a .pending) (a .t2) _ _ _ _ (start .pre) (at-answer2 .answer2 .ensures))
 
 obey-requires : tie.Need-obey-requires
 obey-requires c κs =
-    let at-known-told = c .before .before .before .before .before in
-    let back11 = at-known-told .before .before .before .before .before .before in
-    let start = back11 .before in
-    (start .pre, inside at-known-told)
+    let at-state = c .before .before in
+    let at-lifecycle = at-state .before .before in
+    let at-known-told = at-lifecycle .before .before in
+    let back12 = at-known-told .before .before .before .before .before .before in
+    let start = back12 .before in
+    (start .pre, inside at-known-told, rw (at-state .state .given .1) at (at-lifecycle .lifecycle .ensures .1))
 
 same-length-3 : tie.Need-same-length-3
 same-length-3 c = search needs
@@ -132,17 +135,17 @@ same-length-3 c = search needs
 returns-3 : tie.Need-returns-3
 returns-3 c =
     let at-obey = c .before .before in
-    let at-enum-told2 = at-obey .before .before in
-    let at-is-lawful = at-enum-told2 .before .before in
-    let at-known-told = at-is-lawful .before .before in
-    let back14 = at-known-told .before .before .before .before .before .before in
-    let start = back14 .before in
+    let at-state = at-obey .before .before .before in
+    let at-lifecycle = at-state .before .before in
+    let at-known-told = at-lifecycle .before .before in
+    let back15 = at-known-told .before .before .before .before .before .before in
+    let start = back15 .before in
     let a = start .args in
-    let lawful : lawfulFrom (a .asked) (getD (a .t2 .streams) (word (a .request .now) 1) noStream .state) ≡ true =
-    rw (← (the-stream at-known-told))
-    (check-passed (lawfulFrom (a .asked) (getD (a .t2 .streams) (at-known-told .before .i .given .0 .0) noStream .state))
-    (sym (at-is-lawful .is-lawful .ensures) ∙ at-enum-told2 .enum-told2 .given .1)) in
-    rw (command-obeyed (a .t2) (start .pre) (a .asked) (a .request .now) (there at-known-told) lawful, ← (the-stream at-known-told))
+    let state = at-state .state .given .0 .0 in
+    let lawful : transition (a .asked) (getD (a .t2 .streams) (word (a .request .now) 1) noStream .state) ≡ some state = rw (← (the-stream at-known-told))
+    (led-to (transition (a .asked) (getD (a .t2 .streams) (at-known-told .before .i .given .0 .0) noStream .state)) state
+    (sym (at-lifecycle .lifecycle .ensures .0) ∙ at-state .state .given .1)) in
+    rw (command-led (a .t2) (start .pre) (a .asked) (a .request .now) (there at-known-told) (some state) lawful, ← (the-stream at-known-told))
     (at-obey .obey .ensures)
 
 pub command-spec : {M : Type 1} → statement M
@@ -158,9 +161,9 @@ command-spec =
     returns
     mul-stream
     element-copy-out-stream
-    is-lawful-requires
+    lifecycle-requires
+    enum-known-state
     enum-told-2
-    enum-told-3
     answer-requires-2
     same-length-2
     returns-2

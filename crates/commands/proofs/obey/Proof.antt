@@ -32,8 +32,8 @@ move-stream-requires-3 c κs = search needs
 enum-told-5 : tie.Need-enum-told-5
 enum-told-5 c = search needs
 
-cast-t16 : tie.Need-cast-t16
-cast-t16 c = search needs
+cast-t17 : tie.Need-cast-t17
+cast-t17 c = search needs
 
 same-length : tie.Need-same-length
 same-length c = search needs
@@ -89,7 +89,7 @@ obey-spec =
     enum-told-4
     move-stream-requires-3
     enum-told-5
-    cast-t16
+    cast-t17
     same-length
     returns
     same-length-2

@@ -266,7 +266,7 @@ returns-6 c =
       formats at-enum-told7,
       rates at-enum-told9,
     )
-    (serves-stream (a .pending) (a .t2) _ _ _ (a .i) _ _ (start .pre .0) (start .pre .1) (omega arith)
+    (serves-stream (a .pending) (a .t2) _ _ _ (a .i) _ _ (start .pre .0) (start .pre .1) (start .pre .2)
     (at-answer6 .answer6 .ensures ∙ rw (at-with-stream .with-stream .ensures)))
 
 pub set-offered-spec : {M : Type 1} → statement M

@@ -1,0 +1,2 @@
+-- Where a command leads, as an enum.
+pub mod Commands
