@@ -1,6 +1,6 @@
 -- The play queue's account, run by computation: a play in two calls, a message with the wrong stream id between two others, STOP and RELEASE
 -- of the rest, a reset. All four histories are shown after each of them.
-use mathlib.Core.Path.{_≡_, refl}
+use mathlib.Core.Path.{_≡_, _∙_, refl, sym}
 use mathlib.Core.List.{List, [], _∷_, _++_}
 use mathlib.Core.Option.{none, some}
 use Prim.Native.Nat.{ℕ}
@@ -76,9 +76,12 @@ unfolding runs
 played-on = refl
 
 -- STOP adds nothing; RELEASE gives up what waits
-pub stopped : after (plays ++ Control ∷ []) ≡ after plays
+stopped-with : after (plays ++ Control ∷ []) ≡ record { takings = all; entries = answered; notes = heard; losses = [] }
 unfolding runs
-stopped = refl
+stopped-with = refl
+
+pub stopped : after (plays ++ Control ∷ []) ≡ after plays
+stopped = stopped-with ∙ sym played-on
 
 pub given-up :
     after (plays ++ Control ∷ Control ∷ [])
