@@ -1,26 +1,29 @@
 -- Power-up and the register entries return fit cards.
-use mathlib.Core.Path.{_≡_, refl, _∙_}
+use mathlib.Core.Path.{_≡_, refl, sym, _∙_}
 use mathlib.Core.List.{List, map}
 use mathlib.Core.Bool.{Bool, true, false, cond, _&&_, and-eq-true-iff}
-use Prim.Native.Nat.{ℕ, _≤_}
+use Prim.Native.Nat.{ℕ, _-_, _≤_, _<_}
 use native.Mathlib.Omega.{arith}
-use borrow.Author.Tests.{leb-true, eqb-true}
+use borrow.Author.Tests.{leb-true, eqb-true, eqb-false}
 use lib.Dec.{eqb, leb}
-use lib.ListN.{length, getD, replicate, length-set, length-map, List·getD-map}
+use lib.Seq.{getD-set-same, getD-set-other}
+use lib.ListN.{length, getD, set, replicate, length-set, length-map, List·getD-map}
 use Rattle.description.specs.Lawful.{lawful, lawfulCounts}
 use Rattle.description.specs.declared.Description.{Description}
 use Rattle.ranges.specs.Ranges.{allInside}
 use Rattle.ranges.proofs.Laws.{sound-none}
 use Rattle.registers.specs.Fit.{FitRegisters}
+use Rattle.registers.specs.Map.{sizeOf}
 use Rattle.registers.specs.Rules.{writeOf}
 use Rattle.registers.specs.declared.Registers.{Registers}
 use Rattle.registers.specs.declared.Effect.{Effect}
 use Rattle.registers.specs.declared.Effect.the-variants.{Nothing, Reset, Based, Rung}
 use Rattle.registers.proofs.Keeps.{power-on-fit, read-fit, write-fit}
-use Rattle.card.specs.Card.{cardOf, partsAtPower, noParts, noMessage, noCounters, noStream, freshStream, jackAtPower, withRegisters, configOf}
-use Rattle.card.specs.Fit.{Fit, FitParts, FitMessage}
+use Rattle.card.specs.Card.{cardOf, partsAtPower, noParts, noMessage, noCounters, noStream, freshStream, jackAtPower, withRegisters, withCounters, configOf}
+use Rattle.card.specs.Fit.{Fit, FitParts, FitMessage, FitQueue}
 use Rattle.card.specs.Rules.{readCard, writeCard, affected, rungOf, resetCard, basedCard, jackReset, streamReset, partsReset}
 use Rattle.card.specs.declared.Card.{Card}
+use Rattle.card.specs.declared.Counters.{Counters}
 use Rattle.card.specs.declared.Message.{Message}
 use Rattle.card.specs.declared.Parts.{Parts}
 use Rattle.card.specs.declared.Stream.{Stream}
@@ -39,6 +42,17 @@ no-message-fit len =
       moved = omega arith;
       request-inside = refl;
       reply-inside = refl;
+    }
+
+-- a queue of which nothing was taken
+pub no-queue-fit : (N payload len : ℕ) → FitQueue N payload len noCounters noMessage
+no-queue-fit N payload len =
+    record {
+      message = no-message-fit len;
+      wraps = omega arith;
+      balanced = refl;
+      head = λ h. absurd (omega arith);
+      waits = λ h. absurd (omega arith);
     }
 
 -- ---- parts
@@ -94,15 +108,26 @@ parts-reset-fit p f =
 
 pub card-of-fit : (p : Parts) (len : ℕ) → FitParts p → Fit (cardOf p len)
 card-of-fit p len f =
-    record { registers = power-on-fit; parts = f; four = refl; play = no-message-fit len; capture = no-message-fit len }
+    record { registers = power-on-fit; parts = f; four = refl; play = no-queue-fit _ _ len; capture = no-queue-fit _ _ len }
 
 module _ (c : Card) (f : Fit c) where
-  with-registers-fit : (r : Registers) → FitRegisters r → Fit (withRegisters c r)
-  with-registers-fit r g = record { registers = g; parts = f .parts; four = f .four; play = f .play; capture = f .capture }
+  pub fit-with-registers : (r : Registers) → FitRegisters r → Fit (withRegisters c r)
+  fit-with-registers r g = record { registers = g; parts = f .parts; four = f .four; play = f .play; capture = f .capture }
+
+  -- the control or the event queue with other counters
+  pub fit-with-counters : (q : ℕ) (v : Counters) → q < 2 → Fit (withCounters q v c)
+  fit-with-counters q v h =
+      record {
+        registers = f .registers;
+        parts = f .parts;
+        four = length-set (c .queues) q v ∙ f .four;
+        play = rw (getD-set-other (c .queues) q 2 v noCounters (λ e. omega arith)) (f .play);
+        capture = rw (getD-set-other (c .queues) q 3 v noCounters (λ e. omega arith)) (f .capture);
+      }
 
   pub read-card-fit : (offset width : ℕ) → Fit (readCard c offset width .card)
   unfolding readCard
-  read-card-fit offset width = with-registers-fit _ (read-fit (c .registers) (f .registers) (configOf c) offset width)
+  read-card-fit offset width = fit-with-registers _ (read-fit (c .registers) (f .registers) (configOf c) offset width)
 
   reset-card-fit : Fit (resetCard c)
   unfolding resetCard
@@ -111,13 +136,19 @@ module _ (c : Card) (f : Fit c) where
         registers = f .registers;
         parts = parts-reset-fit (c .parts) (f .parts);
         four = refl;
-        play = no-message-fit (c .«ram_len»);
-        capture = no-message-fit (c .«ram_len»);
+        play = no-queue-fit _ _ (c .«ram_len»);
+        capture = no-queue-fit _ _ (c .«ram_len»);
       }
 
-  dropped-fit : (b : Bool) (m : Message) → FitMessage (c .«ram_len») m → FitMessage (c .«ram_len») (cond b noMessage m)
-  dropped-fit true m g = no-message-fit (c .«ram_len»)
-  dropped-fit false m g = g
+  -- a stream's queue i after a base write of queue q; its payload is measured by `p`
+  dropped-fit : (N q i : ℕ) (p : Message → ℕ) (m : Message) (b : Bool)
+      → i < 4
+      → eqb q i ≡ b
+      → FitQueue N (p m) (c .«ram_len») (getD (c .queues) i noCounters) m
+      → let n : Message = cond b noMessage m in FitQueue N (p n) (c .«ram_len») (getD (set (c .queues) q noCounters) i noCounters) n
+  dropped-fit N q i p m true l e g =
+      rw (eqb-true q i e, getD-set-same (c .queues) i noCounters noCounters (omega (arith, f .four))) (no-queue-fit N (p noMessage) (c .«ram_len»))
+  dropped-fit N q i p m false l e g = rw (getD-set-other (c .queues) q i noCounters noCounters (λ z. eqb-false q i e (sym z))) g
 
   based-card-fit : (q : ℕ) → Fit (basedCard q c)
   unfolding basedCard
@@ -126,8 +157,8 @@ module _ (c : Card) (f : Fit c) where
         registers = f .registers;
         parts = f .parts;
         four = length-set (c .queues) q noCounters ∙ f .four;
-        play = dropped-fit (eqb q 2) (c .play) (f .play);
-        capture = dropped-fit (eqb q 3) (c .capture) (f .capture);
+        play = dropped-fit (sizeOf 2) q 2 (λ m. m .request .bytes - 4) (c .play) (eqb q 2) (omega arith) refl (f .play);
+        capture = dropped-fit (sizeOf 3) q 3 (λ m. m .reply .bytes - 8) (c .capture) (eqb q 3) (omega arith) refl (f .capture);
       }
 
 affected-fit : (e : Effect) (c : Card) → Fit c → Fit (affected e c)
@@ -140,7 +171,7 @@ pub write-card-fit : (c : Card) → Fit c → (offset width v : ℕ) → Fit (wr
 unfolding writeCard
 write-card-fit c f offset width v =
     affected-fit (writeOf (c .registers) offset width v .effect) (withRegisters c (writeOf (c .registers) offset width v .registers))
-    (with-registers-fit c f _ (write-fit (c .registers) (f .registers) offset width v))
+    (fit-with-registers c f _ (write-fit (c .registers) (f .registers) offset width v))
 
 -- the outcome of a write whose effect is known, and that its card is fit
 pub write-by-effect : (c : Card) → Fit c → (offset width v : ℕ) (e : Effect) → writeOf (c .registers) offset width v .effect ≡ e

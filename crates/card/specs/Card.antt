@@ -1,7 +1,7 @@
 -- The card's state and its parts.
 use mathlib.Core.List.{map}
 use Prim.Native.Nat.{ℕ, _+_}
-use lib.ListN.{replicate}
+use lib.ListN.{replicate, set}
 use Rattle.description.specs.declared.Description.{Description}
 use Rattle.description.specs.declared.JackInfo.{JackInfo}
 use Rattle.description.specs.declared.MapInfo.{MapInfo}
@@ -100,3 +100,15 @@ configOf c = record { jacks = c .parts .«jack_count»; streams = c .parts .«st
 abbrev pub withRegisters : Card → Registers → Card
 withRegisters c r =
     record { «ram_len» = c .«ram_len»; registers = r; parts = c .parts; queues = c .queues; play = c .play; capture = c .capture }
+
+-- a card with these counters of a queue
+abbrev pub withCounters : ℕ → Counters → Card → Card
+withCounters q v c =
+    record {
+      «ram_len» = c .«ram_len»;
+      registers = c .registers;
+      parts = c .parts;
+      queues = set (c .queues) q v;
+      play = c .play;
+      capture = c .capture;
+    }

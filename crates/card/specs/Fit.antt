@@ -1,12 +1,14 @@
 -- What holds of every card that power-up or an entry returned: all that an entry may require of the card given in.
 use mathlib.Core.Path.{_≡_}
 use mathlib.Core.Bool.{true}
-use Prim.Native.Nat.{ℕ, _+_, _≤_}
+use Prim.Native.Nat.{ℕ, _+_, _-_, _%_, _≤_, _<_}
 use lib.ListN.{length, getD}
 use Rattle.ranges.specs.Ranges.{Sound, rangesOf, allInside}
 use Rattle.registers.specs.Fit.{FitRegisters}
-use Rattle.card.specs.Card.{noStream}
+use Rattle.registers.specs.Map.{sizeOf}
+use Rattle.card.specs.Card.{noStream, noCounters}
 use Rattle.card.specs.declared.Card.{Card}
+use Rattle.card.specs.declared.Counters.{Counters}
 use Rattle.card.specs.declared.Message.{Message}
 use Rattle.card.specs.declared.Parts.{Parts}
 
@@ -22,6 +24,16 @@ pub record FitMessage (len : ℕ) (m : Message) : Type 0 where
   pub request-inside : allInside len (rangesOf (m .request)) ≡ true
   pub reply-inside : allInside len (rangesOf (m .reply)) ≡ true
 
+-- a stream's queue, of N descriptors, whose message in work has a payload of so many bytes
+pub record FitQueue (N payload len : ℕ) (q : Counters) (m : Message) : Type 0 where
+  pub message : FitMessage len m
+  pub wraps : q .completed < 65536
+  -- as many were taken and not completed as are in work, modulo 65,536
+  pub balanced : (q .taken + (65536 - q .completed)) % 65536 ≡ m .count
+  -- a message in work has a head of the table, and something of its payload waits
+  pub head : 0 < m .count → m .head .0 < N
+  pub waits : 0 < m .count → m .done < payload
+
 -- no more parts than there is room for, each stream in one of the six states
 pub record FitParts (p : Parts) : Type 0 where
   pub jacks : p .«jack_count» ≤ 4
@@ -36,5 +48,5 @@ pub record Fit (c : Card) : Type 0 where
   pub registers : FitRegisters (c .registers)
   pub parts : FitParts (c .parts)
   pub four : length (c .queues) ≡ 4
-  pub play : FitMessage (c .«ram_len») (c .play)
-  pub capture : FitMessage (c .«ram_len») (c .capture)
+  pub play : FitQueue (sizeOf 2) (c .play .request .bytes - 4) (c .«ram_len») (getD (c .queues) 2 noCounters) (c .play)
+  pub capture : FitQueue (sizeOf 3) (c .capture .reply .bytes - 8) (c .«ram_len») (getD (c .queues) 3 noCounters) (c .capture)

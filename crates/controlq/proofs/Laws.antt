@@ -6,7 +6,7 @@ use Prim.Native.Nat.{ℕ, zero, suc, _≤_, _<_}
 use native.Mathlib.Omega.{arith}
 use borrow.Author.Tests.{eq-eqb, ne-eqb}
 use lib.Dec.{eqb, leb}
-use lib.ListN.{length, getD, take, length-set, length-take}
+use lib.ListN.{length, getD, take, length-take}
 use lib.Seq.{getD-set-same, getD-set-other, length-take-le, set-out, take-set-lt}
 use Rattle.counts.specs.declared.DescriptorNumber.{DescriptorNumber}
 use Rattle.counts.specs.declared.PageNumber.{PageNumber}
@@ -25,7 +25,9 @@ use Rattle.ring.specs.declared.Check.{Check}
 use Rattle.ring.specs.declared.Head.{Head}
 use Rattle.ring.specs.declared.Posted.{Posted}
 use Rattle.ring.specs.declared.Stop.{Stop}
+use Rattle.card.specs.Card as card
 use Rattle.card.specs.Card.{noCounters, noStream, releasedState}
+use Rattle.card.proofs.Keeps.{fit-with-registers, fit-with-counters}
 use Rattle.card.specs.Fit.{Fit}
 use Rattle.card.specs.declared.Card.{Card}
 use Rattle.card.specs.declared.Counters.{Counters}
@@ -107,8 +109,7 @@ module _ (c : Card) (f : Fit c) where
       )
 
   pub held-fit : (g : Registers) (q : Counters) → FitRegisters g → Fit (holding g q c)
-  held-fit g q h =
-      record { registers = h; parts = f .parts; four = length-set (c .queues) controlQueue q ∙ f .four; play = f .play; capture = f .capture }
+  held-fit g q h = fit-with-counters (card.withRegisters c g) (fit-with-registers c f g h) controlQueue q (omega arith)
 
   -- a completion, counted
   pub counted-says : (head : DescriptorNumber) (reply : Ranges) (bytes m after : List ℕ) (p : Posted)

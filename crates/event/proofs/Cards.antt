@@ -12,7 +12,9 @@ use lib.Seq.{take-set-lt, getD-take, getD-set-same, getD-set-other}
 use Rattle.registers.specs.Answers.{lengthDiffers, notLive, eventNotAllowed, plain}
 use Rattle.registers.specs.Fit.{FitRegisters}
 use Rattle.registers.specs.Rules.{live}
+use Rattle.card.specs.Card as card
 use Rattle.card.specs.Card.{noStream, noCounters}
+use Rattle.card.proofs.Keeps.{fit-with-registers, fit-with-counters}
 use Rattle.card.specs.Fit.{Fit}
 use Rattle.card.specs.declared.Card.{Card}
 use Rattle.card.specs.declared.Jack.{Jack}
@@ -89,7 +91,7 @@ module _ (c : Card) (f : Fit c) where
   module _ (a : Attempt) where
     pub held-fit : FitRegisters (a .registers) → Fit (cardHolding (a .registers) (a .counters) c)
     held-fit g =
-        record { registers = g; parts = f .parts; four = length-set (c .queues) eventQueue _ ∙ f .four; play = f .play; capture = f .capture }
+        fit-with-counters (card.withRegisters c (a .registers)) (fit-with-registers c f (a .registers) g) eventQueue (a .counters) (omega arith)
 
     held-device : deviceOf (cardHolding (a .registers) (a .counters) c) ≡ withRest (holding (a .registers) (a .counters) (restOf c)) (deviceOf c)
     unfolding restOf deviceOf

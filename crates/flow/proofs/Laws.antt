@@ -1,7 +1,7 @@
 -- A flow's steps as the rules have them: moving bytes on both sides.
 use mathlib.Core.Path.{_≡_, refl, sym, _∙_}
 use mathlib.Core.List.{List, [], _∷_, _++_}
-use mathlib.Core.Bool.{Bool, true, false, cond, _&&_, not}
+use mathlib.Core.Bool.{Bool, true, false, cond, _&&_, not, true≢false}
 use Prim.Native.Nat.{ℕ, zero, suc, _+_, _-_, _≤_, _<_, min}
 use native.Mathlib.Nat.{sub-zero, min-eq-left}
 use native.Mathlib.Omega.{arith}
@@ -177,9 +177,13 @@ nil-of : (l : List ℕ) → length l ≡ 0 → isNil l ≡ true
 nil-of [] h = refl
 nil-of (x ∷ l) h = absurd (omega arith)
 
-not-nil : (l : List ℕ) → 0 < length l → isNil l ≡ false
+pub not-nil : (l : List ℕ) → 0 < length l → isNil l ≡ false
 not-nil [] h = absurd (omega arith)
 not-nil (x ∷ l) h = refl
+
+pub some-left : (l : List ℕ) → isNil l ≡ false → 0 < length l
+some-left [] h = absurd (true≢false h)
+some-left (x ∷ l) h = omega arith
 
 module _ (v : rules.Virtqueue) (m host : List ℕ) (f : Flow) (busy : Busy f) (g : FitMessage (length m) (f .message)) where
   pub settled-now : payloadBytes (v .direction) (f .message) - f .message .done ≡ 0

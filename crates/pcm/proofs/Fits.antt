@@ -7,14 +7,15 @@ use borrow.Author.Tests.{eqb-true}
 use lib.Dec.{eqb}
 use Rattle.registers.specs.Answers.{done, lengthDiffers, notLive, notRunning}
 use Rattle.registers.specs.Rules.{live}
-use Rattle.card.specs.Fit.{Fit, FitMessage}
+use Rattle.card.specs.Fit.{Fit}
 use Rattle.card.specs.declared.Card.{Card}
 use Rattle.meaning.specs.Card.{restOf}
+use Rattle.message.specs.Message.{directionOf}
 use Rattle.message.specs.declared.Direction.{Direction}
 use Rattle.rules.specs.Calls.{isRunning}
 use Rattle.rules.specs.Device.{signalledIf}
 use Rattle.stream.specs.Queue.{withRegisters}
-use Rattle.stream.proofs.Fits.{signal-fit, broken-by-fit, with-registers-fit, with-flow-fit}
+use Rattle.stream.proofs.Fits.{FitIn, signal-fit, broken-by-fit, with-registers-fit, with-flow-fit}
 use Rattle.flow.specs.declared.Flow.{Flow}
 use Rattle.pcm.specs.Entry.{refusalOf, flowedCard, registersAfter}
 
@@ -27,7 +28,10 @@ passed-length c len id h = by (eqb len (c .«ram_len»)) refl h where
   by true e k = eqb-true len (c .«ram_len») e
   by false e k = absurd (omega arith)
 
-pub flowed-fit : (d : Direction) (g : Flow) (c : Card) → Fit c → FitMessage (c .«ram_len») (g .message) → Fit (flowedCard d g c)
+pub flowed-fit : (d : Direction) (g : Flow) (c : Card)
+    → Fit c
+    → FitIn (directionOf d) (c .«ram_len») (g .counters) (g .message)
+    → Fit (flowedCard d g c)
 flowed-fit d g c f h =
     let signal = signal-fit (g .signal) (c .registers) (f .registers) in
     let registers = broken-by-fit (g .stop) (signalledIf (g .signal) (c .registers)) signal in

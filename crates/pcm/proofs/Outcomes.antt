@@ -12,7 +12,7 @@ use Rattle.registers.specs.declared.answers.Answer.{Answer}
 use Rattle.ring.specs.Rules.{checkOf}
 use Rattle.ring.specs.declared.Check.{Check}
 use Rattle.ring.specs.declared.Cause.{Cause}
-use Rattle.card.specs.Fit.{Fit}
+use Rattle.card.specs.Fit.{Fit, FitMessage}
 use Rattle.card.specs.declared.Card.{Card}
 use Rattle.meaning.specs.Card.{queueOf, restOf, deviceOf, stepOf, leaves}
 use Rattle.message.specs.Message.{directionOf}
@@ -23,13 +23,15 @@ use Rattle.rules.specs.Calls.{hostAfter, transferStep, transferred, transferFou
 use Rattle.rules.specs.Counters.{countersOf}
 use Rattle.rules.specs.Device as rules
 use Rattle.rules.specs.Transfer.{Run, begun, found, transferRun}
+use Rattle.rules.proofs.Between.{transfer-kept, transfer-waits}
 use Rattle.rules.proofs.Host.{run-past}
 use Rattle.flow.specs.Flow.{runOf}
 use Rattle.flow.specs.declared.Flow.{Flow}
 use Rattle.stream.specs.Queue.{withRegisters, countersIn, messageIn}
-use Rattle.stream.proofs.Fits.{message-fit}
+use Rattle.stream.proofs.Fits.{queue-fit, message-fit, counted-of, waits-of, fit-of, waits-same}
 use Rattle.stream.proofs.Laws.{queue-in, found-check, flowed-device}
 use Rattle.pcm.specs.Entry.{refusalOf, transferOf, bufferOf, flowedCard, registersAfter}
+use Rattle.pcm.proofs.Fits.{flowed-fit}
 use Rattle.pcm.proofs.Host.{host-after}
 use Rattle.pcm.proofs.Laws.{refused-transfer, passed-transfer}
 
@@ -121,6 +123,22 @@ module _ (way : Direction) (c : Card) (m host : List ℕ) where
           ≡ leaves (flowedCard way g c) (answerBy (rules.queueNumber d) (g .stop)) (g .moved) (take (g .moved) host′) (bufferOf d host′) m′
       unfolding transferStep runOf deviceOf restOf
       told = rw (after way, counted, buffer d)
+
+      -- the queue that the flow left is the rules'
+      left-queue : queueOf (g .counters) (g .message)
+          ≡ transferRun (countersOf d) lies n (begun (queueOf (countersIn c way) (messageIn c way)) m host) .queue
+      unfolding runOf
+      left-queue = ap (λ (r : Run rules.Queue). r .queue) run
+
+      pub transfer-fit : FitMessage (c .«ram_len») (g .message) → Fit (flowedCard way g c)
+      transfer-fit message =
+          let first = begun (queueOf (countersIn c way) (messageIn c way)) m host in
+          let own-fit = queue-fit c way f in
+          flowed-fit way g c f
+          (fit-of d (c .«ram_len») (g .counters) (g .message) message
+          (rw left-queue (transfer-kept lies n first (counted-of d (c .«ram_len») (countersIn c way) (messageIn c way) own-fit)))
+          (waits-same d _ _ left-queue
+          (transfer-waits lies n first (waits-of d (c .«ram_len») (countersIn c way) (messageIn c way) own-fit))))
 
       pub transfer-new : stepOf c (transferOf d host) m
           ≡ leaves (flowedCard way g c) (answerBy (rules.queueNumber d) (g .stop)) (g .moved) (take (g .moved) host′) (bufferOf d host′) m′

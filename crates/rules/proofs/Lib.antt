@@ -5,6 +5,7 @@ pub mod Cases
 pub mod Lists
 pub mod Keeps
 pub mod Host
+pub mod Between
 pub mod Natural
 pub mod Calls
 pub mod Histories

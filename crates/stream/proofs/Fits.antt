@@ -1,20 +1,37 @@
 -- Cards with other registers or another queue are fit.
-use mathlib.Core.Path.{_∙_}
-use mathlib.Core.Bool.{Bool, true, false}
-use lib.ListN.{length-set}
+use mathlib.Core.Path.{_≡_, _∙_, refl}
+use mathlib.Core.Bool.{Bool, true, false, true≢false}
+use mathlib.Core.List.{List}
+use Prim.Native.Nat.{ℕ, zero, suc, _-_, _<_}
+use native.Mathlib.Omega.{arith}
+use lib.Dec.{eqb}
+use lib.ListN.{length, drop, length-set}
+use lib.Seq.{getD-set-same, getD-set-other}
 use Rattle.registers.specs.Fit.{FitRegisters}
+use Rattle.registers.specs.Map.{sizeOf}
 use Rattle.registers.specs.Rules.{broken}
 use Rattle.registers.specs.declared.Registers.{Registers}
 use Rattle.registers.proofs.Keeps.{signalled-fit, broken-fit}
-use Rattle.card.specs.Fit.{Fit, FitMessage}
+use Rattle.card.specs.Card.{noCounters}
+use Rattle.card.specs.Fit.{Fit, FitMessage, FitQueue}
 use Rattle.card.specs.declared.Card.{Card}
+use Rattle.card.specs.declared.Counters.{Counters}
+use Rattle.card.specs.declared.Message.{Message}
+use Rattle.card.proofs.Keeps.{fit-with-registers}
+use Rattle.meaning.specs.Card.{takingIn, queueOf}
+use Rattle.message.specs.Message.{directionOf}
 use Rattle.message.specs.declared.Direction.{Direction}
 use Rattle.message.specs.declared.Direction.the-variants.{Output, Input}
 use Rattle.ring.specs.declared.Stop.{Stop}
 use Rattle.rules.specs.Answers.{brokenBy}
+use Rattle.rules.specs.Device as rules
 use Rattle.rules.specs.Device.{signalledIf}
+use Rattle.rules.specs.Transfer.{payloadOf}
+use Rattle.rules.proofs.Between.{Counted, Waits}
+use Rattle.flow.specs.Flow.{payloadBytes}
+use Rattle.flow.proofs.Laws.{left-length, not-nil, some-left}
 use Rattle.flow.specs.declared.Flow.{Flow}
-use Rattle.stream.specs.Queue.{withRegisters, withFlow, messageIn}
+use Rattle.stream.specs.Queue.{withRegisters, withFlow, countersIn, messageIn}
 
 pub signal-fit : (b : Bool) (g : Registers) → FitRegisters g → FitRegisters (signalledIf b g)
 signal-fit true g f = signalled-fit g f
@@ -25,30 +42,97 @@ broken-by-fit Stop.Going g f = f
 broken-by-fit (Stop.Broke cause) g f = broken-fit g f
 
 pub with-registers-fit : (c : Card) (g : Registers) → Fit c → FitRegisters g → Fit (withRegisters g c)
-with-registers-fit c g f h = record { registers = h; parts = f .parts; four = f .four; play = f .play; capture = f .capture }
+with-registers-fit c g f h = fit-with-registers c f g h
 
 pub broken-card-fit : (c : Card) → Fit c → Fit (withRegisters (broken (c .registers)) c)
 broken-card-fit c f = with-registers-fit c (broken (c .registers)) f (broken-fit (c .registers) (f .registers))
 
--- the message in work of either queue is fit
-pub message-fit : (c : Card) (d : Direction) → Fit c → FitMessage (c .«ram_len») (messageIn c d)
-message-fit c Output f = f .play
-message-fit c Input f = f .capture
+-- ---- a stream's queue
 
-pub with-flow-fit : (d : Direction) (g : Flow) (c : Card) → Fit c → FitMessage (c .«ram_len») (g .message) → Fit (withFlow d g c)
+-- fit, with these counters and this message
+abbrev pub FitIn : rules.Direction → ℕ → Counters → Message → Type 0
+FitIn d len q m = FitQueue (sizeOf (rules.queueNumber d)) (payloadBytes d m) len q m
+
+-- that of either direction is fit
+pub queue-fit : (c : Card) (d : Direction) → Fit c → FitIn (directionOf d) (c .«ram_len») (countersIn c d) (messageIn c d)
+queue-fit c Output f = f .play
+queue-fit c Input f = f .capture
+
+pub message-fit : (c : Card) (d : Direction) → Fit c → FitMessage (c .«ram_len») (messageIn c d)
+message-fit c d f = queue-fit c d f .message
+
+pub waits-same : (d : rules.Direction) (a b : rules.Queue) → a ≡ b → Waits d b → Waits d a
+waits-same d a b e w = rw e w
+
+-- what holds of it in the rules, and the other way round
+module _ (d : rules.Direction) (len : ℕ) (q : Counters) (m : Message) where
+  abbrev left : List ℕ
+  left = drop (m .done) (payloadOf d (takingIn m))
+
+  counted-by : (n : ℕ) → m .count ≡ n → FitIn d len q m → Counted (sizeOf (rules.queueNumber d)) (queueOf q m)
+  counted-by zero e f = rw e (record { wraps = f .wraps; balanced = rw e at (f .balanced); head = λ h. absurd (true≢false h) })
+  counted-by (suc zero) e f =
+      rw e (record { wraps = f .wraps; balanced = rw e at (f .balanced); head = λ h. f .head (omega arith) })
+  counted-by (suc (suc n)) e f = absurd (omega (arith, f .message .one))
+
+  pub counted-of : FitIn d len q m → Counted (sizeOf (rules.queueNumber d)) (queueOf q m)
+  counted-of f = counted-by (m .count) refl f
+
+  waits-by : (n : ℕ) → m .count ≡ n → FitIn d len q m → Waits d (queueOf q m)
+  waits-by zero e f = rw e (λ h. absurd (true≢false h))
+  waits-by (suc zero) e f =
+      let w = f .waits (omega arith) in
+      let l : length left ≡ payloadBytes d m - m .done = left-length d m (f .message .request) (f .message .reply) in
+      rw e (λ h. not-nil left (omega arith))
+  waits-by (suc (suc n)) e f = absurd (omega (arith, f .message .one))
+
+  pub waits-of : FitIn d len q m → Waits d (queueOf q m)
+  waits-of f = waits-by (m .count) refl f
+
+  module _ (g : FitMessage len m) (k : Counted (sizeOf (rules.queueNumber d)) (queueOf q m)) (w : Waits d (queueOf q m)) where
+    fit-by : (n : ℕ) → m .count ≡ n → FitIn d len q m
+    fit-by zero e =
+        record {
+          message = g;
+          wraps = k .wraps;
+          balanced = rw e (rw e at (k .balanced));
+          head = λ h. absurd (omega arith);
+          waits = λ h. absurd (omega arith);
+        }
+    fit-by (suc zero) e =
+        let one : eqb (m .count) 0 ≡ false = rw e in
+        let l : length left ≡ payloadBytes d m - m .done = left-length d m (g .request) (g .reply) in
+        let head : takingIn m .head < sizeOf (rules.queueNumber d) = rw one at (k .head) refl in
+        let some : 0 < length left = some-left left (rw one at w refl) in
+        record {
+          message = g;
+          wraps = k .wraps;
+          balanced = rw e (rw one at (k .balanced));
+          head = λ h. head;
+          waits = λ h. omega arith;
+        }
+    fit-by (suc (suc n)) e = absurd (omega (arith, g .one))
+
+    pub fit-of : FitIn d len q m
+    fit-of = fit-by (m .count) refl
+
+pub with-flow-fit : (d : Direction) (g : Flow) (c : Card)
+    → Fit c
+    → FitIn (directionOf d) (c .«ram_len») (g .counters) (g .message)
+    → Fit (withFlow d g c)
 with-flow-fit Output g c f h =
     record {
       registers = f .registers;
       parts = f .parts;
       four = length-set (c .queues) 2 (g .counters) ∙ f .four;
-      play = h;
-      capture = f .capture;
+      play = rw (getD-set-same (c .queues) 2 (g .counters) noCounters (omega (arith, f .four))) h;
+      capture = rw (getD-set-other (c .queues) 2 3 (g .counters) noCounters (λ e. omega arith)) (f .capture);
     }
 with-flow-fit Input g c f h =
     record {
       registers = f .registers;
       parts = f .parts;
       four = length-set (c .queues) 3 (g .counters) ∙ f .four;
-      play = f .play;
-      capture = h;
+      play = rw (getD-set-other (c .queues) 3 2 (g .counters) noCounters (λ e. omega arith)) (f .play);
+      capture = rw (getD-set-same (c .queues) 3 (g .counters) noCounters (omega (arith, f .four))) h;
     }

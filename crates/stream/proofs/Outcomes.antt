@@ -1,7 +1,7 @@
 -- Emptying a queue by its check: nothing pending, broken, or entries given up.
 use mathlib.Core.Path.{_≡_, _∙_, refl, sym, ap}
 use mathlib.Core.List.{List, []}
-use mathlib.Core.Bool.{true, false}
+use mathlib.Core.Bool.{true, false, true≢false}
 use Prim.Native.Nat.{ℕ}
 use lib.ListN.{length}
 use Rattle.ring.specs.Rules.{checkOf}
@@ -17,11 +17,12 @@ use Rattle.message.specs.declared.Direction.the-variants.{Output, Input}
 use Rattle.rules.specs.Calls.{emptied, emptiedFound, emptiedBy, virtqueueOf}
 use Rattle.rules.specs.Counters.{countersOf}
 use Rattle.rules.specs.Device as rules
-use Rattle.rules.specs.Transfer.{begun, found, releaseRun}
+use Rattle.rules.specs.Transfer.{Run, begun, found, releaseRun}
 use Rattle.flow.specs.Flow.{runOf, freshFlow, Steps}
 use Rattle.flow.specs.declared.Flow.{Flow}
 use Rattle.stream.specs.Queue.{countersIn, messageIn, withFlow, Empties}
-use Rattle.stream.proofs.Fits.{message-fit, with-flow-fit}
+use Rattle.rules.proofs.Between.{release-kept, release-none}
+use Rattle.stream.proofs.Fits.{FitIn, queue-fit, message-fit, counted-of, fit-of, waits-same, with-flow-fit}
 use Rattle.stream.proofs.Laws.{queue-in, found-check, fresh-run, flowed-device, with-own-queue, queue-for-with}
 
 -- a flow changes its queue alone
@@ -90,6 +91,21 @@ module _ (c : Card) (d : Direction) (m : List ℕ) (f : Fit c) where
     began : begun own m [] ≡ runOf (freshFlow (countersIn c d) (messageIn c d)) m []
     began = rw (queue-in c d) (sym (fresh-run (countersIn c d) (messageIn c d) m []))
 
+    -- the queue that the flow left is the rules'
+    left-queue : queueOf (g .counters) (g .message)
+        ≡ releaseRun (countersOf way) lies n (runOf (freshFlow (countersIn c d) (messageIn c d)) m []) .queue
+    unfolding runOf
+    left-queue = ap (λ (r : Run rules.Queue). r .queue) (s .run [])
+
+    flow-fit : FitIn way (c .«ram_len») (g .counters) (g .message)
+    unfolding runOf
+    flow-fit =
+        let first = runOf (freshFlow (countersIn c d) (messageIn c d)) m [] in
+        let none = release-none lies n first in
+        fit-of way (c .«ram_len») (g .counters) (g .message) (rw long at (s .message))
+        (rw left-queue (release-kept lies n first (counted-of way (c .«ram_len») (countersIn c d) (messageIn c d) (queue-fit c d f))))
+        (waits-same way _ _ left-queue (λ h. absurd (true≢false (sym none ∙ h))))
+
     pub empties-new : Empties way c m m′ (record { stop = g .stop; signal = g .signal; card = withFlow d g c })
     unfolding runOf
     empties-new =
@@ -103,6 +119,6 @@ module _ (c : Card) (d : Direction) (m : List ℕ) (f : Fit c) where
           ram = kept d g c .0;
           registers = kept d g c .1;
           parts = kept d g c .2;
-          fit = with-flow-fit d g c f (rw long at (s .message));
+          fit = with-flow-fit d g c f flow-fit;
           long = s .long;
         }

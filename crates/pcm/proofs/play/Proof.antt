@@ -8,8 +8,8 @@ use Rattle.message.specs.declared.Direction.the-variants.{Output}
 use Rattle.stream.proofs.Fits.{broken-card-fit}
 use Rattle.stream.proofs.Laws.{virtqueue-in, fresh-run}
 use Rattle.pcm.specs.Entry.{refusalOf}
-use Rattle.pcm.proofs.Fits.{passed-length, flowed-fit}
-use Rattle.pcm.proofs.Outcomes.{checked, transfer-refused, transfer-idle, transfer-broken, transfer-new}
+use Rattle.pcm.proofs.Fits.{passed-length}
+use Rattle.pcm.proofs.Outcomes.{checked, transfer-refused, transfer-idle, transfer-broken, transfer-fit, transfer-new}
 use Rattle.pcm.proofs.play.Statement.{statement}
 use Rattle.pcm.proofs.play.Tie as tie
 
@@ -36,7 +36,7 @@ checks c =
 in-work-fit : (c : tie.Else1) → let a = start c .args in FitMessage (length (a .m .now)) (a .card .play)
 in-work-fit c =
     let s = start c in
-    rw (passed-length (s .args .card) (length (s .args .m .now)) 0 (passed c)) (s .pre .play)
+    rw (passed-length (s .args .card) (length (s .args .m .now)) 0 (passed c)) (s .pre .play .message)
 
 refusal-requires : tie.Need-refusal-requires
 refusal-requires c κs = search needs
@@ -126,11 +126,13 @@ returns-4 c =
     let f = g .play .result in
     let t = rw (k .before .before .before .before .before .before .virtqueue .ensures, virtqueue-in (a .card) Output) at (g .play .ensures) in
     let fresh = fresh-run (countersAt (a .card) 2) (a .card .play) (a .m .now) (a .host .now) in
+    let h = sym (checks k) ∙ new .new .given .1 in
     let fit = rw (passed-length (a .card) (length (a .m .now)) 0 (passed (tested k))) at (t .fit .message) in
     rw (c .transferred .ensures) (
-      transfer-new Output (a .card) (a .m .now) (a .host .now) (s .pre) (passed (tested k)) (new .new .given .0 .0)
-          (sym (checks k) ∙ new .new .given .1) _ _ f (t .run ∙ rw fresh) (t .fit .inside) (t .host-long),
-      flowed-fit Output f (a .card) (s .pre) fit,
+      transfer-new Output (a .card) (a .m .now) (a .host .now) (s .pre) (passed (tested k)) (new .new .given .0 .0) h _ _ f
+          (t .run ∙ rw fresh) (t .fit .inside) (t .host-long),
+      transfer-fit Output (a .card) (a .m .now) (a .host .now) (s .pre) (passed (tested k)) (new .new .given .0 .0) h _ _ f
+          (t .run ∙ rw fresh) (t .fit .inside) (t .host-long) fit,
     )
 
 pub play-spec : {M : Type 1} → statement M
