@@ -684,7 +684,7 @@ pub lifecycle :
 unfolding runs
 lifecycle = (refl, refl, refl, refl, refl, refl, refl)
 
--- information, byte by byte: the second of two streams (an input), a remapped jack, a channel map
+-- information, byte by byte: the second of two streams (an input), a remapped jack, a channel map, and one that is cut
 abbrev pub informed : Parts
 informed =
     record {
@@ -708,9 +708,10 @@ pub information-items :
     ≡ Reply informed (0 ∷ 128 ∷ 0 ∷ 0 ∷ 6 ∷ 0 ∷ 0 ∷ 0 ∷ 1 ∷ 2 ∷ 3 ∷ 4 ∷ replicate 16 0))
     × (informs 1 0 1 24 27 ≡ Reply informed badMsg)
     × (informs 512 0 2 24 52 ≡ Reply informed badMsg)
-    × (informs 256 2 0 24 4 ≡ Reply informed badMsg)
+    × (informs 256 2 0 24 4 ≡ Reply informed ok)
+    × (informs 512 0 1 6 10 ≡ Reply informed (0 ∷ 128 ∷ 0 ∷ 0 ∷ 6 ∷ 0 ∷ 0 ∷ 0 ∷ 1 ∷ 2 ∷ []))
 unfolding runs
-information-items = (refl, refl, refl, refl, refl, refl)
+information-items = (refl, refl, refl, refl, refl, refl, refl)
 
 -- ---- messages of the stream queues: "I/O order", in 40 bytes that start with ids 0 and 1
 

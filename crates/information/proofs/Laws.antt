@@ -1,11 +1,11 @@
 -- Laws of items: bytes behind each other, the items one after the other, and one item of a list.
-use mathlib.Core.Path.{_≡_, refl, ap}
+use mathlib.Core.Path.{_≡_, refl, sym, _∙_, ap}
 use mathlib.Core.List.{List, [], _∷_, _++_, map}
-use Prim.Native.Nat.{ℕ, zero, suc, _+_, _≤_, _<_}
+use Prim.Native.Nat.{ℕ, zero, suc, _+_, _-_, _*_, _≤_, _<_}
 use native.Mathlib.Numerals.{add-one}
-use native.Mathlib.Nat.{zero-add}
+use native.Mathlib.Nat.{zero-add, add-comm, suc-mul}
 use native.Mathlib.Omega.{arith}
-use lib.ListN.{length, getD, set, take, drop, replicate, length-take, length-map}
+use lib.ListN.{length, getD, set, take, drop, replicate, length-take, length-map, length-append, length-replicate}
 use Rattle.description.specs.declared.MapInfo.{MapInfo}
 use lib.Seq.{take-all, sets, sets-eq, drop-cons, getD-take}
 use Rattle.memory.specs.Bytes.{put}
@@ -13,7 +13,8 @@ use Rattle.card.specs.Card.{noStream}
 use Rattle.card.specs.declared.Stream.{Stream}
 use Rattle.card.specs.Fit.{FitParts}
 use Rattle.card.specs.declared.Parts.{Parts}
-use Rattle.rules.specs.Control.{itemsOf}
+use Rattle.rules.specs.Control.{itemsOf, fitted}
+use Rattle.ranges.proofs.Laws.{take-append}
 use Rattle.meaning.specs.Card.{partsOf}
 use Rattle.rules.specs.declared.Listing.{Listing}
 use Rattle.rules.specs.declared.Listing.the-variants.{Jacks, Streams, Maps}
@@ -53,6 +54,44 @@ getD-pcmItems number (s ∷ l) zero h = let e : number + 0 ≡ number = omega ar
 getD-pcmItems number (s ∷ l) (suc i) h =
     let e : number + suc i ≡ suc number + i = omega arith in
     rw e (getD-pcmItems (suc number) l i (omega arith))
+
+-- ---- items of another size
+
+pub take-zeros : (k n : ℕ) → k ≤ n → take k (replicate {A = ℕ} n 0) ≡ replicate k 0
+take-zeros zero n h = refl
+take-zeros (suc k) zero h = absurd (omega arith)
+take-zeros (suc k) (suc n) h = ap (λ (r : List ℕ). 0 ∷ r) (take-zeros k n (omega arith))
+
+-- an item is cut, or zeros stand behind it
+pub fitted-split : (size : ℕ) (xs : List ℕ) → fitted size xs ≡ take size xs ++ replicate (size - length xs) 0
+fitted-split size xs = rw (take-append size xs (replicate size 0), take-zeros (size - length xs) size (omega arith))
+
+pub length-fitted : (size : ℕ) (xs : List ℕ) → length (fitted size xs) ≡ size
+length-fitted size xs = rw (fitted-split size xs, length-append, length-take, length-replicate) (omega arith)
+
+-- as many items as are listed, each of this size
+pub length-items : (size : ℕ) (items : List (List ℕ)) (count start : ℕ) → start + count ≤ length items
+    → length (joined (take count (drop start (map (fitted size) items)))) ≡ count * size
+length-items size items zero start h = omega arith
+length-items size items (suc k) start h =
+    let n : start < length (map (fitted size) items) = rw length-map (omega arith) in
+    let e : size + k * size ≡ suc k * size = add-comm size (k * size) ∙ sym (suc-mul k size) in
+    rw (
+      joined-next (map (fitted size) items) (suc k) k start (sym (add-one k)) n,
+      length-append,
+      getD-map (fitted size) [] [] items start (omega arith),
+      length-fitted size (getD items start []),
+      length-items size items k (start + 1) (omega arith),
+      e,
+    )
+
+-- zeros behind zeros
+pub zeros-split : (k n : ℕ) → k ≤ n → replicate {A = ℕ} n 0 ≡ replicate k 0 ++ replicate (n - k) 0
+zeros-split zero n h = let e : n - 0 ≡ n = omega arith in rw e
+zeros-split (suc k) zero h = absurd (omega arith)
+zeros-split (suc k) (suc n) h =
+    let e : suc n - suc k ≡ n - k = omega arith in
+    rw e (ap (λ (r : List ℕ). 0 ∷ r) (zeros-split k n (omega arith)))
 
 -- a map's numbers, then its positions, over zeros
 pub map-bytes : (m : MapInfo) → length (m .positions) ≡ 18

@@ -1,15 +1,15 @@
 // The items of JACK_INFO, PCM_INFO and CHMAP_INFO (01, "Control messages").
 ghost use mathlib.Core.Path.{_≡_};
-ghost use mathlib.Core.List.{[], _++_};
+ghost use mathlib.Core.List.{[], _++_, map};
 ghost use mathlib.Core.Bool.{cond};
 ghost use lib.Dec.{eqb};
-ghost use Prim.Native.Nat.{_+_, _≤_, _<_};
+ghost use Prim.Native.Nat.{_+_, _≤_, _<_, min};
 ghost use lib.ListN.{length, getD, take, drop, replicate};
 ghost use lib.Seq.{sets};
 ghost use Rattle.card.specs.Fit.{FitParts};
 ghost use Rattle.meaning.specs.Card.{partsOf};
 ghost use Rattle.ranges.specs.Ranges.{rangesOf, places, putAt};
-ghost use Rattle.rules.specs.Control.{jackItem, pcmItem, mapItem, itemSize, itemsOf, joined};
+ghost use Rattle.rules.specs.Control.{jackItem, pcmItem, mapItem, naturalSize, itemsOf, fitted, joined};
 use card::Jack;
 use card::Parts;
 use card::Stream;
@@ -17,9 +17,9 @@ use description::MapInfo;
 use ranges::Ranges;
 use rules::Listing;
 
-// The size of an item.
-pub fn item_size(l: Listing) -> u32
-    ensures { λ r. ⌜ (r ≡ itemSize l) × (r ≤ 32) ⌝ }
+// The natural size of an item.
+fn natural_size(l: Listing) -> usize
+    ensures { λ r. ⌜ (r ≡ naturalSize l) × (r ≤ 32) ⌝ }
 {
     match l {
         Listing::Jacks => 24,
@@ -108,7 +108,7 @@ fn map_item(map: MapInfo) -> [u8; 32]
 // The item at `i` of a list.
 fn item(parts: Parts, l: Listing, i: usize) -> [u8; 32]
     requires { ⌜ FitParts parts × (i < length (itemsOf l (partsOf parts))) ⌝ }
-    ensures { λ r. ⌜ (take (itemSize l) r ≡ getD (itemsOf l (partsOf parts)) i []) × (length r ≡ 32) ⌝ }
+    ensures { λ r. ⌜ (take (naturalSize l) r ≡ getD (itemsOf l (partsOf parts)) i []) × (length r ≡ 32) ⌝ }
 {
     match l {
         Listing::Jacks => {
@@ -126,7 +126,50 @@ fn item(parts: Parts, l: Listing, i: usize) -> [u8; 32]
     }
 }
 
-// `count` items from `start` on, written to a reply behind its status; returns where they end.
+fn least(a: usize, b: usize) -> usize
+    ensures { λ r. ⌜ r ≡ min a b ⌝ }
+{
+    if a <= b {
+        return a;
+    }
+    b
+}
+
+// Zeros in a row.
+fn zeros() -> [u8; 1024]
+    ensures { λ r. ⌜ r ≡ replicate 1024 0 ⌝ }
+{
+    [0; 1024]
+}
+
+// `n` zeros, written to a reply from its byte `start` on, 1,024 at a time.
+fn write_zeros(m: &mut [u8], reply: Ranges, start: usize, n: usize)
+    requires { ⌜ start + n ≤ 4294967295 ⌝ }
+    ensures { λ r. ⌜ now (m .exit) ≡ putAt (now (m .entry)) (drop start (places (rangesOf reply))) (replicate n 0) ⌝ }
+{
+    let run = zeros();
+    let mut at = start;
+    let mut left = n;
+    while 0 < left {
+        let k = least(left, 1024);
+        ranges::scatter(m, reply, at, &run, 0, k);
+        at += k;
+        left -= k;
+    }
+}
+
+// An item of `natural` bytes in `size` bytes of a reply, from its byte `at` on: cut, or zeros behind it.
+fn write_item(m: &mut [u8], reply: Ranges, at: usize, item: &[u8], natural: usize, size: usize)
+    requires { ⌜ (at + size ≤ 4294967295) × (natural ≤ length (now item)) ⌝ }
+    ensures { λ r. ⌜ now (m .exit)
+        ≡ putAt (now (m .entry)) (drop at (places (rangesOf reply))) (fitted size (take natural (now (item .entry)))) ⌝ }
+{
+    let k = least(natural, size);
+    ranges::scatter(m, reply, at, item, 0, k);
+    write_zeros(m, reply, at + k, size - k);
+}
+
+// `count` items from `start` on, `size` bytes apart, written to a reply behind its status; returns where they end.
 pub fn write_items(
     m: &mut [u8],
     reply: Ranges,
@@ -134,19 +177,22 @@ pub fn write_items(
     l: Listing,
     start: usize,
     count: usize,
+    size: usize,
 ) -> usize
-    requires { ⌜ FitParts parts × (start + count ≤ length (itemsOf l (partsOf parts))) ⌝ }
+    requires { ⌜ FitParts parts × (start + count ≤ length (itemsOf l (partsOf parts)))
+        × (4 + length (joined (take count (drop start (map (fitted size) (itemsOf l (partsOf parts)))))) ≤ 4294967295) ⌝ }
     ensures { λ r. ⌜ (now (m .exit)
-        ≡ putAt (now (m .entry)) (drop 4 (places (rangesOf reply))) (joined (take count (drop start (itemsOf l (partsOf parts))))))
-        × (r ≡ 4 + length (joined (take count (drop start (itemsOf l (partsOf parts)))))) × (r ≤ 132) ⌝ }
+        ≡ putAt (now (m .entry)) (drop 4 (places (rangesOf reply)))
+        (joined (take count (drop start (map (fitted size) (itemsOf l (partsOf parts)))))))
+        × (r ≡ 4 + length (joined (take count (drop start (map (fitted size) (itemsOf l (partsOf parts))))))) ⌝ }
 {
-    let size = item_size(l) as usize;
+    let natural = natural_size(l);
     let mut at: usize = 4;
     let mut i = start;
     let mut left = count;
     while 0 < left {
         let bytes = item(parts, l, i);
-        ranges::scatter(m, reply, at, &bytes, 0, size);
+        write_item(m, reply, at, &bytes, natural, size);
         at += size;
         i += 1;
         left -= 1;

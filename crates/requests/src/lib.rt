@@ -1,15 +1,15 @@
 // Control requests of jacks and for information (01, "Control messages"), step by step: each step answers an
 // enum, and where it refuses, the message is completed with the step's status.
 ghost use mathlib.Core.Path.{_≡_};
-ghost use mathlib.Core.List.{_++_};
-ghost use Prim.Native.Nat.{_+_, _≤_, _<_};
-ghost use lib.Dec.{eqb, ltb};
+ghost use mathlib.Core.List.{_++_, map};
+ghost use Prim.Native.Nat.{_+_, _*_, _≤_, _<_};
+ghost use lib.Dec.{ltb};
 ghost use lib.ListN.{length, take, drop};
 ghost use Rattle.card.specs.Fit.{FitParts};
 ghost use Rattle.meaning.specs.Card.{partsOf};
 ghost use Rattle.reply.specs.Reply.{Serves, outcome, completedWith};
 ghost use Rattle.rules.specs.Control.{information as informationOf, remap as remapOf, remapAt, remappable, fourBits};
-ghost use Rattle.rules.specs.Control.{itemsOf, itemSize, joined, listed, roomy, status};
+ghost use Rattle.rules.specs.Control.{itemsOf, fitted, joined, spaced, listed, roomy, status};
 ghost use Rattle.rules.specs.Numbers.{sOk};
 ghost use Rattle.requests.specs.Requests.{checked, foundOf};
 use card::Jack;
@@ -108,14 +108,17 @@ pub fn remap(m: &mut [u8], parts: Parts, pending: Pending, request: &[u8]) -> Se
     remap_jack(m, parts, pending, i, association, sequence)
 }
 
-// Information: the size is that of an item.
-fn has_item_size(l: Listing, size: u32) -> Check
-    ensures { λ r. ⌜ r ≡ checked (eqb size (itemSize l)) ⌝ }
+// Information: items that are asked for have a size.
+fn is_spaced(count: u32, size: u32) -> Check
+    ensures { λ r. ⌜ r ≡ checked (spaced count size) ⌝ }
 {
-    if size == information::item_size(l) {
+    if count == 0 {
         return Check::Passed;
     }
-    Check::Failed
+    if size == 0 {
+        return Check::Failed;
+    }
+    Check::Passed
 }
 
 // Information: the items asked for are there.
@@ -145,14 +148,31 @@ fn is_roomy(count: u32, size: u32, room: u32) -> Check
 }
 
 // The items of a request that passed every step, behind the status.
-fn list(m: &mut [u8], parts: Parts, pending: Pending, l: Listing, start: u32, count: u32) -> Served
-    requires { ⌜ FitParts parts × (start + count ≤ length (itemsOf l (partsOf parts))) ⌝ }
+fn list(
+    m: &mut [u8],
+    parts: Parts,
+    pending: Pending,
+    l: Listing,
+    start: u32,
+    count: u32,
+    size: u32,
+) -> Served
+    requires { ⌜ FitParts parts × (start + count ≤ length (itemsOf l (partsOf parts))) × (4 + count * size ≤ 4294967295) ⌝ }
     ensures { λ r. ⌜ outcome (now (m .exit)) r
-        ≡ completedWith pending parts (status sOk ++ joined (take count (drop start (itemsOf l (partsOf parts))))) (now (m .entry)) ⌝ }
+        ≡ completedWith pending parts (status sOk ++ joined (take count (drop start (map (fitted size) (itemsOf l (partsOf parts))))))
+        (now (m .entry)) ⌝ }
 {
     let reply = pending.reply;
     reply::write_status(m, reply, rules::OK);
-    let len = information::write_items(m, reply, parts, l, start as usize, count as usize);
+    let len = information::write_items(
+        m,
+        reply,
+        parts,
+        l,
+        start as usize,
+        count as usize,
+        size as usize,
+    );
     let posted = reply::close(m, pending, len as u32);
     Served {
         parts: parts,
@@ -175,7 +195,7 @@ pub fn inform(
     let start = memory::number32(request, 4);
     let count = memory::number32(request, 8);
     let size = memory::number32(request, 12);
-    let Check::Passed = has_item_size(l, size) else {
+    let Check::Passed = is_spaced(count, size) else {
         return reply::answer(m, parts, pending, rules::BAD_MSG);
     };
     let Check::Passed = is_listed(parts, l, start, count) else {
@@ -184,5 +204,5 @@ pub fn inform(
     let Check::Passed = is_roomy(count, size, room) else {
         return reply::answer(m, parts, pending, rules::BAD_MSG);
     };
-    list(m, parts, pending, l, start, count)
+    list(m, parts, pending, l, start, count, size)
 }

@@ -38,5 +38,10 @@ table =
       no-item = λ r s room e h. (rw (e, le-leb 4 room h), refl);
       no-wrap = λ r s room e. rw e;
       no-room = λ r s e. rw e;
+      longer-item = λ r s room e h. (rw (e, le-leb 44 room h), refl);
+      shorter-item = λ r s room e h. (rw (e, le-leb 12 room h), refl);
+      no-size = λ r s room e. rw e;
+      no-size-no-item = λ r s room e h. (rw (e, le-leb 4 room h), refl);
+      no-room-longer = λ r s e. rw e;
       remapped = λ r j js room e f g. rw (e, f, g, lt-ltb 0 (length (j ∷ js)) (omega arith));
     }

@@ -100,11 +100,19 @@ abbrev pub joined : List (List ℕ) → List ℕ
 joined [] = []
 joined (x ∷ xs) = x ++ joined xs
 
--- "Size must equal 24, 32, 24"
-abbrev pub itemSize : Listing → ℕ
-itemSize Jacks = 24
-itemSize Streams = 32
-itemSize Maps = 24
+-- order 1: "01's .. item sizes become the natural sizes."
+abbrev pub naturalSize : Listing → ℕ
+naturalSize Jacks = 24
+naturalSize Streams = 32
+naturalSize Maps = 24
+
+-- order 1: "Items now stand size bytes apart; a longer one ends in zeros, a shorter one is cut."
+abbrev pub fitted : ℕ → List ℕ → List ℕ
+fitted size item = take size (item ++ replicate size 0)
+
+-- order 1: "Size 0 with count above 0 is BAD_MSG, in the place of the old size check."
+abbrev pub spaced : ℕ → ℕ → Bool
+spaced count size = eqb count 0 || not (eqb size 0)
 
 -- "start_id + count (no wrap) at most the total"
 abbrev pub listed : Listing → Parts → ℕ → ℕ → Bool
@@ -114,16 +122,16 @@ listed l p start count = leb (start + count) (length (itemsOf l p))
 abbrev pub roomy : ℕ → ℕ → ℕ → Bool
 roomy count size room = leb (4 + count * size) room
 
--- "Size ..; start_id + count ..; reply room ..; else BAD_MSG."
+-- "start_id + count ..; reply room ..; else BAD_MSG."
 unfoldable pub information : Parts → Listing → List ℕ → ℕ → Served
 information p l request room =
     let start = word request 1 in
     let count = word request 2 in
     let size = word request 3 in
-    passing p (eqb size (itemSize l)) sBadMsg
+    passing p (spaced count size) sBadMsg
     (passing p (listed l p start count) sBadMsg
     (passing p (roomy count size room) sBadMsg
-    (Reply p (status sOk ++ joined (take count (drop start (itemsOf l p)))))))
+    (Reply p (status sOk ++ joined (take count (drop start (map (fitted size) (itemsOf l p))))))))
 
 -- ---- JACK_REMAP: header, jack_id, association, sequence
 

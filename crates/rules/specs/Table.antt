@@ -1,10 +1,10 @@
--- 01, Numbers on each side: the cases marked P, all of them, as one table over the definitions.
+-- 01, Numbers on each side: the cases marked P, all of them, with those of the orders, as one table over the definitions.
 use mathlib.Core.Path.{_≡_}
 use mathlib.Core.List.{List, [], _∷_, _++_}
 use mathlib.Core.Bool.{Bool}
 use mathlib.Core.Option.{Option, none, some}
 use Prim.Native.Nat.{ℕ, _+_, _≤_, _<_}
-use lib.ListN.{length}
+use lib.ListN.{length, take, replicate}
 use Rattle.counts.specs.declared.PageNumber.{PageNumber}
 use Rattle.registers.specs.Map.{sizeOf}
 use Rattle.registers.specs.Rules.{readOf, writeOf, powerOn, valueRead}
@@ -77,6 +77,20 @@ pub record Table : Type 0 where
   pub no-wrap : (p : Parts) (s : Stream) (room : ℕ) → p .streams ≡ s ∷ [] → served p (asks 4294967295 1 32) room ≡ Reply p (status sBadMsg)
   -- "reply room 35 for one item: BAD_MSG"
   pub no-room : (p : Parts) (s : Stream) → p .streams ≡ s ∷ [] → served p (asks 0 1 32) 35 ≡ Reply p (status sBadMsg)
+  -- order 1, on one stream: (0, 1, 40) gives length 44 with eight zeros behind the item; (0, 1, 8) length 12, the item's first 8 bytes
+  pub longer-item :
+      (p : Parts) (s : Stream) (room : ℕ) → p .streams ≡ s ∷ [] → 44 ≤ room
+      → (served p (asks 0 1 40) room ≡ Reply p (status sOk ++ pcmItem 0 s ++ replicate 8 0))
+      × (length (status sOk ++ pcmItem 0 s ++ replicate 8 0) ≡ 44)
+  pub shorter-item :
+      (p : Parts) (s : Stream) (room : ℕ) → p .streams ≡ s ∷ [] → 12 ≤ room
+      → (served p (asks 0 1 8) room ≡ Reply p (status sOk ++ take 8 (pcmItem 0 s))) × (length (status sOk ++ take 8 (pcmItem 0 s)) ≡ 12)
+  -- order 1: (0, 1, 0) BAD_MSG; (0, 0, 0) length 4, OK; room 43 for size 40: BAD_MSG
+  pub no-size : (p : Parts) (s : Stream) (room : ℕ) → p .streams ≡ s ∷ [] → served p (asks 0 1 0) room ≡ Reply p (status sBadMsg)
+  pub no-size-no-item :
+      (p : Parts) (s : Stream) (room : ℕ) → p .streams ≡ s ∷ [] → 4 ≤ room
+      → (served p (asks 0 0 0) room ≡ Reply p (status sOk)) × (length (status sOk) ≡ 4)
+  pub no-room-longer : (p : Parts) (s : Stream) → p .streams ≡ s ∷ [] → served p (asks 0 1 40) 43 ≡ Reply p (status sBadMsg)
   -- "Defconf 0x0121401F, association 2, sequence 5: 0x01214025."
   pub remapped :
       (p : Parts) (j : Jack) (js : List Jack) (room : ℕ) → p .jacks ≡ j ∷ js → j .info .features ≡ 1 → j .defconf ≡ 18956319

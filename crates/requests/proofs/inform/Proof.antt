@@ -1,12 +1,12 @@
 -- Each step refuses with BAD_MSG; past all of them the items are listed.
 use mathlib.Core.Path.{_≡_, _∙_, sym}
 use mathlib.Core.Bool.{true, false}
-use Prim.Native.Nat.{_+_, _≤_}
+use Prim.Native.Nat.{_+_, _*_, _≤_}
+use native.Mathlib.Omega.{arith}
 use borrow.Author.Tests.{leb-true}
-use lib.Dec.{eqb}
 use lib.ListN.{length}
 use Rattle.meaning.specs.Card.{partsOf}
-use Rattle.rules.specs.Control.{information, itemSize, itemsOf, listed, roomy, word}
+use Rattle.rules.specs.Control.{information, itemsOf, spaced, listed, roomy, word}
 use Rattle.reply.proofs.Laws.{serves-same}
 use Rattle.requests.proofs.Laws.{check-passed, check-failed}
 use borrow.Author.Needs.{needs}
@@ -16,15 +16,15 @@ use Rattle.requests.proofs.inform.Tie as tie
 sized : (c : tie.After-enum-told) →
     let back6 = c .before .before .before .before .before .before in
     let start = back6 .before .before in
-    eqb (word (start .args .request .now) 3) (itemSize (start .args .l)) ≡ true
+    spaced (word (start .args .request .now) 2) (word (start .args .request .now) 3) ≡ true
 sized c =
     let at-enum-told = c in
-    let at-has-item-size = at-enum-told .before .before in
-    let at-number323 = at-has-item-size .before in
-    let start = at-number323 .before .before .before .before .before in
-    rw (← (at-number323 .number323 .ensures))
-    (check-passed (eqb (at-number323 .number323 .result) (itemSize (start .args .l)))
-    (sym (at-has-item-size .has-item-size .ensures) ∙ at-enum-told .enum-told .given .1))
+    let at-is-spaced = at-enum-told .before .before in
+    let at-number323 = at-is-spaced .before in
+    let at-number322 = at-number323 .before in
+    rw (← (at-number322 .number322 .ensures), ← (at-number323 .number323 .ensures))
+    (check-passed (spaced (at-number322 .number322 .result) (at-number323 .number323 .result))
+    (sym (at-is-spaced .is-spaced .ensures) ∙ at-enum-told .enum-told .given .1))
 
 there : (c : tie.After-enum-told3) →
     let back6 = c .before .before .before .before .before .before in
@@ -51,6 +51,21 @@ there-asked c =
     let at-number32 = at-number322 .before in
     rw (← (at-number32 .number32 .ensures), ← (at-number322 .number322 .ensures)) (there c)
 
+wide : (c : tie.After-enum-told5) →
+    let back6 = c .before .before .before .before .before .before in
+    let at-number323 = back6 .before .before .before in
+    let at-number322 = at-number323 .before in
+    let start = at-number322 .before .before .before .before in
+    roomy (at-number322 .number322 .result) (at-number323 .number323 .result) (start .args .room) ≡ true
+wide c =
+    let at-is-roomy = c .before .before in
+    let back8 = at-is-roomy .before .before .before .before .before .before in
+    let at-number323 = back8 .before in
+    let at-number322 = at-number323 .before in
+    let start = at-number322 .before .before .before .before in
+    check-passed (roomy (at-number322 .number322 .result) (at-number323 .number323 .result) (start .args .room))
+    (sym (at-is-roomy .is-roomy .ensures) ∙ c .enum-told5 .given .1)
+
 number32-requires : tie.Need-number32-requires
 number32-requires c κs = search needs
 
@@ -60,8 +75,8 @@ number32-requires-2 c κs = search needs
 number32-requires-3 : tie.Need-number32-requires-3
 number32-requires-3 c κs = search needs
 
-has-item-size-requires : tie.Need-has-item-size-requires
-has-item-size-requires c κs = search needs
+is-spaced-requires : tie.Need-is-spaced-requires
+is-spaced-requires c κs = search needs
 
 enum-told : tie.Need-enum-told
 enum-told c = search needs
@@ -80,13 +95,15 @@ unfolding information
 returns c =
     let at-answer = c .before .before in
     let at-enum-told2 = at-answer .before .before in
-    let at-has-item-size = at-enum-told2 .before .before in
-    let at-number323 = at-has-item-size .before in
-    let start = at-number323 .before .before .before .before .before in
+    let at-is-spaced = at-enum-told2 .before .before in
+    let at-number323 = at-is-spaced .before in
+    let at-number322 = at-number323 .before in
+    let start = at-number322 .before .before .before .before in
     let a = start .args in
-    let unsized : eqb (word (a .request .now) 3) (itemSize (a .l)) ≡ false = rw (← (at-number323 .number323 .ensures))
-    (check-failed (eqb (at-number323 .number323 .result) (itemSize (a .l)))
-    (sym (at-has-item-size .has-item-size .ensures) ∙ at-enum-told2 .enum-told2 .given .1)) in
+    let unsized : spaced (word (a .request .now) 2) (word (a .request .now) 3) ≡ false =
+    rw (← (at-number322 .number322 .ensures), ← (at-number323 .number323 .ensures))
+    (check-failed (spaced (at-number322 .number322 .result) (at-number323 .number323 .result))
+    (sym (at-is-spaced .is-spaced .ensures) ∙ at-enum-told2 .enum-told2 .given .1)) in
     rw unsized (serves-same (a .pending) (a .parts) _ _ _ _ (start .pre) (at-answer .answer .ensures))
 
 is-listed-requires : tie.Need-is-listed-requires
@@ -157,15 +174,18 @@ returns-3 c =
 
 list-requires : tie.Need-list-requires
 list-requires c κs =
-    let at-enum-told3 = c .before .before .before .before in
-    let back10 = at-enum-told3 .before .before .before .before .before .before in
-    let at-number322 = back10 .before in
+    let at-enum-told5 = c .before in
+    let at-enum-told3 = at-enum-told5 .before .before .before in
+    let at-number323 = at-enum-told3 .before .before .before .before .before .before in
+    let at-number322 = at-number323 .before in
     let at-number32 = at-number322 .before in
     let start = at-number32 .before .before .before in
-    let n : at-number32 .number32 .result + at-number322 .number322 .result ≤ length
-    (itemsOf (start .args .l) (partsOf (start .args .parts))) =
+    let there : at-number32 .number32 .result + at-number322 .number322 .result
+    ≤ length (itemsOf (start .args .l) (partsOf (start .args .parts))) =
     leb-true _ _ (there at-enum-told3) in
-    (start .pre, n)
+    let fits : 4 + at-number322 .number322 .result * at-number323 .number323 .result ≤ start .args .room = leb-true _ _
+    (wide at-enum-told5) in
+    (start .pre, there, omega (arith, fits))
 
 same-length-4 : tie.Need-same-length-4
 same-length-4 c = search needs
@@ -175,8 +195,7 @@ unfolding information
 returns-4 c =
     let at-list = c .before .before in
     let at-enum-told5 = at-list .before .before in
-    let at-is-roomy = at-enum-told5 .before .before in
-    let at-enum-told3 = at-is-roomy .before in
+    let at-enum-told3 = at-enum-told5 .before .before .before in
     let at-enum-told = at-enum-told3 .before .before .before in
     let at-number323 = at-enum-told .before .before .before in
     let at-number322 = at-number323 .before in
@@ -184,15 +203,14 @@ returns-4 c =
     let start = at-number32 .before .before .before in
     let a = start .args in
     let enough : roomy (word (a .request .now) 2) (word (a .request .now) 3) (a .room) ≡ true =
-    rw (← (at-number322 .number322 .ensures), ← (at-number323 .number323 .ensures))
-    (check-passed (roomy (at-number322 .number322 .result) (at-number323 .number323 .result) (a .room))
-    (sym (at-is-roomy .is-roomy .ensures) ∙ at-enum-told5 .enum-told5 .given .1)) in
+    rw (← (at-number322 .number322 .ensures), ← (at-number323 .number323 .ensures)) (wide at-enum-told5) in
     rw (
       sized at-enum-told,
       there-asked at-enum-told3,
       enough,
       ← (at-number32 .number32 .ensures),
       ← (at-number322 .number322 .ensures),
+      ← (at-number323 .number323 .ensures),
     )
     (serves-same (a .pending) (a .parts) _ _ _ _ (start .pre) (at-list .list .ensures))
 
@@ -203,7 +221,7 @@ inform-spec =
     number32-requires
     number32-requires-2
     number32-requires-3
-    has-item-size-requires
+    is-spaced-requires
     enum-told
     enum-told-2
     answer-requires

@@ -1,6 +1,10 @@
 -- Status and items fill the reply from its front; the used entry says how long both are.
 use mathlib.Core.Path.{_∙_}
+use native.Mathlib.Omega.{arith}
 use lib.ListN.{length-append}
+use Rattle.meaning.specs.Card.{partsOf}
+use Rattle.rules.specs.Control.{itemsOf}
+use Rattle.information.proofs.Laws.{length-items}
 use Rattle.reply.proofs.Laws.{putAt-behind, length-status, completed-outcome}
 use borrow.Author.Needs.{needs}
 use Rattle.requests.proofs.list.Statement.{statement}
@@ -10,10 +14,21 @@ write-status-requires : tie.Need-write-status-requires
 write-status-requires c κs = search needs
 
 write-items-requires : tie.Need-write-items-requires
-write-items-requires c κs = search needs
+write-items-requires c κs =
+    let back6 = c .before .before .before .before .before .before in
+    let start = back6 .before in
+    let a = start .args in
+    let n = length-items (a .size) (itemsOf (a .l) (partsOf (a .parts))) (a .count) (a .start) (start .pre .1) in
+    (start .pre .0, start .pre .1, rw n (start .pre .2))
 
 cast-close : tie.Need-cast-close
-cast-close c = search needs
+cast-close c =
+    let at-write-items = c .before .before .before in
+    let back9 = at-write-items .before .before .before .before .before .before in
+    let start = back9 .before .before in
+    let a = start .args in
+    let n = length-items (a .size) (itemsOf (a .l) (partsOf (a .parts))) (a .count) (a .start) (start .pre .1) in
+    omega (arith, at-write-items .write-items .ensures .1, n, start .pre .2)
 
 close-requires : tie.Need-close-requires
 close-requires c κs = search needs
@@ -26,8 +41,6 @@ returns c =
     let at-close = c .before .before in
     let at-write-items = at-close .before .before .before .before in
     let at-write-status = at-write-items .before .before .before .before in
-    let start = at-write-status .before .before .before .before in
-    let a = start .args in
     let w = at-write-items .write-items in
     completed-outcome _ _ _ _
     (at-close .close .ensures
