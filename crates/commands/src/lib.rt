@@ -8,7 +8,7 @@ ghost use Rattle.reply.specs.Reply.{Serves};
 ghost use Rattle.requests.specs.Requests.{checked};
 ghost use Rattle.rules.specs.Control.{commanded, obeyed, moves, setParams, setBy, judgedOffer, paramsOf, streamIn};
 ghost use Rattle.rules.specs.Control.{offers as offersOf, unpadded, sized, periodic, bufferOffered, featuresOffered};
-ghost use Rattle.rules.specs.Control.{channelsOffered, formatOffered, rateOffered};
+ghost use Rattle.rules.specs.Control.{channelsOffered, formatOffered, rateOffered, framed};
 ghost use Rattle.rules.specs.Lifecycle.{transition as leadsFrom};
 ghost use Rattle.commands.specs.Commands.{transitionOf, leadsToState};
 use card::Params;
@@ -163,6 +163,20 @@ fn is_rate_offered(info: StreamInfo, p: Params) -> Check
     Check::Failed
 }
 
+// SET_PARAMS: the period is a whole number of frames.
+fn is_framed(p: Params) -> Check
+    ensures { λ r. ⌜ r ≡ checked (framed p) ⌝ }
+{
+    let frame = p.channels as u64 * formats::physical_bits(p.format) as u64;
+    if frame == 0 {
+        return Check::Failed;
+    }
+    if p.period_bytes as u64 * 8 % frame == 0 {
+        return Check::Passed;
+    }
+    Check::Failed
+}
+
 // The parameters in a SET_PARAMS request.
 fn params_in(request: &[u8]) -> Params
     ensures { λ r. ⌜ r ≡ paramsOf (now (request .entry)) ⌝ }
@@ -206,6 +220,9 @@ fn set_offered(
     };
     let Check::Passed = is_rate_offered(info, p) else {
         return reply::answer(m, parts, pending, rules::NOT_SUPP);
+    };
+    let Check::Passed = is_framed(p) else {
+        return reply::answer(m, parts, pending, rules::BAD_MSG);
     };
     let set = Stream {
         info: info,

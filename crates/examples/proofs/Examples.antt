@@ -10,6 +10,7 @@ use Rattle.chain.specs.Walk.{Outcome, whole, faulted, descriptorAt, descriptors
 use Rattle.chain.specs.declared.Fault.the-variants.{PastTable, TooMany, Order, TooLong, NotNegotiated, WithNext, Nested, TableLength, TableOutside}
 use Rattle.description.specs.Lawful.{every, lawfulStream, lawfulJack, lawfulPositions, lawfulMap, lawfulCounts, lawful}
 use Rattle.description.specs.declared.StreamInfo.{StreamInfo}
+use Rattle.formats.specs.Widths.{physicalBits}
 use Rattle.memory.specs.Bytes.{le, put}
 use Rattle.ranges.specs.Ranges.{total, places, upFrom, putAt, allInside}
 use Rattle.ranges.specs.declared.Range.{Range}
@@ -627,7 +628,7 @@ pub params-in-order :
     × (asks freshState (params 8 4 0 2 69 7 0) ≡ some sNotSupp)
     × (asks freshState (params 8 4 0 2 5 71 0) ≡ some sNotSupp)
     × (asks freshState (params 262144 262144 16 1 5 7 0) ≡ some sOk)
-unfolding runs
+unfolding runs physicalBits
 params-in-order = (refl, refl, refl, refl, refl, refl, refl, refl, refl, refl, refl, refl)
 
 -- JACK_REMAP: jack, association, sequence
@@ -665,7 +666,7 @@ pub layouts :
     × (map (λ (q : List ℕ). asks preparedState (take (length q - 1) q)) requests ≡ replicate 8 (some sBadMsg))
     × (asks runningState (words (261 ∷ 0 ∷ [])) ≡ some sOk)
     × (asks runningState (take 7 (words (261 ∷ 0 ∷ []))) ≡ some sBadMsg)
-unfolding runs
+unfolding runs physicalBits
 layouts = (refl, refl, refl, refl, refl)
 
 -- a lawful request leads to its state, SET_PARAMS with what it asks; another, or one for an absent stream, changes nothing. 258 is
@@ -681,7 +682,7 @@ pub lifecycle :
     × (leads 259 0 preparedState ≡ Release 0)
     × (leads 259 0 runningState ≡ Reply (parts runningState 16) badMsg)
     × (served (parts freshState 16) (words (257 ∷ 1 ∷ 8 ∷ 4 ∷ 0 ∷ []) ++ 2 ∷ 5 ∷ 7 ∷ 0 ∷ []) 4 ≡ Reply (parts freshState 16) badMsg)
-unfolding runs
+unfolding runs physicalBits
 lifecycle = (refl, refl, refl, refl, refl, refl, refl)
 
 -- information, byte by byte: the second of two streams (an input), a remapped jack, a channel map, and one that is cut

@@ -7,11 +7,12 @@ use Prim.Native.Nat.{ℕ, _+_}
 use native.Mathlib.Omega.{arith}
 use borrow.Author.Tests.{ne-eqb, le-ltb, lt-ltb, le-leb}
 use lib.ListN.{length}
+use Rattle.formats.specs.Widths.{physicalBits}
 use Rattle.memory.specs.Bytes.{le}
 use Rattle.registers.specs.Map.{registerAt, configAt, sizeOf}
 use Rattle.registers.specs.Rules.{readOf, writeOf, wroteFeatures, wroteStatus, storedStatus}
 use Rattle.ring.specs.Rules.{baseOf, newOf, entriesOf, foundOf}
-use Rattle.rules.specs.Control.{served, decodedOf, information, remap}
+use Rattle.rules.specs.Control.{served, decodedOf, information, remap, judgedParams}
 use Rattle.rules.specs.Counters.{isNone}
 use Rattle.rules.specs.Device.{Message, bytesOf}
 use Rattle.rules.specs.Table.{Table, finds}
@@ -23,7 +24,7 @@ entries-decide index work m page negotiated latency completed s =
     rw (s .reads, ne-eqb (page .0) 0 (λ e. omega arith), le-ltb (length m) (baseOf page + 6664) (omega arith))
 
 pub table : Table
-unfolding readOf writeOf registerAt configAt wroteFeatures wroteStatus storedStatus served decodedOf information remap bytesOf le
+unfolding readOf writeOf registerAt configAt wroteFeatures wroteStatus storedStatus served decodedOf information remap judgedParams physicalBits bytesOf le
 table =
     record {
       one-new = refl;
@@ -43,5 +44,13 @@ table =
       no-size = λ r s room e. rw e;
       no-size-no-item = λ r s room e h. (rw (e, le-leb 4 room h), refl);
       no-room-longer = λ r s e. rw e;
+      half-frame = refl;
+      whole-frames = refl;
+      half-byte = refl;
+      three-halves = refl;
+      four-halves = refl;
+      wide-frame = refl;
+      half-wide-frame = refl;
+      rate-first = refl;
       remapped = λ r j js room e f g. rw (e, f, g, lt-ltb 0 (length (j ∷ js)) (omega arith));
     }

@@ -8,6 +8,7 @@ use lib.Dec.{eqb, leb, ltb}
 use lib.ListN.{length, getD, set, take, drop, replicate}
 use Rattle.description.specs.declared.MapInfo.{MapInfo}
 use Rattle.description.specs.declared.StreamInfo.{StreamInfo}
+use Rattle.formats.specs.Widths.{physicalBits}
 use Rattle.memory.specs.Bytes.{le}
 use Rattle.card.specs.Card.{jackAtPower, noJackInfo, noStream}
 use Rattle.card.specs.declared.Jack.{Jack}
@@ -240,18 +241,26 @@ formatOffered i p = offers (i .formats) (p .format)
 abbrev pub rateOffered : StreamInfo → Params → Bool
 rateOffered i p = offers (i .rates) (p .rate)
 
+-- order 2: "SET_PARAMS must refuse unless period_bytes·8 is a multiple of channels times the format's physical width in bits"
+abbrev pub frameBits : Params → ℕ
+frameBits p = p .channels * physicalBits (p .format)
+
+abbrev pub framed : Params → Bool
+framed p = not (eqb (frameBits p) 0) && eqb (p .«period_bytes» * 8 % frameBits p) 0
+
 -- a check, and the status of what does not pass it
 abbrev pub need : Bool → ℕ → ℕ → ℕ
 need ok code go = cond ok go code
 
--- ".. buffer above 262,144, features, channels, format, rate not offered: NOT_SUPP."
+-- ".. buffer above 262,144, features, channels, format, rate not offered: NOT_SUPP."; order 2: "BAD_MSG, after the rate check and last"
 abbrev pub judgedOffer : StreamInfo → Params → ℕ
 judgedOffer i p =
     need (bufferOffered p) sNotSupp
     (need (featuresOffered i p) sNotSupp
     (need (channelsOffered i p) sNotSupp
     (need (formatOffered i p) sNotSupp
-    (need (rateOffered i p) sNotSupp sOk))))
+    (need (rateOffered i p) sNotSupp
+    (need (framed p) sBadMsg sOk)))))
 
 -- "SET_PARAMS then checks, in order: padding not 0, buffer or period 0, buffer not a multiple of period: BAD_MSG; .."; its status
 unfoldable pub judgedParams : StreamInfo → Params → ℕ → ℕ

@@ -15,11 +15,13 @@ use Rattle.ring.specs.Rules.{baseOf, newOf, indexOf}
 use Rattle.ring.specs.declared.Cause.{Cause}
 use Rattle.ring.specs.declared.Check.{Check}
 use Rattle.card.specs.declared.Jack.{Jack}
+use Rattle.card.specs.declared.Params.{Params}
 use Rattle.card.specs.declared.Stream.{Stream}
-use Rattle.rules.specs.Control.{Parts, Reply, served, status, pcmItem, withDefconf}
+use Rattle.description.specs.declared.StreamInfo.{StreamInfo}
+use Rattle.rules.specs.Control.{Parts, Reply, served, judgedParams, status, pcmItem, withDefconf}
 use Rattle.rules.specs.Counters.{countersOf}
 use Rattle.rules.specs.Device.{output, Message, bytesOf}
-use Rattle.rules.specs.Numbers.{jackRemap, pcmInfo, playQueue, sOk, sBadMsg}
+use Rattle.rules.specs.Numbers.{jackRemap, pcmInfo, playQueue, sOk, sBadMsg, sNotSupp}
 use Rattle.rules.specs.Transfer.{found}
 
 -- ---- what the cases are asked of
@@ -50,6 +52,14 @@ asks start count size = bytesOf 4 pcmInfo ++ bytesOf 4 start ++ bytesOf 4 count 
 -- a remap request: code, jack_id, association, sequence
 abbrev pub remaps : ℕ → ℕ → ℕ → List ℕ
 remaps id association sequence = bytesOf 4 jackRemap ++ bytesOf 4 id ++ bytesOf 4 association ++ bytesOf 4 sequence
+
+-- order 2: a stream that offers every format and every rate, 1 to 18 channels; what SET_PARAMS of these parameters answers
+abbrev pub anything : StreamInfo
+anything = record { nid = 0; features = 0; formats = 33554431; rates = 16383; «channels_min» = 1; «channels_max» = 18 }
+
+abbrev pub params : ℕ → ℕ → ℕ → ℕ → Params
+params period channels format rate =
+    record { «buffer_bytes» = period; «period_bytes» = period; features = 0; channels = channels; format = format; rate = rate }
 
 -- ---- the table
 
@@ -91,6 +101,16 @@ pub record Table : Type 0 where
       (p : Parts) (s : Stream) (room : ℕ) → p .streams ≡ s ∷ [] → 4 ≤ room
       → (served p (asks 0 0 0) room ≡ Reply p (status sOk)) × (length (status sOk) ≡ 4)
   pub no-room-longer : (p : Parts) (s : Stream) → p .streams ≡ s ∷ [] → served p (asks 0 1 40) 43 ≡ Reply p (status sBadMsg)
+  -- order 2: stereo S16 (5), period 1,921 BAD_MSG, 1,920 OK; mono IMA ADPCM (0), period 1 OK; three channels of it: 3 OK, 4 BAD_MSG;
+  -- 18 channels of FLOAT64 (20): 144 OK, 72 BAD_MSG; a rate not offered with a bad period: NOT_SUPP
+  pub half-frame : judgedParams anything (params 1921 2 5 7) 0 ≡ sBadMsg
+  pub whole-frames : judgedParams anything (params 1920 2 5 7) 0 ≡ sOk
+  pub half-byte : judgedParams anything (params 1 1 0 7) 0 ≡ sOk
+  pub three-halves : judgedParams anything (params 3 3 0 7) 0 ≡ sOk
+  pub four-halves : judgedParams anything (params 4 3 0 7) 0 ≡ sBadMsg
+  pub wide-frame : judgedParams anything (params 144 18 20 7) 0 ≡ sOk
+  pub half-wide-frame : judgedParams anything (params 72 18 20 7) 0 ≡ sBadMsg
+  pub rate-first : judgedParams anything (params 1921 2 5 14) 0 ≡ sNotSupp
   -- "Defconf 0x0121401F, association 2, sequence 5: 0x01214025."
   pub remapped :
       (p : Parts) (j : Jack) (js : List Jack) (room : ℕ) → p .jacks ≡ j ∷ js → j .info .features ≡ 1 → j .defconf ≡ 18956319

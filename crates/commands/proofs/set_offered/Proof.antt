@@ -1,10 +1,10 @@
--- Each check refuses with NOT_SUPP; past all of them the stream is set. `t2` is the parameter `parts`.
+-- Each check refuses with its status; past all of them the stream is set. `t2` is the parameter `parts`.
 use mathlib.Core.Path.{_≡_, _∙_, sym}
 use mathlib.Core.Bool.{true}
 use native.Mathlib.Omega.{arith}
 use lib.ListN.{getD}
 use Rattle.card.specs.Card.{noStream}
-use Rattle.rules.specs.Control.{bufferOffered, featuresOffered, channelsOffered, formatOffered, rateOffered}
+use Rattle.rules.specs.Control.{bufferOffered, featuresOffered, channelsOffered, formatOffered, rateOffered, framed}
 use Rattle.reply.proofs.Laws.{serves-same, serves-stream, stream-at}
 use Rattle.requests.proofs.Laws.{check-passed, check-failed}
 use borrow.Author.Needs.{needs}
@@ -16,7 +16,8 @@ buffers : (c : tie.After-enum-told) →
     bufferOffered (start .args .p) ≡ true
 buffers c =
     let start = c .before .before .before .before .before .before in
-    check-passed (bufferOffered (start .args .p)) (sym (c .before .before .is-buffer-offered .ensures) ∙ c .enum-told .given .1)
+    check-passed (bufferOffered (start .args .p))
+    (sym (c .before .before .is-buffer-offered .ensures) ∙ c .enum-told .given .1)
 
 features : (c : tie.After-enum-told3) →
     let back6 = c .before .before .before .before .before .before in
@@ -61,6 +62,20 @@ rates c =
     let start = back12 .before .before .before .before .before .before in
     check-passed (rateOffered (getD (start .args .t2 .streams) (start .args .i) noStream .info) (start .args .p))
     (sym (c .before .before .is-rate-offered .ensures) ∙ c .enum-told9 .given .1)
+
+frames : (c : tie.After-enum-told11) →
+    let back6 = c .before .before .before .before .before .before in
+    let back12 = back6 .before .before .before .before .before .before in
+    let back18 = back12 .before .before .before .before .before .before in
+    let start = back18 .before .before .before in
+    framed (start .args .p) ≡ true
+frames c =
+    let back6 = c .before .before .before .before .before .before in
+    let back12 = back6 .before .before .before .before .before .before in
+    let back18 = back12 .before .before .before .before .before .before in
+    let start = back18 .before .before .before in
+    check-passed (framed (start .args .p))
+    (sym (c .before .before .is-framed .ensures) ∙ c .enum-told11 .given .1)
 
 mul-stream : tie.Need-mul-stream
 mul-stream c = search needs
@@ -233,13 +248,14 @@ returns-5 c =
     )
     (serves-same (a .pending) (a .t2) _ _ _ _ (start .pre .0) (at-answer5 .answer5 .ensures))
 
-with-stream-requires : tie.Need-with-stream-requires
-with-stream-requires c κs =
-    let back6 = c .before .before .before .before .before .before in
-    let back12 = back6 .before .before .before .before .before .before in
-    let back18 = back12 .before .before .before .before .before .before in
-    let start = back18 .before in
-    omega (arith, start .pre .1, start .pre .0 .streams)
+is-framed-requires : tie.Need-is-framed-requires
+is-framed-requires c κs = search needs
+
+enum-told-11 : tie.Need-enum-told-11
+enum-told-11 c = search needs
+
+enum-told-12 : tie.Need-enum-told-12
+enum-told-12 c = search needs
 
 answer-requires-6 : tie.Need-answer-requires-6
 answer-requires-6 c κs = search needs
@@ -250,8 +266,9 @@ same-length-6 c = search needs
 returns-6 : tie.Need-returns-6
 returns-6 c =
     let at-answer6 = c .before .before in
-    let at-with-stream = at-answer6 .before in
-    let at-enum-told9 = at-with-stream .before .before in
+    let at-enum-told12 = at-answer6 .before .before in
+    let at-is-framed = at-enum-told12 .before .before in
+    let at-enum-told9 = at-is-framed .before in
     let at-enum-told7 = at-enum-told9 .before .before .before in
     let at-enum-told5 = at-enum-told7 .before .before .before in
     let at-enum-told3 = at-enum-told5 .before .before .before in
@@ -265,9 +282,48 @@ returns-6 c =
       channels at-enum-told5,
       formats at-enum-told7,
       rates at-enum-told9,
+      check-failed (framed (start .args .p))
+          (sym (at-is-framed .is-framed .ensures) ∙ at-enum-told12 .enum-told12 .given .1),
+    )
+    (serves-same (a .pending) (a .t2) _ _ _ _ (start .pre .0) (at-answer6 .answer6 .ensures))
+
+with-stream-requires : tie.Need-with-stream-requires
+with-stream-requires c κs =
+    let back6 = c .before .before .before .before .before .before in
+    let back12 = back6 .before .before .before .before .before .before in
+    let back18 = back12 .before .before .before .before .before .before in
+    let start = back18 .before .before .before .before in
+    omega (arith, start .pre .1, start .pre .0 .streams)
+
+answer-requires-7 : tie.Need-answer-requires-7
+answer-requires-7 c κs = search needs
+
+same-length-7 : tie.Need-same-length-7
+same-length-7 c = search needs
+
+returns-7 : tie.Need-returns-7
+returns-7 c =
+    let at-answer7 = c .before .before in
+    let at-with-stream = at-answer7 .before in
+    let at-enum-told11 = at-with-stream .before .before in
+    let at-enum-told9 = at-enum-told11 .before .before .before in
+    let at-enum-told7 = at-enum-told9 .before .before .before in
+    let at-enum-told5 = at-enum-told7 .before .before .before in
+    let at-enum-told3 = at-enum-told5 .before .before .before in
+    let at-enum-told = at-enum-told3 .before .before .before in
+    let start = at-enum-told .before .before .before .before .before .before in
+    let a = start .args in
+    rw (
+      stream-at (a .t2) (a .i) (start .pre .1),
+      buffers at-enum-told,
+      features at-enum-told3,
+      channels at-enum-told5,
+      formats at-enum-told7,
+      rates at-enum-told9,
+      frames at-enum-told11,
     )
     (serves-stream (a .pending) (a .t2) _ _ _ (a .i) _ _ (start .pre .0) (start .pre .1) (start .pre .2)
-    (at-answer6 .answer6 .ensures ∙ rw (at-with-stream .with-stream .ensures)))
+    (at-answer7 .answer7 .ensures ∙ rw (at-with-stream .with-stream .ensures)))
 
 pub set-offered-spec : {M : Type 1} → statement M
 set-offered-spec =
@@ -305,7 +361,13 @@ set-offered-spec =
     answer-requires-5
     same-length-5
     returns-5
-    with-stream-requires
+    is-framed-requires
+    enum-told-11
+    enum-told-12
     answer-requires-6
     same-length-6
-    returns-6)
+    returns-6
+    with-stream-requires
+    answer-requires-7
+    same-length-7
+    returns-7)
