@@ -157,7 +157,7 @@ module _ (h : History) (b : Book h) (t : ℕ) (e : entryAt h t .ending ≡ relea
   io-err true l = absurd (not-finished (rw (List·getD-eq-default (h .entries) unanswered (leb-true (number h) t l))))
   io-err false l = go (b .answers t (leb-false (number h) t l))
     where
-      go : Answered finished (takingAt h t) (entryAt h t) ⊎ Answered released (takingAt h t) (entryAt h t) → entryAt h t .status ≡ some sIoErr
+      go : Answered 0 finished (takingAt h t) (entryAt h t) ⊎ Answered 0 released (takingAt h t) (entryAt h t) → entryAt h t .status ≡ some sIoErr
       go (inl a) = status-of finished (a .way)
       go (inr a) = status-of released (a .way)
 

@@ -37,7 +37,7 @@ unfoldable pub lawfulStream : StreamInfo → Bool
 lawfulStream s =
     inBits (s .formats) 25 && inBits (s .rates) 14 && lawfulChannels (s .«channels_min») (s .«channels_max») && (eqb (s .features) 0 || eqb (s .features) 16)
 
--- "Jack features is 0 or 1, connected 0 or 1."
+-- "Jack features is 0 or 1, connected 0 or 1."; "hda_fn_nid, defconf and caps are free 32-bit numbers."
 unfoldable pub lawfulJack : JackInfo → Bool
 lawfulJack j = leb (j .features) 1 && leb (j .connected) 1
 

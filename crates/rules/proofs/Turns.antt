@@ -56,11 +56,11 @@ module _ (w : List ℕ) (h : History) (g : Good output w h) (b : Book h) where
   module _ (lies : Virtqueue) (call : Ending) (m : List ℕ) (s : Run History)
       (f : Fair lies call m h s)
       (x : Waits (s .queue))
-      (as′ : (k : ℕ) → Answered call (takingAt (s .queue) k) (entryAt (s .queue) k)
-      → Answered finished (takingAt (s .queue) k) (entryAt (s .queue) k) ⊎ Answered released (takingAt (s .queue) k) (entryAt (s .queue) k)) where
+      (as′ : (k : ℕ) → Answered (lies .latency) call (takingAt (s .queue) k) (entryAt (s .queue) k)
+      → Answered 0 finished (takingAt (s .queue) k) (entryAt (s .queue) k) ⊎ Answered 0 released (takingAt (s .queue) k) (entryAt (s .queue) k)) where
     old-answer :
         (k : ℕ) → k < number h
-        → Answered finished (takingAt (s .queue) k) (entryAt (s .queue) k) ⊎ Answered released (takingAt (s .queue) k) (entryAt (s .queue) k)
+        → Answered 0 finished (takingAt (s .queue) k) (entryAt (s .queue) k) ⊎ Answered 0 released (takingAt (s .queue) k) (entryAt (s .queue) k)
     old-answer k l =
         let a = f .sofar .adds in
         let t : takingAt (s .queue) k ≡ takingAt h k = rw (a .takings .is) (List·getD-append (h .takings) (a .takings .added) _ k (omega (arith, g .few))) in
@@ -69,7 +69,7 @@ module _ (w : List ℕ) (h : History) (g : Good output w h) (b : Book h) where
 
     answer-at :
         (k : ℕ) → k < number (s .queue) → (x : Bool) → leb (number h) k ≡ x
-        → Answered finished (takingAt (s .queue) k) (entryAt (s .queue) k) ⊎ Answered released (takingAt (s .queue) k) (entryAt (s .queue) k)
+        → Answered 0 finished (takingAt (s .queue) k) (entryAt (s .queue) k) ⊎ Answered 0 released (takingAt (s .queue) k) (entryAt (s .queue) k)
     answer-at k l true e = as′ k (f .sofar .adds .answered k (leb-true (number h) k e) l)
     answer-at k l false e = old-answer k (leb-false (number h) k e)
 

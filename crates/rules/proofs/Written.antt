@@ -375,12 +375,12 @@ module _ (lies : Virtqueue) where
 
       entry-answered :
           Adds vq call m h cur (s .bytes)
-          → Answered call (current cur) entry
+          → Answered (vq .latency) call (current cur) entry
           → (k : ℕ)
           → number h ≤ k
           → k < number done
           → Dec (k ≡ number cur)
-          → Answered call (takingAt done k) (entryAt done k)
+          → Answered (vq .latency) call (takingAt done k) (entryAt done k)
       unfolding history.entered
       entry-answered a all k lo hi (yes z) = rw (z, getD-append-seam) all
       entry-answered a all k lo hi (no n) =
@@ -393,7 +393,9 @@ module _ (lies : Virtqueue) where
       completed-sofar fits spent f =
           let a = f .adds in
           let l : number h ≤ number cur = grows-length (h .entries) (cur .entries) (a .entries) in
-          let all : Answered call (current cur) entry = record { head = refl; way = answers (current cur .form) refl fits } in
+          let all : Answered (vq .latency) call (current cur) entry =
+          record { head = refl; way = answers (current cur .form) refl fits; late = refl }
+          in
           record {
             adds =
                 record {

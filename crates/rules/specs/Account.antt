@@ -100,10 +100,11 @@ pub data Answers : Ending → Taking → Entry → Type 0 where
       → e .length ≡ 0
       → Answers call t e
 
--- .. and names its head
-pub record Answered (call : Ending) (t : Taking) (e : Entry) : Type 0 where
+-- .. and names its head; "Status (code, latency 0)": with the call's latency
+pub record Answered (latency : ℕ) (call : Ending) (t : Taking) (e : Entry) : Type 0 where
   pub head : e .head ≡ t .head
   pub way : Answers call t e
+  pub late : e .latency ≡ latency
 
 -- ---- what a play or a Release adds
 
@@ -113,7 +114,8 @@ pub record Adds (v : Virtqueue) (call : Ending) (m : List ℕ) (h n : History) (
   pub entries : Grows (h .entries) (n .entries)
   pub notes : Grows (h .notes) (n .notes)
   pub losses : Grows (h .losses) (n .losses)
-  -- "A taking notes head, ranges and faults as memory then shows them": the head at ring place k mod 256, below 256
+  -- "A taking notes head, ranges and faults as memory then shows them": the head at ring place k mod 256, below 256. "A head ≥ N ends
+  -- either, untaken; what the call added before it stands."
   pub took :
       (k : ℕ)
       → length (h .takings) ≤ k
@@ -121,7 +123,7 @@ pub record Adds (v : Virtqueue) (call : Ending) (m : List ℕ) (h n : History) (
       → let now : List ℕ = memoryAfter (v .page) n (number h) (k - number h) m in
       let head : ℕ = le 2 now (baseOf (v .page) + (4100 + 2 * (k % 256))) in
       (takingAt n k ≡ takingOf v now head) × (head < 256)
-  pub answered : (k : ℕ) → number h ≤ k → k < number n → Answered call (takingAt n k) (entryAt n k)
+  pub answered : (k : ℕ) → number h ≤ k → k < number n → Answered (v .latency) call (takingAt n k) (entryAt n k)
   -- "A position handed notes the byte memory then holds": position p of the payload is byte 4 + p of the request
   pub held : Each (Held v m h n) (notes .added)
   pub handed : map (λ (x : Note). x .byte) (notes .added) ≡ bytes
@@ -194,7 +196,7 @@ pub data InOrder : ℕ → ℕ → List Note → Type 0 where
 
 pub record Book (h : History) : Type 0 where
   -- every entry answers its taking; only the message in work lacks an entry, and it is well-formed
-  pub answers : (k : ℕ) → k < number h → Answered finished (takingAt h k) (entryAt h k) ⊎ Answered released (takingAt h k) (entryAt h k)
+  pub answers : (k : ℕ) → k < number h → Answered 0 finished (takingAt h k) (entryAt h k) ⊎ Answered 0 released (takingAt h k) (entryAt h k)
   pub in-work : number h < length (h .takings) → current h .form ≡ wellFormed
   -- "Once none waits, an OK entry, also for an empty payload": between calls something of the message in work waits
   pub waits : number h < length (h .takings) → 0 < length (waiting output h)
