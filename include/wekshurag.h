@@ -16,7 +16,7 @@
  *     Nobody else, no other thread and no device, writes it during the call.
  *   - The card is one that wekshurag_power_up made, left by the calls since, or a copy of one. Calls on one card do not run at the
  *     same time.
- *   - 64 KiB of stack. Measured: wekshurag_control takes 52,392 bytes, play and capture 18,184, event 10,600, write 6,043, the others
+ *   - 64 KiB of stack. Measured: wekshurag_control takes 39,200 bytes, play and capture 18,176, event 10,592, write 6,043, the others
  *     under 1,024 (c/stack_test.c). Nothing recurses; but this is measured, not proved.
  * Nothing else is asked: every number and every byte is safe.
  */
