@@ -34,14 +34,14 @@ static inline int dev_control(uint8_t *ram, size_t ram_len, size_t *count)
 
 static inline int dev_play(uint8_t *ram, size_t ram_len, uint8_t *host, size_t n, size_t *count)
 {
-    struct wekshurag_result r = wekshurag_play(&dev, ram, ram_len, host, n);
+    struct wekshurag_result r = wekshurag_play(&dev, ram, ram_len, host, n, 0);
     *count = r.count;
     return r.answer;
 }
 
 static inline int dev_capture(uint8_t *ram, size_t ram_len, uint8_t *host, size_t n, size_t *count)
 {
-    struct wekshurag_result r = wekshurag_capture(&dev, ram, ram_len, host, n);
+    struct wekshurag_result r = wekshurag_capture(&dev, ram, ram_len, host, n, 0);
     *count = r.count;
     return r.answer;
 }

@@ -42,6 +42,7 @@ static bool line;    /* the guest's interrupt line, as it was set last */
 static unsigned long interrupts;
 static uint8_t heard[1 << 20]; /* what was played, where a monitor has a sound device */
 static size_t heard_len;
+static uint32_t backlog; /* bytes that the sound device holds and has not sounded yet */
 
 /* After every call: the line is a level, and this is where a monitor sets it (KVM_IRQ_LINE, an eventfd, ..). */
 static void set_line(void)
@@ -95,24 +96,29 @@ static void guest_writes(uint32_t offset, uint32_t width, uint32_t value)
     }
 }
 
-/* The host's clock: 10 ms of sound are due. Where the guest has less, the rest stays silence. */
+/* The host's clock: 10 ms of sound are due. Where the guest has less, the rest stays silence. The device has room for two periods: it has
+ * sounded what is beyond them, and the guest is told what it still holds. */
 static size_t host_plays(void)
 {
     uint8_t host[PERIOD] = {0};
-    struct wekshurag_result r = wekshurag_play(&card, ram, RAM, host, sizeof host);
+    struct wekshurag_result r;
+    if (backlog > 2 * PERIOD)
+        backlog = 2 * PERIOD;
+    r = wekshurag_play(&card, ram, RAM, host, sizeof host, backlog);
     set_line();
     if (r.answer != WEKSHURAG_DONE)
         fprintf(stderr, "monitor: play answered %u\n", (unsigned)r.answer);
     expect(r.count <= sizeof heard - heard_len, "more is played than the guest put");
     memcpy(heard + heard_len, host, r.count);
     heard_len += r.count;
+    backlog += (uint32_t)r.count;
     return r.count;
 }
 
-/* 10 ms of sound were recorded. What the guest has no place for is lost. */
+/* 10 ms of sound were recorded, and none wait behind them. What the guest has no place for is lost. */
 static size_t host_records(const uint8_t host[PERIOD])
 {
-    struct wekshurag_result r = wekshurag_capture(&card, ram, RAM, host, PERIOD);
+    struct wekshurag_result r = wekshurag_capture(&card, ram, RAM, host, PERIOD, 0);
     set_line();
     if (r.answer != WEKSHURAG_DONE)
         fprintf(stderr, "monitor: capture answered %u\n", (unsigned)r.answer);
@@ -247,9 +253,10 @@ static struct slot *slot(uint32_t stream, uint16_t i)
     return (struct slot *)(void *)(ram + (16 + 48 * stream) * PAGE) + i % SLOTS;
 }
 
-/* The guest plays n bytes, in messages of `each`; the host's clock goes on until all have come back. */
-static void play(const uint8_t *sound, size_t n, uint32_t each)
+/* The guest plays n bytes, in messages of `each`; the host's clock goes on until all have come back. The last one's latency. */
+static uint32_t play(const uint8_t *sound, size_t n, uint32_t each)
 {
+    uint32_t latency = 0;
     while (n > 0) {
         uint16_t batch = 0;
         for (; batch < SLOTS && n > 0; batch++, sound += each, n -= each) {
@@ -266,8 +273,10 @@ static void play(const uint8_t *sound, size_t n, uint32_t each)
         for (; batch > 0; batch--) {
             struct slot *s = slot(0, playq.got);
             expect(get(&playq) == 8 && s->status.status == VIRTIO_SND_S_OK, "a buffer was not played");
+            latency = s->status.latency_bytes;
         }
     }
+    return latency;
 }
 
 /* The guest records n messages of 10 ms: a ramp, which it must find. */
@@ -333,14 +342,17 @@ int main(int argc, char **argv)
     static int16_t sound[RATE][2];
     const uint8_t *bell = (const uint8_t *)sound;
     uint8_t header[WEKSHURAG_WAVE_HEADER];
+    uint32_t latency;
     chime(sound);
     plug_in();
     negotiate();
     start(0);
     play(silence, sizeof silence, FRAME);
     printf("lead-in: %u buffers of one frame; the ring's index is %u\n", 65486u, playq.avail->idx);
-    play(bell, sizeof sound, PERIOD);
-    printf("chime: %u buffers of 10 ms; the index rolled over to %u\n", (unsigned)(sizeof sound / PERIOD), playq.avail->idx);
+    latency = play(bell, sizeof sound, PERIOD);
+    printf("chime: %u buffers of 10 ms; the index rolled over to %u; latency %u bytes\n", (unsigned)(sizeof sound / PERIOD), playq.avail->idx,
+           latency);
+    expect(latency == 2 * PERIOD, "the guest is told another latency than the device has");
     expect(heard_len == sizeof silence + sizeof sound && memcmp(heard, silence, sizeof silence) == 0
                && memcmp(heard + sizeof silence, bell, sizeof sound) == 0,
            "what is heard is not what the guest played");

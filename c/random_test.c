@@ -124,16 +124,16 @@ static void write_register(uint64_t offset, uint64_t width, uint64_t value)
 struct call {
     char kind;
     size_t host_len;
-    uint32_t code, data;
+    uint32_t backlog, code, data;
 };
 
 static struct wekshurag_result make(struct call c, struct wekshurag_card *on, uint8_t *memory, size_t memory_len, uint8_t *host)
 {
     switch (c.kind) {
     case 'p':
-        return wekshurag_play(on, memory, memory_len, host, c.host_len);
+        return wekshurag_play(on, memory, memory_len, host, c.host_len, c.backlog);
     case 'c':
-        return wekshurag_capture(on, memory, memory_len, host, c.host_len);
+        return wekshurag_capture(on, memory, memory_len, host, c.host_len, c.backlog);
     case 'e':
         return wekshurag_event(on, memory, memory_len, c.code, c.data);
     default:
@@ -424,11 +424,11 @@ static void session(void)
         case 1:
         case 2:
         case 3:
-            call((struct call){.kind = 'p', .host_len = one_in(10) ? 0 : below(MAX_HOST)});
+            call((struct call){.kind = 'p', .host_len = one_in(10) ? 0 : below(MAX_HOST), .backlog = (uint32_t)any()});
             break;
         case 4:
         case 5:
-            call((struct call){.kind = 'c', .host_len = one_in(10) ? 0 : below(MAX_HOST)});
+            call((struct call){.kind = 'c', .host_len = one_in(10) ? 0 : below(MAX_HOST), .backlog = (uint32_t)any()});
             break;
         case 6:
             call((struct call){.kind = 'e',

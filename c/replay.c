@@ -51,14 +51,22 @@ static unsigned nibble(char c)
     return c <= '9' ? (unsigned)(c - '0') : (unsigned)(c - 'a' + 10);
 }
 
-/* a single space, and HEX up to the line's end: where it stands, and how many bytes it is */
-static bool hex(size_t at, const char **digits, size_t *bytes)
+/* the place behind the word at `at` */
+static size_t word_end(size_t at)
+{
+    while (at < line_len && line[at] != ' ')
+        at++;
+    return at;
+}
+
+/* a single space, and HEX up to `end`: where it stands, and how many bytes it is */
+static bool hex(size_t at, size_t end, const char **digits, size_t *bytes)
 {
     size_t n;
-    if (at >= line_len || line[at] != ' ')
+    if (at >= end || line[at] != ' ')
         return false;
     *digits = line + at + 1;
-    n = line_len - at - 1;
+    n = end - at - 1;
     *bytes = n / 2;
     if (n == 1)
         return **digits == '-';
@@ -141,7 +149,7 @@ static bool chmap(void)
     uint64_t nid, direction, channels;
     const char *positions;
     if (!number(&at, UINT32_MAX, &nid) || !number(&at, UINT8_MAX, &direction) || !number(&at, UINT8_MAX, &channels)
-        || !hex(at, &positions, &bytes) || bytes != 18)
+        || !hex(at, line_len, &positions, &bytes) || bytes != 18)
         return false;
     if (described.chmap_count < 4) {
         struct wekshurag_chmap *m = &described.chmaps[described.chmap_count];
@@ -213,19 +221,20 @@ static bool call(void)
     }
     if (begins("play ")) {
         at = 4;
-        if (!number(&at, MAX_HOST, &a) || !at_end(at) || !powered)
+        if (!number(&at, MAX_HOST, &a) || !number(&at, UINT32_MAX, &b) || !at_end(at) || !powered)
             return false;
         memset(host, 238, (size_t)a);
-        print_call(wekshurag_play(&card, ram, ram_len, host, (size_t)a));
+        print_call(wekshurag_play(&card, ram, ram_len, host, (size_t)a, (uint32_t)b));
         printf(" %" PRIu32 "\n", adler32(host, (size_t)a));
         return true;
     }
     if (begins("capture ")) {
-        if (!hex(7, &digits, &bytes) || bytes > MAX_HOST || !powered)
+        at = word_end(8);
+        if (!hex(7, at, &digits, &bytes) || bytes > MAX_HOST || !number(&at, UINT32_MAX, &b) || !at_end(at) || !powered)
             return false;
         for (size_t i = 0; i < bytes; i++)
             host[i] = byte_at(digits, i);
-        print_call(wekshurag_capture(&card, ram, ram_len, host, bytes));
+        print_call(wekshurag_capture(&card, ram, ram_len, host, bytes, (uint32_t)b));
         putchar('\n');
         return true;
     }
@@ -244,7 +253,7 @@ static bool guest(void)
     uint64_t address, len, byte;
     const char *digits;
     if (begins("m ")) {
-        if (!number(&at, UINT64_MAX, &address) || !hex(at, &digits, &bytes))
+        if (!number(&at, UINT64_MAX, &address) || !hex(at, line_len, &digits, &bytes))
             return false;
         for (size_t i = 0; i < bytes && address < ram_len && i < ram_len - address; i++)
             ram[address + i] = byte_at(digits, i);

@@ -186,19 +186,25 @@ struct wekshurag_result wekshurag_control(struct wekshurag_card *card, uint8_t *
  * Hands sound that the guest plays to the host: up to host_len bytes, as many as the guest has put, in order. Call it on the host's own
  * clock. A message that does not fit goes on in the next call; it is completed in the call that hands over its last byte.
  *
+ * `backlog` is how many bytes of this stream the host has taken and not sounded yet. Every message completed in this call tells it to the
+ * guest as its latency; a RELEASE tells that of the last call that answered WEKSHURAG_DONE since the guest's last reset, or 0. A host that
+ * does not know it says 0.
+ *
  * Answers WEKSHURAG_DONE and the bytes handed over, which are the first of `host`; those behind them are as they were (fill them with
  * silence first). Or WEKSHURAG_RAM_LENGTH, WEKSHURAG_NOT_LIVE, WEKSHURAG_NOT_RUNNING, WEKSHURAG_QUEUE_BROKEN.
  */
-struct wekshurag_result wekshurag_play(struct wekshurag_card *card, uint8_t *ram, size_t ram_len, uint8_t *host, size_t host_len);
+struct wekshurag_result wekshurag_play(struct wekshurag_card *card, uint8_t *ram, size_t ram_len, uint8_t *host, size_t host_len,
+                                       uint32_t backlog);
 
 /*
- * Records the host_len bytes at `host` into what the guest has put for them. `host` is only read.
+ * Records the host_len bytes at `host` into what the guest has put for them. `host` is only read. `backlog` is how many bytes the host has
+ * recorded and not handed in yet; the guest is told of it as for wekshurag_play.
  *
  * Answers WEKSHURAG_DONE and how many of the bytes, from the first on, were recorded; the rest had no place, and are the monitor's to keep
  * or to lose. Refusals as for wekshurag_play.
  */
 struct wekshurag_result wekshurag_capture(struct wekshurag_card *card, uint8_t *ram, size_t ram_len, const uint8_t *host,
-                                          size_t host_len);
+                                          size_t host_len, uint32_t backlog);
 
 /* The events: `data` is the jack's number, or the stream's. */
 #define WEKSHURAG_JACK_CONNECTED UINT32_C(0x1000)

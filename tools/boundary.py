@@ -39,11 +39,11 @@ ENTRIES = [
          contract='(r ≡ writeCard c offset width value) × Fit (r .card)'),
     dict(entry='wekshurag_control', lib='entries', callee='control', params='ram:mut', names=STEPS, **CALL,
          contract="(stepOf c Request.Control ram ≡ leaves (r .card) (answered r) (r .count) [] [] ram') × Fit (r .card)"),
-    dict(entry='wekshurag_play', lib='entries', callee='play', params='ram:mut host:mut', names=STEPS, **CALL,
-         contract="(stepOf c (Request.Play host) ram ≡ leaves (r .card) (answered r) (r .count) (take (r .count) host') host' ram')"
+    dict(entry='wekshurag_play', lib='entries', callee='play', params='ram:mut host:mut backlog:u32', names=STEPS, **CALL,
+         contract="(stepOf c (Request.Play host backlog) ram ≡ leaves (r .card) (answered r) (r .count) (take (r .count) host') host' ram')"
                   ' × Fit (r .card)'),
-    dict(entry='wekshurag_capture', lib='entries', callee='capture', params='ram:mut host:shared', names=STEPS, **CALL,
-         contract="(stepOf c (Request.Capture host) ram ≡ leaves (r .card) (answered r) (r .count) (take (r .count) host) [] ram')"
+    dict(entry='wekshurag_capture', lib='entries', callee='capture', params='ram:mut host:shared backlog:u32', names=STEPS, **CALL,
+         contract="(stepOf c (Request.Capture host backlog) ram ≡ leaves (r .card) (answered r) (r .count) (take (r .count) host) [] ram')"
                   ' × Fit (r .card)'),
     dict(entry='wekshurag_event', lib='entries', callee='event', params='ram:mut code:u32 data:u32', names=STEPS, **CALL,
          contract="(stepOf c (Event code data) ram ≡ leaves (r .card) (answered r) (r .count) [] [] ram') × Fit (r .card)"),

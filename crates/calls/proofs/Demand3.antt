@@ -21,7 +21,7 @@ use Rattle.card.specs.declared.Card.{Card}
 use Rattle.card.specs.declared.Powered.{Powered}
 use Rattle.meaning.specs.Card.{deviceOf}
 use Rattle.meaning.proofs.Steps.{power-start}
-use Rattle.rules.specs.Account.{takingAt, entryAt, startsAnew, Answers, finishedOk, releasedIoErr, illFormedIoErr, illFormedMute, Answered, Book}
+use Rattle.rules.specs.Account.{takingAt, entryAt, startsAnew, Answers, finishedOk, releasedIoErr, illFormedIoErr, illFormedMute, AnsweredBy, Book}
 use Rattle.rules.specs.Calls.{Call, Told, Step, step}
 use Rattle.rules.specs.Claim.{start, after, countFor, bytesFor, heard, counted, Good, queueOf, shownAs, card, account}
 use Rattle.rules.specs.Device.{Direction, output, Taking, Ending, finished, released, illFormed, Device, Queue}
@@ -76,10 +76,10 @@ module _ (w : Direction → List ℕ) (b : Device History) (c n : Card) (k : Cal
         turn = rw told-is (turns (w output) b (i .good output) (i .book) (k .lent) (k .asked) .0);
         stands = stands;
         play-drains =
-            λ host q a l based.
+            λ host backlog q a l based.
             rw (stands, q)
             (drained.drained-queue _ _
-            (drained.play-drains (w output) b (k .lent) (i .good output) host (rw (told-is, q) at a) (rw (told-is, q) at l) based));
+            (drained.play-drains (w output) b (k .lent) (i .good output) host backlog (rw (told-is, q) at a) (rw (told-is, q) at l) based));
         release-drains =
             λ p q o a based.
             rw (stands, q)
@@ -157,7 +157,7 @@ module _ (h : History) (b : Book h) (t : ℕ) (e : entryAt h t .ending ≡ relea
   io-err true l = absurd (not-finished (rw (List·getD-eq-default (h .entries) unanswered (leb-true (number h) t l))))
   io-err false l = go (b .answers t (leb-false (number h) t l))
     where
-      go : Answered 0 finished (takingAt h t) (entryAt h t) ⊎ Answered 0 released (takingAt h t) (entryAt h t) → entryAt h t .status ≡ some sIoErr
+      go : AnsweredBy finished (takingAt h t) (entryAt h t) ⊎ AnsweredBy released (takingAt h t) (entryAt h t) → entryAt h t .status ≡ some sIoErr
       go (inl a) = status-of finished (a .way)
       go (inr a) = status-of released (a .way)
 

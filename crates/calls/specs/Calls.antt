@@ -19,8 +19,8 @@ abbrev pub requestOf : Request → List ℕ → rules.Request
 requestOf (Read offset width) host = rules.ReadRegister offset width
 requestOf (Write offset width v) host = rules.WriteRegister offset width v
 requestOf Control host = rules.Control
-requestOf Play host = rules.Play host
-requestOf Capture host = rules.Capture host
+requestOf (Play backlog) host = rules.Play host backlog
+requestOf (Capture backlog) host = rules.Capture host backlog
 requestOf (Event code data′) host = rules.Event code data′
 
 -- .. and the memory lent
@@ -31,8 +31,8 @@ abbrev pub isPlay : Request → Bool
 isPlay (Read offset width) = false
 isPlay (Write offset width v) = false
 isPlay Control = false
-isPlay Play = true
-isPlay Capture = false
+isPlay (Play backlog) = true
+isPlay (Capture backlog) = false
 isPlay (Event code data′) = false
 
 -- a play or a capture
@@ -40,8 +40,8 @@ abbrev pub isTransfer : Request → Bool
 isTransfer (Read offset width) = false
 isTransfer (Write offset width v) = false
 isTransfer Control = false
-isTransfer Play = true
-isTransfer Capture = true
+isTransfer (Play backlog) = true
+isTransfer (Capture backlog) = true
 isTransfer (Event code data′) = false
 
 -- what is told, of the host buffer and memory after the call: the bytes moved are the first `count` of the host's

@@ -42,8 +42,8 @@ pub record Accounted (b : Device History) (k : Call) (t : Told) (n : Card) : Typ
   -- a play with host room left that answers 0, and an output Release that answers 0, leave nothing in work and every entry up to the
   -- available index taken
   pub play-drains :
-      (host : List ℕ)
-      → k .asked ≡ Play host
+      (host : List ℕ) (backlog : ℕ)
+      → k .asked ≡ Play host backlog
       → t .answer .number ≡ done
       → t .count < length host
       → (pageOf (b .rest) playQueue .0 ≡ 0 → ⊥)

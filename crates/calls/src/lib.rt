@@ -6,13 +6,14 @@ ghost use Rattle.calls.specs.Calls.{callOf, toldOf, hostOf, queueOutcome
 use card::Card;
 use registers::Answer;
 
-// What is asked: a read at an offset, of a width; a write of a value; an event of a code and its data.
+// What is asked: a read at an offset, of a width; a write of a value; a play or a capture with the host's
+// backlog; an event of a code and its data.
 pub enum Request {
     Read(u64, u64),
     Write(u64, u64, u64),
     Control,
-    Play,
-    Capture,
+    Play(u32),
+    Capture(u32),
     Event(u32, u32),
 }
 
@@ -60,12 +61,12 @@ pub fn call(card: Card, m: &mut [u8], host: &mut [u8], request: Request) -> Outc
             let answered = controlq::control(card, m);
             queue_outcome(answered.answer, answered.count, answered.card)
         }
-        Request::Play => {
-            let played = pcm::play(card, m, host);
+        Request::Play(backlog) => {
+            let played = pcm::play(card, m, host, backlog);
             queue_outcome(played.answer, played.count, played.card)
         }
-        Request::Capture => {
-            let captured = pcm::capture(card, m, host);
+        Request::Capture(backlog) => {
+            let captured = pcm::capture(card, m, host, backlog);
             queue_outcome(captured.answer, captured.count, captured.card)
         }
         Request::Event(code, data) => {

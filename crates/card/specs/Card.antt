@@ -49,7 +49,7 @@ abbrev pub releasedState : ℕ
 releasedState = 5
 
 abbrev pub freshStream : StreamInfo → Stream
-freshStream i = record { info = i; state = freshState; params = noParams }
+freshStream i = record { info = i; state = freshState; params = noParams; backlog = 0 }
 
 abbrev pub jackAtPower : JackInfo → Jack
 jackAtPower i = record { info = i; defconf = i .defconf; connected = i .connected }

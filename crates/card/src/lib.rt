@@ -55,11 +55,13 @@ pub struct Params {
     pub rate: u8,
 }
 
+// `backlog` is that of the last transfer of the stream that answered 0, since reset.
 #[repr(C)]
 pub struct Stream {
     pub info: StreamInfo,
     pub state: u8,
     pub params: Params,
+    pub backlog: u32,
 }
 
 // How many entries of a queue were taken and completed, modulo 65,536.
@@ -171,6 +173,7 @@ fn fresh(info: StreamInfo) -> Stream
             format: 0,
             rate: 0,
         },
+        backlog: 0,
     }
 }
 

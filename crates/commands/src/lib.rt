@@ -228,6 +228,7 @@ fn set_offered(
         info: info,
         state: state,
         params: p,
+        backlog: stream.backlog,
     };
     reply::answer(m, parts.with_stream(i, set), pending, rules::OK)
 }
@@ -269,6 +270,7 @@ fn move_stream(m: &mut [u8], parts: Parts, pending: Pending, i: usize, state: u8
         info: info,
         state: state,
         params: params,
+        backlog: stream.backlog,
     };
     reply::answer(m, parts.with_stream(i, moved), pending, rules::OK)
 }

@@ -34,13 +34,13 @@ use Rattle.card.specs.declared.Counters.{Counters}
 use Rattle.card.specs.declared.Stream.{Stream}
 use Rattle.meaning.specs.Card.{countersAt, partsOf, restOf, deviceOf, stepOf, leaves}
 use Rattle.rules.specs.Calls as calls
-use Rattle.rules.specs.Calls.{Result, Order, Pending, Step, ended, virtqueueOf, releasedOf, acted, Done, ReleaseFirst, Control, releaseStep}
+use Rattle.rules.specs.Calls.{Result, Order, Pending, Step, ended, releaseQueue, releasedOf, acted, Done, ReleaseFirst, Control, releaseStep}
 use Rattle.rules.specs.Calls.{refused, broke, replied, withRest, ordered, orderOf, controlFound, indirect}
 use Rattle.rules.specs.Control as rules
 use Rattle.rules.specs.Control.{status, withState}
 use Rattle.rules.specs.Counters.{countersOf}
 use Rattle.rules.specs.Device.{Device, Queue, Rest, Direction, output, input, queueNumber, directionOf, queueFor, withQueue, withRegisters}
-use Rattle.rules.specs.Device.{withControl, pageOf, signalledIf, oneTaken}
+use Rattle.rules.specs.Device.{withControl, pageOf, streamAt, signalledIf, oneTaken}
 use Rattle.rules.specs.Numbers.{controlQueue, sOk, sBadMsg}
 use Rattle.card.specs.Setters.{withParts, withStreamAt}
 use Rattle.card.proofs.Setters.{fit-with-parts, fit-with-stream}
@@ -167,14 +167,20 @@ module _ (c : Card) (head : DescriptorNumber) (reply : List Range) (id : ℕ) (s
 
 -- the rules' Release of the output, and of any other stream
 module _ (c : Card) (head : DescriptorNumber) (reply : List Range) (id : ℕ) (m m′ : List ℕ) (r : Emptied) where
+  -- the backlog that the stream remembers
+  abbrev carried : ℕ
+  carried = streamAt (restOf c) id .backlog
+
   abbrev pub toEnd : Step (Device Queue)
   toEnd = endsOn (r .card) (releasedOf id (pendingOf (r .card) head reply) m′ (r .stop) (r .signal))
 
-  pub release-output : id ≡ 0 → Empties output c m m′ r → ordered countersOf (ReleaseFirst id (pendingOf c head reply)) (deviceOf c) m ≡ toEnd
-  release-output n e = released-ordered c m m′ r id (pendingOf c head reply) refl output (rw (eq-eqb id 0 n)) e
+  pub release-output : (latency : ℕ) → latency ≡ carried → id ≡ 0 → Empties output latency c m m′ r
+      → ordered countersOf (ReleaseFirst id (pendingOf c head reply)) (deviceOf c) m ≡ toEnd
+  release-output latency l n e = released-ordered c m m′ r id (pendingOf c head reply) refl output (rw (eq-eqb id 0 n)) (rw l at e)
 
-  pub release-input : (id ≡ 0 → ⊥) → Empties input c m m′ r → ordered countersOf (ReleaseFirst id (pendingOf c head reply)) (deviceOf c) m ≡ toEnd
-  release-input n e = released-ordered c m m′ r id (pendingOf c head reply) refl input (rw (ne-eqb id 0 n)) e
+  pub release-input : (latency : ℕ) → latency ≡ carried → (id ≡ 0 → ⊥) → Empties input latency c m m′ r
+      → ordered countersOf (ReleaseFirst id (pendingOf c head reply)) (deviceOf c) m ≡ toEnd
+  release-input latency l n e = released-ordered c m m′ r id (pendingOf c head reply) refl input (rw (ne-eqb id 0 n)) (rw l at e)
 
 -- ---- a message that was walked whole
 
@@ -288,7 +294,7 @@ module _ (b b′ : Device Queue) (e : SameQueues b b′) where
   ordered-same (Done o) m = rw (e .play, e .capture)
   ordered-same (ReleaseFirst id p) m =
       let d = directionOf id in
-      rw (queue-same d) (release-same id p (calls.emptied (countersOf d) (virtqueueOf (p .rest) d) (queueFor d b′) m))
+      rw (queue-same d) (release-same id p (calls.emptied (countersOf d) (releaseQueue id (p .rest)) (queueFor d b′) m))
 
 module _ (c : Card) (f : Fit c) (m : List ℕ) where
   taken-rest : restOf (takenCard c) ≡ withControl (oneTaken (restOf c .control)) (restOf c)

@@ -259,11 +259,12 @@ fn release(
     ensures { λ r. ⌜ (ordered countersOf (ReleaseFirst id (pendingOf card head (rangesOf reply))) (deviceOf card) (now (m .entry))
         ≡ says r (now (m .exit))) × Fit (r .card) ⌝ }
 {
+    let latency = stream::backlog(card, id);
     if id == 0 {
-        let emptied = stream::empty(card, m, Direction::Output);
+        let emptied = stream::empty(card, m, Direction::Output, latency);
         return end_release(m, emptied, head, reply, id);
     }
-    let emptied = stream::empty(card, m, Direction::Input);
+    let emptied = stream::empty(card, m, Direction::Input, latency);
     end_release(m, emptied, head, reply, id)
 }
 

@@ -43,25 +43,25 @@ pub fn control(card: Card, m: &mut [u8]) -> QueueAnswer
 }
 
 // The play call.
-pub fn play(card: Card, m: &mut [u8], host: &mut [u8]) -> QueueAnswer
+pub fn play(card: Card, m: &mut [u8], host: &mut [u8], backlog: u32) -> QueueAnswer
     requires { ⌜ Fit card ⌝ }
-    ensures { λ r. ⌜ (stepOf card (Request.Play (now (host .entry))) (now (m .entry))
+    ensures { λ r. ⌜ (stepOf card (Request.Play (now (host .entry)) backlog) (now (m .entry))
         ≡ leaves (r .card) (answered r) (r .count) (take (r .count) (now (host .exit))) (now (host .exit)) (now (m .exit)))
         × Fit (r .card) ⌝ }
 {
-    let told = pcm::play(card, m, host);
+    let told = pcm::play(card, m, host, backlog);
     let answer = told.answer;
     let after = told.card;
     flattened(answer, told.count, after)
 }
 
 // The capture call.
-pub fn capture(card: Card, m: &mut [u8], host: &[u8]) -> QueueAnswer
+pub fn capture(card: Card, m: &mut [u8], host: &[u8], backlog: u32) -> QueueAnswer
     requires { ⌜ Fit card ⌝ }
-    ensures { λ r. ⌜ (stepOf card (Request.Capture (now (host .entry))) (now (m .entry))
+    ensures { λ r. ⌜ (stepOf card (Request.Capture (now (host .entry)) backlog) (now (m .entry))
         ≡ leaves (r .card) (answered r) (r .count) (take (r .count) (now (host .entry))) [] (now (m .exit))) × Fit (r .card) ⌝ }
 {
-    let told = pcm::capture(card, m, host);
+    let told = pcm::capture(card, m, host, backlog);
     let answer = told.answer;
     let after = told.card;
     flattened(answer, told.count, after)

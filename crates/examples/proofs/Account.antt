@@ -1,10 +1,12 @@
 -- The play queue's account, run by computation: a play in two calls, a message with the wrong stream id between two others, STOP and RELEASE
--- of the rest, a reset. All four histories are shown after each of them.
+-- of the rest, a reset. All four histories are shown after each of them; and order 5's latency, in the entries and in memory.
 use mathlib.Core.Path.{_≡_, _∙_, refl, sym}
-use mathlib.Core.List.{List, [], _∷_, _++_}
+use mathlib.Core.List.{List, [], _∷_, _++_, map}
 use mathlib.Core.Option.{none, some}
 use Prim.Native.Nat.{ℕ}
+use lib.ListN.{take, drop}
 use Rattle.card.specs.Card.{runningState}
+use Rattle.card.specs.declared.Stream.{Stream}
 use Rattle.rules.specs.Calls.{Request, WriteRegister, Control, Play}
 use Rattle.rules.specs.Claim.{account}
 use Rattle.rules.specs.Device.{Device, Form, wellFormed, refused, Taking, finished, released, illFormed}
@@ -53,8 +55,8 @@ all = taken 0 16 7 64 wellFormed ∷ taken 1 24 4 72 refused ∷ taken 3 32 8 80
 
 abbrev pub answered : List Entry
 answered =
-    record { head = 0; length = 8; ending = finished; status = some sOk; latency = 0 }
-    ∷ record { head = 1; length = 8; ending = illFormed; status = some sIoErr; latency = 0 }
+    record { head = 0; length = 8; ending = finished; status = some sOk; latency = 960 }
+    ∷ record { head = 1; length = 8; ending = illFormed; status = some sIoErr; latency = 960 }
     ∷ []
 
 abbrev pub begun : List Note
@@ -63,11 +65,12 @@ begun = note 0 0 20 11 ∷ note 0 1 21 12 ∷ []
 abbrev pub heard : List Note
 heard = begun ++ note 0 2 22 13 ∷ note 2 0 36 21 ∷ note 2 1 37 22 ∷ []
 
--- two bytes of room, then three: the first message is finished, the second answered, the third begun
+-- two bytes of room with a backlog of 480, then three with one of 960: the first message is finished, the second answered, the third
+-- begun
 abbrev pub plays : List Request
-plays = Play (0 ∷ 0 ∷ []) ∷ Play (0 ∷ 0 ∷ 0 ∷ []) ∷ []
+plays = Play (0 ∷ 0 ∷ []) 480 ∷ Play (0 ∷ 0 ∷ 0 ∷ []) 960 ∷ []
 
-pub a-part-played : after (Play (0 ∷ 0 ∷ []) ∷ []) ≡ record { takings = first; entries = []; notes = begun; losses = [] }
+pub a-part-played : after (Play (0 ∷ 0 ∷ []) 480 ∷ []) ≡ record { takings = first; entries = []; notes = begun; losses = [] }
 unfolding runs
 a-part-played = refl
 
@@ -75,7 +78,7 @@ pub played-on : after plays ≡ record { takings = all; entries = answered; note
 unfolding runs
 played-on = refl
 
--- STOP adds nothing; RELEASE gives up what waits
+-- STOP adds nothing; RELEASE gives up what waits. A play in between is refused, and its backlog is not remembered
 stopped-with : after (plays ++ Control ∷ []) ≡ record { takings = all; entries = answered; notes = heard; losses = [] }
 unfolding runs
 stopped-with = refl
@@ -83,11 +86,14 @@ stopped-with = refl
 pub stopped : after (plays ++ Control ∷ []) ≡ after plays
 stopped = stopped-with ∙ sym played-on
 
+abbrev pub ended : List Request
+ended = plays ++ Control ∷ Play (0 ∷ []) 77 ∷ Control ∷ []
+
 pub given-up :
-    after (plays ++ Control ∷ Control ∷ [])
+    after ended
     ≡ record {
       takings = all;
-      entries = answered ++ record { head = 3; length = 8; ending = released; status = some sIoErr; latency = 0 } ∷ [];
+      entries = answered ++ record { head = 3; length = 8; ending = released; status = some sIoErr; latency = 960 } ∷ [];
       notes = heard;
       losses = loss 2 2 ∷ loss 2 3 ∷ [];
     }
@@ -98,3 +104,37 @@ given-up = refl
 pub anew : after (plays ++ WriteRegister 18 1 0 ∷ []) ≡ blank
 unfolding runs
 anew = refl
+
+-- ---- order 5
+
+-- what memory holds at the three replies after these requests
+abbrev pub statuses : List Request → List ℕ
+statuses qs = take 24 (drop 64 (runs account speaker lent qs .memory))
+
+-- the backlog that the stream remembers
+abbrev pub remembered : List Request → List ℕ
+remembered qs = map (λ (s : Stream). s .backlog) (runs account speaker lent qs .state .rest .streams)
+
+-- a play with backlog 960 that finishes a message writes 0x8000 and 960, and an ill-formed one 0x8003 and 960; a Release after it writes
+-- 0x8003 and 960
+pub latency-of-a-play : statuses plays ≡ words (32768 ∷ 960 ∷ 32771 ∷ 960 ∷ 0 ∷ 0 ∷ [])
+unfolding runs
+latency-of-a-play = refl
+
+pub latency-of-a-release : statuses ended ≡ words (32768 ∷ 960 ∷ 32771 ∷ 960 ∷ 32771 ∷ 960 ∷ [])
+unfolding runs
+latency-of-a-release = refl
+
+-- a Release with no play before it writes 0, for ill-formed messages too
+pub latency-of-none : statuses (Control ∷ Control ∷ []) ≡ words (32771 ∷ 0 ∷ 32771 ∷ 0 ∷ 32771 ∷ 0 ∷ [])
+unfolding runs
+latency-of-none = refl
+
+-- STOP and RELEASE keep the backlog; a reset forgets it
+pub backlog-kept : (remembered plays ≡ 960 ∷ []) × (remembered ended ≡ 960 ∷ [])
+unfolding runs
+backlog-kept = (refl, refl)
+
+pub backlog-forgotten : remembered (plays ++ WriteRegister 18 1 0 ∷ []) ≡ 0 ∷ []
+unfolding runs
+backlog-forgotten = refl

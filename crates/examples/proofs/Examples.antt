@@ -25,7 +25,7 @@ use Rattle.card.specs.declared.Stream.{Stream}
 use Rattle.registers.specs.Answers.{plain}
 use Rattle.ring.specs.declared.Cause.{Cause}
 use Rattle.ring.specs.declared.Stop.{Stop}
-use Rattle.rules.specs.Calls.{Request, ReadRegister, WriteRegister, Control, Play, Capture, Event, Call, Told, toldAll, step, Order as Decided, Done, ReleaseFirst, readMessage, Emptied, eventRoom, replied, orderOf, emptied, releasedOf, transferred, eventAllowed, recorded, eventPosted, tried, eventRun, eventOf, readStep, writeStep, releaseStep, transferStep}
+use Rattle.rules.specs.Calls.{Request, ReadRegister, WriteRegister, Control, Play, Capture, Event, Call, Told, toldAll, step, Order as Decided, Done, ReleaseFirst, readMessage, Emptied, eventRoom, replied, orderOf, emptied, releasedOf, transferred, eventAllowed, recorded, eventPosted, tried, eventRun, eventOf, readStep, writeStep, releaseStep, transferStep, remembering}
 use Rattle.rules.specs.Claim.{card, toldBy}
 use Rattle.rules.specs.Control.{Parts, Served, Reply, Release, joined, information, remap, judgedParams, setParams, commanded, decodedOf, served}
 use Rattle.rules.specs.Lifecycle.{transition}
@@ -120,6 +120,7 @@ stream state features =
       info = streamInfo;
       state = state;
       params = record { «buffer_bytes» = 8; «period_bytes» = 4; features = features; channels = 2; format = 5; rate = 7 };
+      backlog = 0;
     }
 
 -- bit 28 agreed; the status, ISR and the pages of the four queues
@@ -155,7 +156,7 @@ pub record Ran (Q : Type 0) : Type 0 where
   pub memory : List ℕ
 
 unfoldable pub runs : {Q : Type 0} → (Direction → Ops Q) → Device Q → List ℕ → List Request → Ran Q
-unfolding descriptorAt descriptors joinedOf enterOf inTable direct le put total places upFrom putAt allInside registerAt configAt sizeOf readOf writeOf live signalled broken pageRead configBytes configValue isrRead wroteFeatures wrotePage wroteSelector wroteNotify storedStatus wroteStatus foundOf headAt postedAt interrupts replied orderOf emptied releasedOf transferred eventAllowed recorded eventPosted tried eventRun eventOf readStep writeStep releaseStep transferStep information remap judgedParams setParams transition commanded decodedOf served formOf takingOf payloadOf completed moved entered next transferRun releaseRun loop bytesOf toldBy handedNow waiting took noted history.entered
+unfolding descriptorAt descriptors joinedOf enterOf inTable direct le put total places upFrom putAt allInside registerAt configAt sizeOf readOf writeOf live signalled broken pageRead configBytes configValue isrRead wroteFeatures wrotePage wroteSelector wroteNotify storedStatus wroteStatus foundOf headAt postedAt interrupts replied orderOf emptied releasedOf transferred eventAllowed recorded eventPosted tried eventRun eventOf readStep writeStep releaseStep transferStep remembering information remap judgedParams setParams transition commanded decodedOf served formOf takingOf payloadOf completed moved entered next transferRun releaseRun loop bytesOf toldBy handedNow waiting took noted history.entered
 runs ops b m [] = record { answers = []; counts = []; state = b; memory = m }
 runs ops b m (q ∷ qs) =
     let s = step ops b (record { asked = q; lent = m }) in
@@ -172,7 +173,7 @@ call q m = record { asked = q; lent = m }
 
 -- a call of each kind; events of a running stream, an absent stream, no kind that is sent, an absent jack
 abbrev pub oneOfEach : List Request
-oneOfEach = Control ∷ Play [] ∷ Capture [] ∷ Event 4353 0 ∷ Event 4353 1 ∷ Event 4352 0 ∷ Event 4096 1 ∷ []
+oneOfEach = Control ∷ Play [] 0 ∷ Capture [] 0 ∷ Event 4353 0 ∷ Event 4353 1 ∷ Event 4352 0 ∷ Event 4096 1 ∷ []
 
 abbrev pub asksAll : ℕ → ℕ → List ℕ
 asksAll status lent = run (device 8 status (0 ∷ 0 ∷ 0 ∷ 0 ∷ []) (stream runningState 16 ∷ [])) (replicate lent 0) oneOfEach .answers
@@ -190,9 +191,9 @@ abbrev pub pastRam : ℕ → ℕ → List Request → List ℕ
 pastRam state features qs = run (device 8 15 (1 ∷ 1 ∷ 1 ∷ 1 ∷ []) (stream state features ∷ [])) (replicate 8 0) qs .answers
 
 pub broken-comes-last :
-    (pastRam runningState 16 (Capture [] ∷ Event 4096 1 ∷ Control ∷ Control ∷ []) ≡ 6 ∷ 7 ∷ 9 ∷ 5 ∷ [])
-    × (pastRam runningState 0 (Event 4353 0 ∷ Play [] ∷ Play [] ∷ []) ≡ 7 ∷ 9 ∷ 5 ∷ [])
-    × (pastRam stoppedState 16 (Play [] ∷ Event 4353 0 ∷ Event 4096 0 ∷ Event 4096 0 ∷ []) ≡ 6 ∷ 7 ∷ 9 ∷ 5 ∷ [])
+    (pastRam runningState 16 (Capture [] 0 ∷ Event 4096 1 ∷ Control ∷ Control ∷ []) ≡ 6 ∷ 7 ∷ 9 ∷ 5 ∷ [])
+    × (pastRam runningState 0 (Event 4353 0 ∷ Play [] 0 ∷ Play [] 0 ∷ []) ≡ 7 ∷ 9 ∷ 5 ∷ [])
+    × (pastRam stoppedState 16 (Play [] 0 ∷ Event 4353 0 ∷ Event 4096 0 ∷ Event 4096 0 ∷ []) ≡ 6 ∷ 7 ∷ 9 ∷ 5 ∷ [])
 unfolding runs
 broken-comes-last = (refl, refl, refl)
 
@@ -346,7 +347,7 @@ before =
 -- the bad head not met.
 pub play-in-two-calls :
     toldBy card player
-    (call (Play (0 ∷ 0 ∷ 0 ∷ [])) before ∷ call (Play (0 ∷ 0 ∷ [])) (memory 10760 (block 302 (99 ∷ []) ∷ twoHeads ∷ [])) ∷ [])
+    (call (Play (0 ∷ 0 ∷ 0 ∷ []) 0) before ∷ call (Play (0 ∷ 0 ∷ []) 0) (memory 10760 (block 302 (99 ∷ []) ∷ twoHeads ∷ [])) ∷ [])
     ≡ toldAll (plain 0) 0 255 3 (11 ∷ 12 ∷ 13 ∷ []) (11 ∷ 12 ∷ 13 ∷ []) before
     ∷ toldAll (plain 0) 0 255 2 (0 ∷ 99 ∷ []) (0 ∷ 99 ∷ [])
     (memory 10760 (block 200 (xfer ok) ∷ block 302 (99 ∷ []) ∷ twoHeads ∷ block 8710 (used 1 (element 5 8 ∷ [])) ∷ []))
@@ -360,7 +361,7 @@ oneMessage reply used′ =
     memory 10760 (block 100 (11 ∷ 12 ∷ []) ∷ reply ++ block 400 (message 96 6 200 8) ∷ block 4176 (table 400) ∷ twoHeads ∷ used′)
 
 pub bad-head-when-met :
-    step card player (call (Play (0 ∷ 0 ∷ 0 ∷ [])) (oneMessage [] []))
+    step card player (call (Play (0 ∷ 0 ∷ 0 ∷ []) 0) (oneMessage [] []))
     ≡ record {
       state =
           record {
@@ -448,7 +449,7 @@ recording replies used-control used-capture =
     ∷ used-capture)
 
 pub capture-stop-release :
-    run (recorder runningState) (recording [] [] []) (Capture (1 ∷ 2 ∷ 3 ∷ []) ∷ Control ∷ Control ∷ [])
+    run (recorder runningState) (recording [] [] []) (Capture (1 ∷ 2 ∷ 3 ∷ []) 0 ∷ Control ∷ Control ∷ [])
     ≡ record {
       answers = 0 ∷ 0 ∷ 0 ∷ [];
       counts = 3 ∷ 1 ∷ 1 ∷ [];

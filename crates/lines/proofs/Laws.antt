@@ -1,4 +1,4 @@
--- Laws of lines: what stands before a line feed, the first line and those behind it, and a text that begins within a line.
+-- Laws of lines: what stands before a byte, the first line and those behind it, and a text that begins within a line.
 use mathlib.Core.Path.{_≡_, refl}
 use mathlib.Core.List.{List, [], _∷_, _++_, append-nil, append-assoc}
 use mathlib.Core.Bool.{Bool, true, false, cond}
@@ -11,44 +11,44 @@ use lib.ListN.{length, getD, take, drop, drop-of-length-le, length-drop}
 use lib.Seq.{drop-cons, drop-drop}
 use Rattle.lines.specs.Lines.{headed, linesOf, spanOf, behindOf}
 
--- ---- a line feed at a place
+-- ---- a byte at a place
 
-module _ (s : List ℕ) (i : ℕ) where
-  pub span-more : i < length s → (getD s i 0 ≡ 10 → ⊥) → i + spanOf (drop i s) ≡ i + 1 + spanOf (drop (i + 1) s)
+module _ (byte : ℕ) (s : List ℕ) (i : ℕ) where
+  pub span-more : i < length s → (getD s i 0 ≡ byte → ⊥) → i + spanOf byte (drop i s) ≡ i + 1 + spanOf byte (drop (i + 1) s)
   unfolding spanOf
-  span-more h n = rw (drop-cons s i 0 h, ne-eqb (getD s i 0) 10 n, add-one i) (omega arith)
+  span-more h n = rw (drop-cons s i 0 h, ne-eqb (getD s i 0) byte n, add-one i) (omega arith)
 
-  pub span-stop : i < length s → getD s i 0 ≡ 10 → i + spanOf (drop i s) ≡ i
+  pub span-stop : i < length s → getD s i 0 ≡ byte → i + spanOf byte (drop i s) ≡ i
   unfolding spanOf
-  span-stop h e = rw (drop-cons s i 0 h, eq-eqb (getD s i 0) 10 e) (omega arith)
+  span-stop h e = rw (drop-cons s i 0 h, eq-eqb (getD s i 0) byte e) (omega arith)
 
-  pub span-past : length s ≤ i → i + spanOf (drop i s) ≡ i
+  pub span-past : length s ≤ i → i + spanOf byte (drop i s) ≡ i
   unfolding spanOf
   span-past h = rw (drop-of-length-le s h) (omega arith)
 
--- ---- the first line, and those behind it
-
-pub span-within : (t : List ℕ) → spanOf t ≤ length t
+pub span-within : (byte : ℕ) (t : List ℕ) → spanOf byte t ≤ length t
 unfolding spanOf
-span-within [] = omega arith
-span-within (b ∷ t) = by (eqb b 10) (span-within t) where
-  by : (x : Bool) → spanOf t ≤ length t → cond x 0 (suc (spanOf t)) ≤ suc (length t)
+span-within byte [] = omega arith
+span-within byte (b ∷ t) = by (eqb b byte) (span-within byte t) where
+  by : (x : Bool) → spanOf byte t ≤ length t → cond x 0 (suc (spanOf byte t)) ≤ suc (length t)
   by true h = omega arith
   by false h = omega arith
 
-headed-cut : (b : ℕ) (t : List ℕ) → (0 < length t → linesOf t ≡ take (spanOf t) t ∷ linesOf (drop (suc (spanOf t)) t))
-    → headed b (linesOf t) ≡ (b ∷ take (spanOf t) t) ∷ linesOf (drop (suc (spanOf t)) t)
+-- ---- the first line, and those behind it
+
+headed-cut : (b : ℕ) (t : List ℕ) → (0 < length t → linesOf t ≡ take (spanOf 10 t) t ∷ linesOf (drop (suc (spanOf 10 t)) t))
+    → headed b (linesOf t) ≡ (b ∷ take (spanOf 10 t) t) ∷ linesOf (drop (suc (spanOf 10 t)) t)
 unfolding linesOf spanOf
 headed-cut b [] h = refl
 headed-cut b (c ∷ t) h = rw (h (omega arith))
 
-lines-cut : (t : List ℕ) → 0 < length t → linesOf t ≡ take (spanOf t) t ∷ linesOf (drop (suc (spanOf t)) t)
+lines-cut : (t : List ℕ) → 0 < length t → linesOf t ≡ take (spanOf 10 t) t ∷ linesOf (drop (suc (spanOf 10 t)) t)
 unfolding linesOf spanOf
 lines-cut [] h = absurd (omega arith)
 lines-cut (b ∷ t) h = by (eqb b 10) (headed-cut b t (lines-cut t)) where
-  by : (x : Bool) → headed b (linesOf t) ≡ (b ∷ take (spanOf t) t) ∷ linesOf (drop (suc (spanOf t)) t)
+  by : (x : Bool) → headed b (linesOf t) ≡ (b ∷ take (spanOf 10 t) t) ∷ linesOf (drop (suc (spanOf 10 t)) t)
       → cond x ([] ∷ linesOf t) (headed b (linesOf t))
-      ≡ take (cond x 0 (suc (spanOf t))) (b ∷ t) ∷ linesOf (drop (suc (cond x 0 (suc (spanOf t)))) (b ∷ t))
+      ≡ take (cond x 0 (suc (spanOf 10 t))) (b ∷ t) ∷ linesOf (drop (suc (cond x 0 (suc (spanOf 10 t)))) (b ∷ t))
   by true e = refl
   by false e = e
 
@@ -60,12 +60,12 @@ drop-behind s end = by (ltb end (length s)) refl where
       rw (drop-of-length-le s {i = length s} (omega arith), drop-of-length-le s {i = end + 1} (omega (arith, ltb-false end (length s) e)))
 
 -- the lines from a place on: the one that ends at `end`, and those behind it
-pub lines-next : (s : List ℕ) (at end : ℕ) → at < length s → end ≡ at + spanOf (drop at s)
+pub lines-next : (s : List ℕ) (at end : ℕ) → at < length s → end ≡ at + spanOf 10 (drop at s)
     → linesOf (drop at s) ≡ take (end - at) (drop at s) ∷ linesOf (drop (behindOf (length s) end) s)
 lines-next s at end h e =
-    let n : end - at ≡ spanOf (drop at s) = omega arith in
-    let k : at + suc (spanOf (drop at s)) ≡ end + 1 = omega arith in
-    rw (n, drop-behind s end, ← k, ← (drop-drop (suc (spanOf (drop at s))) at s))
+    let n : end - at ≡ spanOf 10 (drop at s) = omega arith in
+    let k : at + suc (spanOf 10 (drop at s)) ≡ end + 1 = omega arith in
+    rw (n, drop-behind s end, ← k, ← (drop-drop (suc (spanOf 10 (drop at s))) at s))
     (lines-cut (drop at s) (rw length-drop (omega arith)))
 
 -- the next line starts further on, and inside

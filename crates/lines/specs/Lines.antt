@@ -22,10 +22,10 @@ joined (t ∷ ts) = t ++ joined ts
 
 -- ---- by places
 
--- how many bytes stand before the first line feed
-unfoldable pub spanOf : List ℕ → ℕ
-spanOf [] = 0
-spanOf (b ∷ t) = cond (eqb b 10) 0 (suc (spanOf t))
+-- how many bytes stand before the first `byte`
+unfoldable pub spanOf : ℕ → List ℕ → ℕ
+spanOf byte [] = 0
+spanOf byte (b ∷ t) = cond (eqb b byte) 0 (suc (spanOf byte t))
 
 -- the place behind a line that ends at `end`
 abbrev pub behindOf : ℕ → ℕ → ℕ

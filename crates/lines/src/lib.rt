@@ -4,18 +4,25 @@ ghost use Prim.Native.Nat.{_+_};
 ghost use lib.ListN.{length, drop};
 ghost use Rattle.lines.specs.Lines.{spanOf, behindOf};
 
-// The place of the first line feed from `at` on, or the end.
-pub fn line_end(s: &[u8], at: usize) -> usize
-    ensures { λ r. ⌜ r ≡ at + spanOf (drop at (now (s .entry))) ⌝ }
+// The place of the first `byte` from `at` on, or the end.
+pub fn find(s: &[u8], at: usize, byte: u8) -> usize
+    ensures { λ r. ⌜ r ≡ at + spanOf byte (drop at (now (s .entry))) ⌝ }
 {
     let mut i = at;
     while i < s.len() {
-        if s[i] == b'\n' {
+        if s[i] == byte {
             return i;
         }
         i += 1;
     }
     i
+}
+
+// The place of the first line feed from `at` on, or the end.
+pub fn line_end(s: &[u8], at: usize) -> usize
+    ensures { λ r. ⌜ r ≡ at + spanOf 10 (drop at (now (s .entry))) ⌝ }
+{
+    find(s, at, b'\n')
 }
 
 // The place behind a line that ends at `end`: past its line feed, or the end.

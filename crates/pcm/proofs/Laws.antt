@@ -22,13 +22,13 @@ use Rattle.pcm.specs.Entry.{refusalOf}
 
 -- ---- the checks 1, 5, 6
 
-module _ (d : rules.Direction) (r : rules.Rest) (q : rules.Queue) (m host : List ℕ) where
+module _ (d : rules.Direction) (backlog : ℕ) (r : rules.Rest) (q : rules.Queue) (m host : List ℕ) where
   pub refused-transfer : (a : ℕ) → refusalOf r (length m) (rules.streamNumber d) ≡ a → (a ≡ 0 → ⊥)
-      → transferred (countersOf d) d r q m host ≡ untouched (plain a) (r .registers) q m
+      → transferred (countersOf d) d backlog r q m host ≡ untouched (plain a) (r .registers) q m
   unfolding refusalOf transferred
   refused-transfer a h n = by (eqb (length m) (r .ram)) (live (r .registers)) (isRunning r (rules.streamNumber d)) h where
     by : (x y z : Bool) → cond x (cond y (cond z done notRunning) notLive) lengthDiffers ≡ a
-        → cond x (cond y (cond z (transferFound (countersOf d) d r q m host (found (countersOf d) (virtqueueOf r d) q m))
+        → cond x (cond y (cond z (transferFound (countersOf d) d backlog r q m host (found (countersOf d) (virtqueueOf r d backlog) q m))
         (untouched (plain notRunning) (r .registers) q m)) (untouched (plain notLive) (r .registers) q m)) (untouched (plain lengthDiffers) (r .registers) q m)
         ≡ untouched (plain a) (r .registers) q m
     by true true true e = absurd (n (sym e))
@@ -37,14 +37,14 @@ module _ (d : rules.Direction) (r : rules.Rest) (q : rules.Queue) (m host : List
     by false y z e = rw (← e)
 
   pub passed-transfer : refusalOf r (length m) (rules.streamNumber d) ≡ 0
-      → transferred (countersOf d) d r q m host
-      ≡ transferFound (countersOf d) d r q m host (found (countersOf d) (virtqueueOf r d) q m)
+      → transferred (countersOf d) d backlog r q m host
+      ≡ transferFound (countersOf d) d backlog r q m host (found (countersOf d) (virtqueueOf r d backlog) q m)
   unfolding refusalOf transferred
   passed-transfer h = by (eqb (length m) (r .ram)) (live (r .registers)) (isRunning r (rules.streamNumber d)) h where
     by : (x y z : Bool) → cond x (cond y (cond z done notRunning) notLive) lengthDiffers ≡ 0
-        → cond x (cond y (cond z (transferFound (countersOf d) d r q m host (found (countersOf d) (virtqueueOf r d) q m))
+        → cond x (cond y (cond z (transferFound (countersOf d) d backlog r q m host (found (countersOf d) (virtqueueOf r d backlog) q m))
         (untouched (plain notRunning) (r .registers) q m)) (untouched (plain notLive) (r .registers) q m)) (untouched (plain lengthDiffers) (r .registers) q m)
-        ≡ transferFound (countersOf d) d r q m host (found (countersOf d) (virtqueueOf r d) q m)
+        ≡ transferFound (countersOf d) d backlog r q m host (found (countersOf d) (virtqueueOf r d backlog) q m)
     by true true true e = refl
     by true true false e = absurd (omega arith)
     by true false z e = absurd (omega arith)

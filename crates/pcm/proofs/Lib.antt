@@ -3,3 +3,4 @@ pub mod Laws
 pub mod Host
 pub mod Outcomes
 pub mod Fits
+pub mod Backlog

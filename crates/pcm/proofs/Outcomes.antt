@@ -30,28 +30,20 @@ use Rattle.flow.specs.declared.Flow.{Flow}
 use Rattle.stream.specs.Queue.{withRegisters, countersIn, messageIn}
 use Rattle.stream.proofs.Fits.{queue-fit, message-fit, counted-of, waits-of, fit-of, waits-same}
 use Rattle.stream.proofs.Laws.{queue-in, found-check, flowed-device}
-use Rattle.pcm.specs.Entry.{refusalOf, transferOf, bufferOf, flowedCard, registersAfter}
+use Rattle.pcm.specs.Entry.{refusalOf, bufferOf, flowedCard, registersAfter, movedBy}
 use Rattle.pcm.proofs.Fits.{flowed-fit}
 use Rattle.pcm.proofs.Host.{host-after}
 use Rattle.pcm.proofs.Laws.{refused-transfer, passed-transfer}
 
-module _ (way : Direction) (c : Card) (m host : List ℕ) where
+module _ (way : Direction) (backlog : ℕ) (c : Card) (m host : List ℕ) where
   abbrev d : rules.Direction
   d = directionOf way
 
   abbrev lies : rules.Virtqueue
-  lies = virtqueueOf (restOf c) d
+  lies = virtqueueOf (restOf c) d backlog
 
   abbrev own : rules.Queue
   own = rules.queueFor d (deviceOf c)
-
-  -- the rules' step is that of a transfer
-  stepped : (w : Direction) → let e = directionOf w in
-      stepOf c (transferOf e host) m
-      ≡ transferStep e host (deviceOf c) (transferred (countersOf e) e (restOf c) (rules.queueFor e (deviceOf c)) m host)
-  unfolding deviceOf
-  stepped Output = refl
-  stepped Input = refl
 
   -- nothing moved: the registers alone are others
   unmoved : (w : Direction) (a : Answer) (g : Registers) → let e = directionOf w in
@@ -62,10 +54,10 @@ module _ (way : Direction) (c : Card) (m host : List ℕ) where
 
   -- refused by a check
   pub transfer-refused : (a : ℕ) → refusalOf (restOf c) (length m) (rules.streamNumber d) ≡ a → (a ≡ 0 → ⊥)
-      → stepOf c (transferOf d host) m ≡ leaves c (plain a) 0 [] (bufferOf d host) m
+      → movedBy d backlog c host m ≡ leaves c (plain a) 0 [] (bufferOf d host) m
   unfolding restOf
   transfer-refused a h n =
-      stepped way ∙ ap (transferStep d host (deviceOf c)) (refused-transfer d (restOf c) own m host a h n) ∙ unmoved way (plain a) (c .registers)
+      ap (transferStep d host (deviceOf c)) (refused-transfer d backlog (restOf c) own m host a h n) ∙ unmoved way (plain a) (c .registers)
 
   module _ (f : Fit c) (passed : refusalOf (restOf c) (length m) (rules.streamNumber d) ≡ 0) where
     abbrev pub checked : Check
@@ -76,19 +68,18 @@ module _ (way : Direction) (c : Card) (m host : List ℕ) where
 
     -- past the checks the queue decides
     by-check : (k : Check) → checked ≡ k
-        → stepOf c (transferOf d host) m ≡ transferStep d host (deviceOf c) (transferFound (countersOf d) d (restOf c) own m host k)
+        → movedBy d backlog c host m ≡ transferStep d host (deviceOf c) (transferFound (countersOf d) d backlog (restOf c) own m host k)
     by-check k h =
-        stepped way
-        ∙ ap (transferStep d host (deviceOf c))
-        (passed-transfer d (restOf c) own m host passed
-        ∙ ap (transferFound (countersOf d) d (restOf c) own m host) (found-in ∙ h))
+        ap (transferStep d host (deviceOf c))
+        (passed-transfer d backlog (restOf c) own m host passed
+        ∙ ap (transferFound (countersOf d) d backlog (restOf c) own m host) (found-in ∙ h))
 
-    pub transfer-idle : checked ≡ Check.Idle → stepOf c (transferOf d host) m ≡ leaves c (plain done) 0 [] (bufferOf d host) m
+    pub transfer-idle : checked ≡ Check.Idle → movedBy d backlog c host m ≡ leaves c (plain done) 0 [] (bufferOf d host) m
     unfolding restOf
     transfer-idle h = by-check Check.Idle h ∙ unmoved way (plain done) (c .registers)
 
     pub transfer-broken : (cause : Cause) → checked ≡ Check.Broken cause
-        → stepOf c (transferOf d host) m
+        → movedBy d backlog c host m
         ≡ leaves (withRegisters (broken (c .registers)) c) (brokenAnswer (rules.queueNumber d) cause) 0 [] (bufferOf d host) m
     unfolding restOf
     transfer-broken cause h = by-check (Check.Broken cause) h ∙ unmoved way (brokenAnswer (rules.queueNumber d) cause) (broken (c .registers))
@@ -140,6 +131,6 @@ module _ (way : Direction) (c : Card) (m host : List ℕ) where
           (waits-same d _ _ left-queue
           (transfer-waits lies n first (waits-of d (c .«ram_len») (countersIn c way) (messageIn c way) own-fit))))
 
-      pub transfer-new : stepOf c (transferOf d host) m
+      pub transfer-new : movedBy d backlog c host m
           ≡ leaves (flowedCard way g c) (answerBy (rules.queueNumber d) (g .stop)) (g .moved) (take (g .moved) host′) (bufferOf d host′) m′
       transfer-new = by-check (Check.New n) h ∙ rw (queue-in c way, ← run) told

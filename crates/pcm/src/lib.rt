@@ -1,14 +1,15 @@
 // The play and capture calls of the card (01, "Play, capture, events").
 ghost use mathlib.Core.Path.{_≡_};
 ghost use mathlib.Core.List.{[]};
+ghost use Prim.Native.Nat.{_<_};
 ghost use lib.ListN.{take};
 ghost use Rattle.card.specs.Fit.{Fit};
 ghost use Rattle.meaning.specs.Card.{restOf, stepOf, leaves};
 ghost use Rattle.rules.specs.Calls.{Request, isRunning};
 ghost use Rattle.message.specs.Message.{directionOf};
 ghost use Rattle.rules.specs.Answers.{answerBy};
-ghost use Rattle.rules.specs.Device.{queueNumber};
-ghost use Rattle.pcm.specs.Entry.{refusalOf, flowedCard, untouchedBy, brokenDown, flowAnswer};
+ghost use Rattle.rules.specs.Device.{output, input, queueNumber};
+ghost use Rattle.pcm.specs.Entry.{refusalOf, flowedCard, untouchedBy, brokenDown, flowAnswer, movedBy, rememberedBy};
 use card::Card;
 use message::Direction;
 use registers::Answer;
@@ -74,10 +75,10 @@ fn flowed(card: Card, direction: Direction, f: Flow) -> Card
     stream::with_flow(next, direction, f)
 }
 
-// The play call: payload of the play queue handed to the host buffer.
-pub fn play(card: Card, m: &mut [u8], host: &mut [u8]) -> TransferAnswer
+// The play queue worked; its stream does not remember the backlog yet.
+fn work_play(card: Card, m: &mut [u8], host: &mut [u8], backlog: u32) -> TransferAnswer
     requires { ⌜ Fit card ⌝ }
-    ensures { λ r. ⌜ (stepOf card (Request.Play (now (host .entry))) (now (m .entry))
+    ensures { λ r. ⌜ (movedBy output backlog card (now (host .entry)) (now (m .entry))
         ≡ leaves (r .card) (r .answer) (r .count) (take (r .count) (now (host .exit))) (now (host .exit)) (now (m .exit)))
         × Fit (r .card) ⌝ }
 {
@@ -85,7 +86,7 @@ pub fn play(card: Card, m: &mut [u8], host: &mut [u8]) -> TransferAnswer
     if refused != 0 {
         return untouched(card, refused);
     }
-    let q = stream::virtqueue(card, Direction::Output);
+    let q = stream::virtqueue(card, Direction::Output, backlog);
     let queues = card.queues;
     let counters = queues[2];
     let message = card.play;
@@ -100,17 +101,17 @@ pub fn play(card: Card, m: &mut [u8], host: &mut [u8]) -> TransferAnswer
     }
 }
 
-// The capture call: host bytes recorded into the payload of the capture queue.
-pub fn capture(card: Card, m: &mut [u8], host: &[u8]) -> TransferAnswer
+// The capture queue worked; its stream does not remember the backlog yet.
+fn work_capture(card: Card, m: &mut [u8], host: &[u8], backlog: u32) -> TransferAnswer
     requires { ⌜ Fit card ⌝ }
-    ensures { λ r. ⌜ (stepOf card (Request.Capture (now (host .entry))) (now (m .entry))
+    ensures { λ r. ⌜ (movedBy input backlog card (now (host .entry)) (now (m .entry))
         ≡ leaves (r .card) (r .answer) (r .count) (take (r .count) (now (host .entry))) [] (now (m .exit))) × Fit (r .card) ⌝ }
 {
     let refused = refusal(card, m.len(), 1);
     if refused != 0 {
         return untouched(card, refused);
     }
-    let q = stream::virtqueue(card, Direction::Input);
+    let q = stream::virtqueue(card, Direction::Input, backlog);
     let queues = card.queues;
     let counters = queues[3];
     let message = card.capture;
@@ -123,6 +124,49 @@ pub fn capture(card: Card, m: &mut [u8], host: &[u8]) -> TransferAnswer
             transferred(card, Direction::Input, f)
         }
     }
+}
+
+// The stream remembers the backlog of a call that answered 0.
+fn remember(told: TransferAnswer, id: usize, backlog: u32) -> TransferAnswer
+    requires { ⌜ Fit (told .card) × (id < 2) ⌝ }
+    ensures { λ r. ⌜ r ≡ rememberedBy id backlog told ⌝ }
+{
+    let answer = told.answer;
+    if answer.number != registers::DONE {
+        return told;
+    }
+    let mut next = told.card;
+    let parts = next.parts;
+    let streams = parts.streams;
+    let mut stream = streams[id];
+    stream.backlog = backlog;
+    next.parts = parts.with_stream(id, stream);
+    TransferAnswer {
+        answer: answer,
+        count: told.count,
+        card: next,
+    }
+}
+
+// The play call: payload of the play queue handed to the host buffer. The backlog is the host's, in bytes.
+pub fn play(card: Card, m: &mut [u8], host: &mut [u8], backlog: u32) -> TransferAnswer
+    requires { ⌜ Fit card ⌝ }
+    ensures { λ r. ⌜ (stepOf card (Request.Play (now (host .entry)) backlog) (now (m .entry))
+        ≡ leaves (r .card) (r .answer) (r .count) (take (r .count) (now (host .exit))) (now (host .exit)) (now (m .exit)))
+        × Fit (r .card) ⌝ }
+{
+    let told = work_play(card, m, host, backlog);
+    remember(told, 0, backlog)
+}
+
+// The capture call: host bytes recorded into the payload of the capture queue.
+pub fn capture(card: Card, m: &mut [u8], host: &[u8], backlog: u32) -> TransferAnswer
+    requires { ⌜ Fit card ⌝ }
+    ensures { λ r. ⌜ (stepOf card (Request.Capture (now (host .entry)) backlog) (now (m .entry))
+        ≡ leaves (r .card) (r .answer) (r .count) (take (r .count) (now (host .entry))) [] (now (m .exit))) × Fit (r .card) ⌝ }
+{
+    let told = work_capture(card, m, host, backlog);
+    remember(told, 1, backlog)
 }
 
 // Nothing was done: a check refuses the call, or the queue is idle.

@@ -39,8 +39,8 @@ abbrev pub textFor : Request → ℕ → ℕ → Told → Text
 textFor (ReadRegister offset width) = registerTold
 textFor (WriteRegister offset width v) = registerTold
 textFor Control = callTold
-textFor (Play host) = playTold
-textFor (Capture host) = callTold
+textFor (Play host backlog) = playTold
+textFor (Capture host backlog) = callTold
 textFor (Event code info) = callTold
 
 -- .. of the rules' step

@@ -51,12 +51,12 @@ fn text(line: u64, request: Request, told: Outcome, m: &[u8], host: &[u8]) -> Te
             replay_text::register_text(line, told.answer.number, told.value, told.rung, raised)
         }
         Request::Control => sum_text(line, told, raised, m),
-        Request::Play => {
+        Request::Play(_) => {
             let sum = replay_text::adler32(m);
             let heard = replay_text::adler32(host);
             replay_text::play_text(line, told.answer.number, told.count, raised, sum, heard)
         }
-        Request::Capture => sum_text(line, told, raised, m),
+        Request::Capture(_) => sum_text(line, told, raised, m),
         Request::Event(_, _) => sum_text(line, told, raised, m),
     }
 }

@@ -16,7 +16,7 @@ use Rattle.card.specs.declared.Card.{Card}
 use Rattle.replay_line.specs.declared.Call.{Call}
 use Rattle.replay_line.specs.declared.Call.the-variants.{Read, Write, Control, Play, Capture, Event}
 use Rattle.rules.specs.Calls.{Request}
-use Rattle.replay_host.specs.Host.{hostBuffer, hostBytes, capturedBytes, askedBy, madeBy, hostFilled, hostCount}
+use Rattle.replay_host.specs.Host.{hostBuffer, hostBytes, capturedBytes, askedBy, madeBy, hostFilled, hostCount, hexFilled, hexCount, upTo}
 
 pub length-poured : (t m : List ℕ) (to : ℕ) → length (poured t m to) ≡ length m
 unfolding poured
@@ -61,11 +61,21 @@ host-bytes n h =
     rw e (take-replicate n 65536 238 h)
 
 -- a capture of the bytes that the line's HEX is
-pub captured-bytes : (s : List ℕ) (at : ℕ) → length (bytesOfHex (drop at s)) ≤ 65536 → capturedBytes s at ≡ bytesOfHex (drop at s)
-captured-bytes s at h =
+pub captured-bytes : (line : List ℕ) (at behind : ℕ) → length (bytesOfHex (drop at (upTo line behind))) ≤ 65536
+    → capturedBytes line at behind ≡ bytesOfHex (drop at (upTo line behind))
+captured-bytes line at behind h =
+    let s : List ℕ = upTo line behind in
     let e : min ((length s - at) / 2) (length hostBuffer) ≡ length (bytesOfHex (drop at s)) =
     rw (host-length, length-bytes (drop at s), length-drop) (omega (arith, rw (length-bytes (drop at s), length-drop) at h)) in
     rw e (poured-first (bytesOfHex (drop at s)) hostBuffer (rw host-length h))
+
+-- the line up to a place that is no further than its end
+module _ (s : List ℕ) (behind end : ℕ) (at : ℕ) (is : end ≡ min behind (length s)) where
+  pub count-to : (n len : ℕ) → n ≡ hexCount (take end s) at len → n ≡ hexCount (upTo s behind) at len
+  count-to n len e = rw is at e
+
+  pub filled-to : (host host′ : List ℕ) → host′ ≡ hexFilled (take end s) at host → host′ ≡ hexFilled (upTo s behind) at host
+  filled-to host host′ e = rw is at e
 
 -- ---- what a line asks
 
@@ -74,8 +84,8 @@ asked-as : (call : Call) (s : List ℕ)
 asked-as (Read offset width) s = refl
 asked-as (Write offset width v) s = refl
 asked-as Control s = refl
-asked-as (Play n) s = refl
-asked-as (Capture at) s = refl
+asked-as (Play n backlog) s = refl
+asked-as (Capture at behind backlog) s = refl
 asked-as (Event code info) s = refl
 
 pub asked-from : (call : Call) (s : List ℕ) {q : calls.Request} {n : ℕ} {host host′ : List ℕ}

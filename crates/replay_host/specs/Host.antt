@@ -16,17 +16,28 @@ hostBuffer = replicate 65536 238
 abbrev pub hostBytes : ℕ → List ℕ
 hostBytes n = take (min n (length hostBuffer)) hostBuffer
 
--- "these host bytes (at most 65,536)": the bytes of the line's HEX, which starts at `at`
-abbrev pub capturedBytes : List ℕ → ℕ → List ℕ
-capturedBytes s at = take (min ((length s - at) / 2) (length hostBuffer)) (poured (bytesOfHex (drop at s)) hostBuffer 0)
+-- the bytes of the HEX that a text ends with, from `at` on, in the host buffer, and how many they are
+abbrev pub hexFilled : List ℕ → ℕ → List ℕ → List ℕ
+hexFilled t at host = poured (bytesOfHex (drop at t)) host 0
+
+abbrev pub hexCount : List ℕ → ℕ → ℕ → ℕ
+hexCount t at len = min ((length t - at) / 2) len
+
+-- a line up to the place behind its HEX
+abbrev pub upTo : List ℕ → ℕ → List ℕ
+upTo s behind = take (min behind (length s)) s
+
+-- "these host bytes (at most 65,536)": the bytes of the line's HEX, which starts at `at` and ends before `behind`
+abbrev pub capturedBytes : List ℕ → ℕ → ℕ → List ℕ
+capturedBytes s at behind = take (hexCount (upTo s behind) at (length hostBuffer)) (hexFilled (upTo s behind) at hostBuffer)
 
 -- what a line s asks: a play lends a host buffer of N bytes, a capture the bytes of its HEX
 abbrev pub askedBy : Call → List ℕ → rules.Request
 askedBy (Read offset width) s = rules.ReadRegister offset width
 askedBy (Write offset width v) s = rules.WriteRegister offset width v
 askedBy Control s = rules.Control
-askedBy (Play n) s = rules.Play (hostBytes n)
-askedBy (Capture at) s = rules.Capture (capturedBytes s at)
+askedBy (Play n backlog) s = rules.Play (hostBytes n) backlog
+askedBy (Capture at behind backlog) s = rules.Capture (capturedBytes s at behind) backlog
 askedBy (Event code info) s = rules.Event code info
 
 -- ---- the parts that it is put together from: the request, and the host buffer with how many of its bytes are lent
@@ -35,22 +46,22 @@ abbrev pub madeBy : Call → Request
 madeBy (Read offset width) = asks.Read offset width
 madeBy (Write offset width v) = asks.Write offset width v
 madeBy Control = asks.Control
-madeBy (Play n) = asks.Play
-madeBy (Capture at) = asks.Capture
+madeBy (Play n backlog) = asks.Play backlog
+madeBy (Capture at behind backlog) = asks.Capture backlog
 madeBy (Event code info) = asks.Event code info
 
 abbrev pub hostFilled : Call → List ℕ → List ℕ → List ℕ
 hostFilled (Read offset width) s host = host
 hostFilled (Write offset width v) s host = host
 hostFilled Control s host = host
-hostFilled (Play n) s host = host
-hostFilled (Capture at) s host = poured (bytesOfHex (drop at s)) host 0
+hostFilled (Play n backlog) s host = host
+hostFilled (Capture at behind backlog) s host = hexFilled (upTo s behind) at host
 hostFilled (Event code info) s host = host
 
 abbrev pub hostCount : Call → List ℕ → ℕ → ℕ
 hostCount (Read offset width) s len = 0
 hostCount (Write offset width v) s len = 0
 hostCount Control s len = 0
-hostCount (Play n) s len = min n len
-hostCount (Capture at) s len = min ((length s - at) / 2) len
+hostCount (Play n backlog) s len = min n len
+hostCount (Capture at behind backlog) s len = hexCount (upTo s behind) at len
 hostCount (Event code info) s len = 0

@@ -5,7 +5,7 @@ ghost use lib.ListN.{length};
 ghost use Rattle.card.specs.Fit.{Fit};
 ghost use Rattle.io.specs.Counts.{Counts};
 ghost use Rattle.replay_call.specs.Shown.{Shows};
-ghost use Rattle.replay_host.specs.Host.{hostBuffer, madeBy, hostFilled, hostCount, askedBy};
+ghost use Rattle.replay_host.specs.Host.{hostBuffer, madeBy, hostFilled, hostCount, hexFilled, hexCount, askedBy};
 use calls::Request;
 use card::Card;
 use replay_call::Shown;
@@ -30,13 +30,13 @@ fn request(call: Call) -> Request
         Call::Read(offset, width) => Request::Read(offset, width),
         Call::Write(offset, width, value) => Request::Write(offset, width, value),
         Call::Control => Request::Control,
-        Call::Play(_) => Request::Play,
-        Call::Capture(_) => Request::Capture,
+        Call::Play(_, backlog) => Request::Play(backlog),
+        Call::Capture(_, _, backlog) => Request::Capture(backlog),
         Call::Event(code, data) => Request::Event(code, data),
     }
 }
 
-// How many bytes the HEX is that a line ends with, from `at` on.
+// How many bytes the HEX is that a text ends with, from `at` on.
 fn hex_count(s: &[u8], at: usize) -> usize
     ensures { λ r. ⌜ r ≡ (length (now (s .entry)) - at) / 2 ⌝ }
 {
@@ -44,6 +44,16 @@ fn hex_count(s: &[u8], at: usize) -> usize
         return 0;
     }
     (s.len() - at) / 2
+}
+
+// The bytes of the HEX that a text ends with, from `at` on, written to the host buffer; how many they are.
+fn lend_hex(s: &[u8], at: usize, host: &mut [u8]) -> usize
+    ensures { λ r. ⌜ Counts r (now (host .exit)) ⌝ }
+    ensures { λ r. ⌜ (r ≡ hexCount (now (s .entry)) at (length (now (host .entry))))
+        × (now (host .exit) ≡ hexFilled (now (s .entry)) at (now (host .entry))) ⌝ }
+{
+    replay_field::pour_hex(s, at, host, 0);
+    replay_memory::within(hex_count(s, at), host)
 }
 
 // How many bytes of the host buffer a call of the line `s` lends: a play's N; those of a capture's HEX,
@@ -57,10 +67,10 @@ fn lend(call: Call, s: &[u8], host: &mut [u8]) -> usize
         Call::Read(_, _) => 0,
         Call::Write(_, _, _) => 0,
         Call::Control => 0,
-        Call::Play(n) => replay_memory::within(n, host),
-        Call::Capture(at) => {
-            replay_field::pour_hex(s, at, host, 0);
-            replay_memory::within(hex_count(s, at), host)
+        Call::Play(n, _) => replay_memory::within(n, host),
+        Call::Capture(at, behind, _) => {
+            let end = replay_memory::within(behind, s);
+            lend_hex(&s[..end], at, host)
         }
         Call::Event(_, _) => 0,
     }

@@ -3,6 +3,7 @@ use mathlib.Core.Path.{_≡_, refl}
 use mathlib.Core.List.{[], _∷_}
 use Prim.Native.String.{String}
 use Rattle.decimal.specs.Read.{isDigit, digits, numberAt, fieldAt}
+use Rattle.lines.specs.Lines.{spanOf}
 use Rattle.replay_field.specs.Number.{pairAt, sizeAt}
 use Rattle.replay_field.specs.Hex.{isHexDigit, everyHexDigit, isHex, hexAt, nibble, bytesOfHex}
 use Rattle.replay_field.specs.Word.{bytes, begins}
@@ -49,15 +50,15 @@ pub forms :
     × (reads "r 18 1" ≡ Called (Read 18 1))
     × (reads "w 18 1 11" ≡ Called (Write 18 1 11))
     × (reads "control" ≡ Called Control)
-    × (reads "play 65536" ≡ Called (Play 65536))
-    × (reads "capture 0aff" ≡ Called (Capture 8))
-    × (reads "capture -" ≡ Called (Capture 8))
+    × (reads "play 65536 960" ≡ Called (Play 65536 960))
+    × (reads "capture 0aff 4294967295" ≡ Called (Capture 8 12 4294967295))
+    × (reads "capture - 0" ≡ Called (Capture 8 9 0))
     × (reads "event 4352 0" ≡ Called (Event 4352 0))
     × (reads "m 16 00ff" ≡ Lent (Store (record { 0 = 16 }) 5))
     × (reads "f 18446744073709551615 18446744073709551615 255" ≡ Lent (Fill (record { 0 = 18446744073709551615 }) 18446744073709551615 255))
     × (reads "ram 0" ≡ Lent (Ram 0))
     × (reads "d 0 65536" ≡ Lent (Dump (record { 0 = 0 }) 65536))
-unfolding isDigit digits numberAt fieldAt pairAt isHexDigit everyHexDigit isHex hexAt begins sizeAt
+unfolding isDigit digits numberAt fieldAt pairAt isHexDigit everyHexDigit isHex hexAt begins sizeAt spanOf
     jackForm mapForm streamForm powerForm readForm writeForm controlForm playForm captureForm eventForm
     storeForm fillForm ramForm dumpForm guestLine callLine partLine lineOf
 forms = (refl, refl, refl, refl, refl, refl, refl, refl, refl, refl, refl, refl, refl, refl, refl, refl, refl, refl)
@@ -76,17 +77,22 @@ pub unreadable :
     × (reads "f 0 18446744073709551616 0" ≡ Unreadable)
     × (reads "f 0 0 256" ≡ Unreadable)
     × (reads "power 1048577" ≡ Unreadable)
-    × (reads "play 65537" ≡ Unreadable)
+    × (reads "play 65537 0" ≡ Unreadable)
+    × (reads "play 8" ≡ Unreadable)
+    × (reads "play 8 4294967296" ≡ Unreadable)
     × (reads "d 0 65537" ≡ Unreadable)
-    × (reads "capture " ≡ Unreadable)
-    × (reads "capture 0" ≡ Unreadable)
-    × (reads "capture 0A" ≡ Unreadable)
+    × (reads "capture" ≡ Unreadable)
+    × (reads "capture  0" ≡ Unreadable)
+    × (reads "capture 0 0" ≡ Unreadable)
+    × (reads "capture 0A 0" ≡ Unreadable)
+    × (reads "capture 0a" ≡ Unreadable)
+    × (reads "capture 0a 0 0" ≡ Unreadable)
     × (reads "m 0 00 " ≡ Unreadable)
     × (reads "map 1 2 3 -" ≡ Unreadable)
-unfolding isDigit digits numberAt fieldAt pairAt isHexDigit everyHexDigit isHex hexAt begins sizeAt
+unfolding isDigit digits numberAt fieldAt pairAt isHexDigit everyHexDigit isHex hexAt begins sizeAt spanOf
     jackForm mapForm streamForm powerForm readForm writeForm controlForm playForm captureForm eventForm
     storeForm fillForm ramForm dumpForm guestLine callLine partLine lineOf
-unreadable = (refl, refl, refl, refl, refl, refl, refl, refl, refl, refl, refl, refl, refl, refl, refl, refl, refl, refl, refl)
+unreadable = (refl, refl, refl, refl, refl, refl, refl, refl, refl, refl, refl, refl, refl, refl, refl, refl, refl, refl, refl, refl, refl, refl, refl, refl)
 
 pub bytes-of-hex : (bytesOfHex (bytes "00ff1a") ≡ 0 ∷ 255 ∷ 26 ∷ []) × (bytesOfHex (bytes "-") ≡ [])
 unfolding nibble bytesOfHex

@@ -2,11 +2,12 @@
 -- before and nothing behind. "A line starting with `#` and an empty line are skipped."
 use mathlib.Core.List.{List}
 use mathlib.Core.Bool.{Bool, true, false, cond}
-use Prim.Native.Nat.{ℕ}
+use Prim.Native.Nat.{ℕ, _+_}
 use lib.Dec.{eqb, ltb}
-use lib.ListN.{length, getD}
+use lib.ListN.{length, getD, take, drop}
 use Rattle.description.specs.declared.StreamInfo.{StreamInfo}
 use Rattle.decimal.specs.Read.{byNumber}
+use Rattle.lines.specs.Lines.{spanOf}
 use Rattle.replay_field.specs.Number.{fieldAt, pairAt, byPair, sizeAt}
 use Rattle.replay_field.specs.Hex.{hexAt, byHex}
 use Rattle.replay_field.specs.Word.{bytes, begins}
@@ -90,13 +91,21 @@ writeForm s = pair s 1 max32 (λ offset width a. field s a max32 (λ value end. 
 unfoldable pub controlForm : List ℕ → Line
 controlForm s = atEnd s 7 (Called Control)
 
--- play N: "at most 65,536"
+-- play N BACKLOG: "at most 65,536"; "BACKLOG fits 32 bits"
 unfoldable pub playForm : List ℕ → Line
-playForm s = bySize (sizeAt s 4 65536) (λ n. Called (Play n))
+playForm s = field s 4 65536 (λ n a. field s a max32 (λ backlog end. atEnd s end (Called (Play n backlog))))
 
--- capture HEX: "at most 65,536"
+-- the place behind the word at `at`: the next space, or the end
+abbrev pub wordEnd : List ℕ → ℕ → ℕ
+wordEnd s at = at + spanOf 32 (drop at s)
+
+-- capture HEX BACKLOG: "at most 65,536"
 unfoldable pub captureForm : List ℕ → Line
-captureForm s = hex s 7 (λ place count. cond (ltb 65536 count) Unreadable (Called (Capture place)))
+captureForm s =
+    cond (ltb (length s) (wordEnd s 8)) Unreadable
+    (hex (take (wordEnd s 8) s) 7 (λ place count.
+    cond (ltb 65536 count) Unreadable
+    (field s (wordEnd s 8) max32 (λ backlog end. atEnd s end (Called (Capture place (wordEnd s 8) backlog))))))
 
 -- event CODE DATA
 unfoldable pub eventForm : List ℕ → Line

@@ -34,14 +34,14 @@ pub enum Part {
     Input(StreamInfo),
 }
 
-// A call on the card: offset and width, then a value; the bytes of a host buffer; the place of the
-// captured bytes; an event's code and data.
+// A call on the card: offset and width, then a value; the bytes of a host buffer, and the backlog; the
+// place of the captured bytes, the place behind them, and the backlog; an event's code and data.
 pub enum Call {
     Read(u64, u64),
     Write(u64, u64, u64),
     Control,
-    Play(usize),
-    Capture(usize),
+    Play(usize, u32),
+    Capture(usize, usize, u32),
     Event(u32, u32),
 }
 
@@ -186,27 +186,43 @@ fn control_form(s: &[u8]) -> Line
     Line::Called(Call::Control)
 }
 
-// `play N`
+// `play N BACKLOG`
 fn play_form(s: &[u8]) -> Line
     ensures { λ r. ⌜ r ≡ playForm (now (s .entry)) ⌝ }
 {
-    let Size::Is(n) = replay_field::size_at(s, 4, MAX_BYTES) else {
+    let Number::Is(n, a) = replay_field::field_at(s, 4, MAX_BYTES) else {
         return Line::Unreadable;
     };
-    Line::Called(Call::Play(n))
+    let Number::Is(backlog, end) = replay_field::field_at(s, a, MAX_32) else {
+        return Line::Unreadable;
+    };
+    if end < s.len() {
+        return Line::Unreadable;
+    }
+    Line::Called(Call::Play(n as usize, backlog as u32))
 }
 
-// `capture HEX`
+// `capture HEX BACKLOG`: the HEX ends at the next space.
 fn capture_form(s: &[u8]) -> Line
     ensures { λ r. ⌜ r ≡ captureForm (now (s .entry)) ⌝ }
 {
-    let Hex::At(place, count) = replay_field::hex_at(s, 7) else {
+    let behind = lines::find(s, 8, b' ');
+    if s.len() < behind {
+        return Line::Unreadable;
+    }
+    let Hex::At(place, count) = replay_field::hex_at(&s[..behind], 7) else {
         return Line::Unreadable;
     };
     if 65536 < count {
         return Line::Unreadable;
     }
-    Line::Called(Call::Capture(place))
+    let Number::Is(backlog, end) = replay_field::field_at(s, behind, MAX_32) else {
+        return Line::Unreadable;
+    };
+    if end < s.len() {
+        return Line::Unreadable;
+    }
+    Line::Called(Call::Capture(place, behind, backlog as u32))
 }
 
 // `event CODE DATA`

@@ -57,8 +57,8 @@ called-text : (q : Request) (line : ℕ) (s : Step (Device Queue)) → kept (sho
 called-text (ReadRegister offset width) line s = kept-register line _ _ _ _
 called-text (WriteRegister offset width v) line s = kept-register line _ _ _ _
 called-text Control line s = kept-call line _ _ _ _
-called-text (Play host) line s = kept-play line _ _ _ _ _
-called-text (Capture host) line s = kept-call line _ _ _ _
+called-text (Play host backlog) line s = kept-play line _ _ _ _ _
+called-text (Capture host backlog) line s = kept-call line _ _ _ _
 called-text (Event code info) line s = kept-call line _ _ _ _
 
 -- a line's call, on the first `lent` bytes of the array
@@ -126,7 +126,7 @@ steps-as e d p = record { world = p .world ∙ e; text = put-as d (p .text); roo
 -- ---- lines in order
 
 -- a line is done, and those behind it are left
-pub session-next : (s : List ℕ) (at end : ℕ) (w : World) → at < length s → end ≡ at + spanOf (drop at s)
+pub session-next : (s : List ℕ) (at end : ℕ) (w : World) → at < length s → end ≡ at + spanOf 10 (drop at s)
     → sessionWorld w (linesOf (drop at s))
     ≡ sessionWorld (stepWorld w (take (end - at) (drop at s))) (linesOf (drop (behindOf (length s) end) s))
 session-next s at end w h e = rw (lines-next s at end h e)
@@ -137,7 +137,7 @@ session-end s at w h = rw (drop-of-length-le s h)
 
 -- ---- the texts of all lines
 
-text-next : (s : List ℕ) (at end : ℕ) (w : World) → at < length s → end ≡ at + spanOf (drop at s)
+text-next : (s : List ℕ) (at end : ℕ) (w : World) → at < length s → end ≡ at + spanOf 10 (drop at s)
     → let l = take (end - at) (drop at s) in
     sessionText w (linesOf (drop at s)) ≡ stepText w l ++ sessionText (stepWorld w l) (linesOf (drop (behindOf (length s) end) s))
 unfolding sessionText

@@ -27,6 +27,6 @@ abbrev pub printed : Request → ℕ → Step (Device Queue) → List ℕ
 printed (ReadRegister offset width) = registerPrinted
 printed (WriteRegister offset width v) = registerPrinted
 printed Control = callPrinted
-printed (Play host) = playPrinted
-printed (Capture host) = callPrinted
+printed (Play host backlog) = playPrinted
+printed (Capture host backlog) = callPrinted
 printed (Event code info) = callPrinted

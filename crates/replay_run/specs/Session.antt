@@ -153,7 +153,7 @@ pub data Turns (s : List ℕ) : World → ℕ → List (List ℕ) → World → 
   next :
       {w last : World} {at end : ℕ} {ts : List (List ℕ)}
       → at < length s
-      → end ≡ at + spanOf (drop at s)
+      → end ≡ at + spanOf 10 (drop at s)
       → Turns s (stepWorld w (take (end - at) (drop at s))) (behindOf (length s) end) ts last
       → Turns s w at (stepText w (take (end - at) (drop at s)) ∷ ts) last
 

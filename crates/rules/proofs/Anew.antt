@@ -119,6 +119,6 @@ unfolding clears startsAnew
 anew-clears (ReadRegister offset width) r = refl
 anew-clears (WriteRegister offset width v) r = write-clears (r .registers) v offset width (ℕ-discrete offset 18) (ℕ-discrete offset 8)
 anew-clears Control r = refl
-anew-clears (Play host) r = refl
-anew-clears (Capture host) r = refl
+anew-clears (Play host backlog) r = refl
+anew-clears (Capture host backlog) r = refl
 anew-clears (Event code data′) r = refl

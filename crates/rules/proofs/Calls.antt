@@ -12,7 +12,7 @@ use Rattle.registers.specs.declared.Registers.{Registers}
 use Rattle.registers.specs.declared.answers.Answer.{Answer}
 use Rattle.registers.proofs.Keeps.{by-cond}
 use Rattle.ring.specs.declared.Check.{Check}
-use Rattle.rules.specs.Calls.{Request, ReadRegister, WriteRegister, Control, Play, Capture, Event, Step, Result, Order, Done, ReleaseFirst, Pending, Emptied, emptied, virtqueueOf, clearsQueue, orderOf, releasedOf, Transferred, untouched, isRunning, transferFound, transferred, eventOf, ended, readStep, writeStep, releaseStep, ordered, transferStep, transferBy, asked}
+use Rattle.rules.specs.Calls.{Request, ReadRegister, WriteRegister, Control, Play, Capture, Event, Step, Result, Order, Done, ReleaseFirst, Pending, Emptied, emptied, virtqueueOf, releaseQueue, clearsQueue, orderOf, releasedOf, Transferred, untouched, isRunning, transferFound, transferred, eventOf, ended, readStep, writeStep, releaseStep, ordered, remembering, transferStep, transferBy, asked}
 use Rattle.rules.specs.Claim.{clears, bytesFor, shownAs}
 use Rattle.rules.specs.Device.{Direction, output, input, streamNumber, queueNumber, directionOf, Virtqueue, Rest, Device, queueFor, withQueue, withRegisters}
 use Rattle.rules.specs.Transfer.{Ops, found}
@@ -33,18 +33,19 @@ module _
     (r : Rest)
     (q : H)
     (m host : List ℕ)
+    (backlog : ℕ)
     (i : I w q) where
   untouched-same : (answer : Answer) (g : Registers) → untouched answer g (f q) m ≡ lowTransferred f (untouched answer g q m)
   unfolding lowTransferred
   untouched-same answer g = refl
 
-  transferFound-same : (c : Check) → transferFound D d r (f q) m host c ≡ lowTransferred f (transferFound A d r q m host c)
+  transferFound-same : (c : Check) → transferFound D d backlog r (f q) m host c ≡ lowTransferred f (transferFound A d backlog r q m host c)
   unfolding lowTransferred
   transferFound-same Check.Idle = refl
   transferFound-same (Check.Broken cause) = refl
-  transferFound-same (Check.New n) = transferredBy-same A D (virtqueueOf r d) f I L w (queueNumber d) (r .registers) n q m host i
+  transferFound-same (Check.New n) = transferredBy-same A D (virtqueueOf r d backlog) f I L w (queueNumber d) (r .registers) n q m host i
 
-  pub transferred-same : transferred D d r (f q) m host ≡ lowTransferred f (transferred A d r q m host)
+  pub transferred-same : transferred D d backlog r (f q) m host ≡ lowTransferred f (transferred A d backlog r q m host)
   unfolding transferred
   transferred-same =
       map-cond (lowTransferred f) (eqb (length m) (r .ram))
@@ -53,8 +54,8 @@ module _
       (λ e.
       map-cond (lowTransferred f) (isRunning r (streamNumber d))
       (λ e.
-      rw (found-same A D (virtqueueOf r d) f I L w q m)
-      (transferFound-same (found A (virtqueueOf r d) q m)))
+      rw (found-same A D (virtqueueOf r d backlog) f I L w q m)
+      (transferFound-same (found A (virtqueueOf r d backlog) q m)))
       (λ e. untouched-same (plain notRunning) (r .registers)))
       (λ e. untouched-same (plain notLive) (r .registers)))
       (λ e. untouched-same (plain lengthDiffers) (r .registers))
@@ -65,12 +66,12 @@ module _
   untouched-keeps : (answer : Answer) (g : Registers) → Moved (untouched answer g q m)
   untouched-keeps answer g = rw append-nil i
 
-  transferFound-keeps : (c : Check) → Moved (transferFound A d r q m host c)
+  transferFound-keeps : (c : Check) → Moved (transferFound A d backlog r q m host c)
   transferFound-keeps Check.Idle = rw append-nil i
   transferFound-keeps (Check.Broken cause) = rw append-nil i
-  transferFound-keeps (Check.New n) = transfer-keeps A D (virtqueueOf r d) f I L w n q m host i .kept
+  transferFound-keeps (Check.New n) = transfer-keeps A D (virtqueueOf r d backlog) f I L w n q m host i .kept
 
-  pub transferred-keeps : Moved (transferred A d r q m host)
+  pub transferred-keeps : Moved (transferred A d backlog r q m host)
   unfolding transferred
   transferred-keeps =
       by-cond Moved (eqb (length m) (r .ram))
@@ -78,7 +79,7 @@ module _
       by-cond Moved (live (r .registers))
       (λ e.
       by-cond Moved (isRunning r (streamNumber d))
-      (λ e. transferFound-keeps (found A (virtqueueOf r d) q m))
+      (λ e. transferFound-keeps (found A (virtqueueOf r d backlog) q m))
       (λ e. untouched-keeps (plain notRunning) (r .registers)))
       (λ e. untouched-keeps (plain notLive) (r .registers)))
       (λ e. untouched-keeps (plain lengthDiffers) (r .registers))
@@ -118,7 +119,7 @@ module _
   ordered-same (Done o) = refl
   ordered-same (ReleaseFirst id p) =
       let d : Direction = directionOf id in
-      let v : Virtqueue = virtqueueOf (p .rest) d in
+      let v : Virtqueue = releaseQueue id (p .rest) in
       rw (shown-queue d, emptied-same (A d) (D d) v f (I d) (L d) (w d) (queueFor d b) m (i d))
       (releaseStep-same id p (emptied (A d) v (queueFor d b) m))
 
@@ -128,10 +129,15 @@ module _
   unfolding transferStep lowTransferred low
   transferStep-same d host t = rw (shown-with d (withRegisters (t .registers) (b .rest)) (t .queue))
 
-  transferBy-same : (d : Direction) (host : List ℕ) → transferBy D d host (shownAs f b) m ≡ low f (transferBy A d host b m)
-  transferBy-same d host =
-      rw (shown-queue d, transferred-same (A d) (D d) d f (I d) (L d) (w d) (b .rest) (queueFor d b) m host (i d))
-      (transferStep-same d host (transferred (A d) d (b .rest) (queueFor d b) m host))
+  remembering-same : (id backlog : ℕ) (s : Step (Device H)) → remembering id backlog (low f s) ≡ low f (remembering id backlog s)
+  unfolding remembering low
+  remembering-same id backlog s = refl
+
+  transferBy-same : (d : Direction) (host : List ℕ) (backlog : ℕ) → transferBy D d host backlog (shownAs f b) m ≡ low f (transferBy A d host backlog b m)
+  transferBy-same d host backlog =
+      rw (shown-queue d, transferred-same (A d) (D d) d f (I d) (L d) (w d) (b .rest) (queueFor d b) m host backlog (i d))
+      (rw (transferStep-same d host (transferred (A d) d backlog (b .rest) (queueFor d b) m host))
+      (remembering-same (streamNumber d) backlog (transferStep d host b (transferred (A d) d backlog (b .rest) (queueFor d b) m host))))
 
   -- a cleared queue, or the queue as it was
   cleared-same : (d : Direction) (x : Bool) (q : H) → cond x (D d .empty) (f q) ≡ f (cond x (A d .empty) q)
@@ -148,8 +154,8 @@ module _
   asked-same (ReadRegister offset width) = refl
   asked-same (WriteRegister offset width v) = writeStep-same offset width v
   asked-same Control = ordered-same (orderOf (b .rest) m)
-  asked-same (Play host) = transferBy-same output host
-  asked-same (Capture host) = transferBy-same input host
+  asked-same (Play host backlog) = transferBy-same output host backlog
+  asked-same (Capture host backlog) = transferBy-same input host backlog
   asked-same (Event code data′) = refl
 
   -- ---- what is kept over a call, of the queue of a direction
@@ -183,22 +189,24 @@ module _
   ordered-keeps d (Done o) = ended-keeps d o
   ordered-keeps d (ReleaseFirst id p) =
       let q : Direction = directionOf id in
-      let v : Virtqueue = virtqueueOf (p .rest) q in
+      let v : Virtqueue = releaseQueue id (p .rest) in
       releaseStep-keeps d id p (emptied (A q) v (queueFor q b) m)
       (emptied-keeps (A q) (D q) v f (I q) (L q) (w q) (queueFor q b) m (i q))
 
-  transfer-keeps-own : (d : Direction) (host : List ℕ) → Kept d (transferBy A d host b m .told .bytes) (transferBy A d host b m)
-  unfolding transferStep
-  transfer-keeps-own output host = transferred-keeps (A output) (D output) output f (I output) (L output) (w output) (b .rest) (b .play) m host (i output)
-  transfer-keeps-own input host = transferred-keeps (A input) (D input) input f (I input) (L input) (w input) (b .rest) (b .capture) m host (i input)
+  transfer-keeps-own :
+      (d : Direction) (host : List ℕ) (backlog : ℕ)
+      → Kept d (transferBy A d host backlog b m .told .bytes) (transferBy A d host backlog b m)
+  unfolding transferStep remembering
+  transfer-keeps-own output host backlog = transferred-keeps (A output) (D output) output f (I output) (L output) (w output) (b .rest) (b .play) m host backlog (i output)
+  transfer-keeps-own input host backlog = transferred-keeps (A input) (D input) input f (I input) (L input) (w input) (b .rest) (b .capture) m host backlog (i input)
 
-  transfer-keeps-output : (host : List ℕ) → Kept output [] (transferBy A input host b m)
-  unfolding transferStep
-  transfer-keeps-output host = untold output
+  transfer-keeps-output : (host : List ℕ) (backlog : ℕ) → Kept output [] (transferBy A input host backlog b m)
+  unfolding transferStep remembering
+  transfer-keeps-output host backlog = untold output
 
-  transfer-keeps-input : (host : List ℕ) → Kept input [] (transferBy A output host b m)
-  unfolding transferStep
-  transfer-keeps-input host = untold input
+  transfer-keeps-input : (host : List ℕ) (backlog : ℕ) → Kept input [] (transferBy A output host backlog b m)
+  unfolding transferStep remembering
+  transfer-keeps-input host backlog = untold input
 
   write-keeps :
       (d : Direction) (offset width v : ℕ)
@@ -223,8 +231,8 @@ module _
   asked-keeps d (ReadRegister offset width) = read-keeps d offset width
   asked-keeps d (WriteRegister offset width v) = write-keeps d offset width v
   asked-keeps d Control = ordered-keeps d (orderOf (b .rest) m)
-  asked-keeps output (Play host) = transfer-keeps-own output host
-  asked-keeps input (Play host) = transfer-keeps-input host
-  asked-keeps output (Capture host) = transfer-keeps-output host
-  asked-keeps input (Capture host) = transfer-keeps-own input host
+  asked-keeps output (Play host backlog) = transfer-keeps-own output host backlog
+  asked-keeps input (Play host backlog) = transfer-keeps-input host backlog
+  asked-keeps output (Capture host backlog) = transfer-keeps-output host backlog
+  asked-keeps input (Capture host backlog) = transfer-keeps-own input host backlog
   asked-keeps d (Event code data′) = ended-keeps d (eventOf (b .rest) code data′ m)

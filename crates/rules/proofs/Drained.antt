@@ -18,10 +18,11 @@ use Rattle.ring.specs.declared.Cause.{Cause}
 use Rattle.ring.specs.declared.Check.{Check}
 use Rattle.ring.specs.declared.Stop.{Stop}
 use Rattle.rules.specs.Answers.{numberOf, going, answerBy}
-use Rattle.rules.specs.Calls.{Control, Play, ReleaseFirst, Pending, emptiedFound, emptied, virtqueueOf, orderOf, releasedOf, Transferred, isRunning, transferFound, transferred, releaseStep, transferStep, asked}
+use Rattle.rules.specs.Calls.{Control, Play, ReleaseFirst, Pending, emptiedFound, emptied, virtqueueOf, releaseQueue, orderOf, releasedOf, Transferred, isRunning, transferFound, transferred, releaseStep, transferStep, remembering, asked}
 use Rattle.rules.specs.Claim.{Good, queueOf, card, account}
-use Rattle.rules.specs.Device.{Direction, output, streamNumber, queueNumber, Virtqueue, queueSize, Rest, Device}
+use Rattle.rules.specs.Device.{Direction, output, streamNumber, queueNumber, Virtqueue, queueSize, Rest, Device, pageOf}
 use Rattle.rules.specs.Histories.{History}
+use Rattle.rules.specs.Numbers.{playQueue}
 use Rattle.rules.specs.Transfer.{Ops, Run, begun, transferRun, releaseRun, found}
 use Rattle.rules.proofs.Histories.{free, alike}
 use Rattle.rules.proofs.Host.{Past, run-past}
@@ -103,15 +104,16 @@ going-done n Stop.Going e = refl
 going-done n (Stop.Broke cause) e = absurd (no-cause-done cause e)
 
 module _
-    (d : Direction) (w : List ℕ) (r : Rest) (q : History) (m host : List ℕ) (g : Good d w q) (based : virtqueueOf r d .page .0 ≡ 0 → ⊥) where
+    (d : Direction) (w : List ℕ) (r : Rest) (q : History) (m host : List ℕ) (backlog : ℕ) (g : Good d w q)
+    (based : virtqueueOf r d backlog .page .0 ≡ 0 → ⊥) where
   abbrev v : Virtqueue
-  v = virtqueueOf r d
+  v = virtqueueOf r d backlog
 
   -- by its answer and its count
   abbrev Drains : Transferred History → Type 0
   Drains t = t .answer .number ≡ done → length (t .bytes) < length host → Drained (indexIn v m) (t .queue)
 
-  pub transfer-drains : Drains (transferred (account d) d r q m host)
+  pub transfer-drains : Drains (transferred (account d) d backlog r q m host)
   unfolding transferred
   transfer-drains =
       by-cond Drains (eqb (length m) (r .ram))
@@ -120,7 +122,7 @@ module _
       (λ e.
       by-cond Drains (isRunning r (streamNumber d))
       (λ e.
-      found-based v (λ (c : Check). Drains (transferFound (account d) d r q m host c)) q m based (λ c a. absurd (no-cause-done c a))
+      found-based v (λ (c : Check). Drains (transferFound (account d) d backlog r q m host c)) q m based (λ c a. absurd (no-cause-done c a))
       (λ a l. run-drains v w q m g based host (going-done (queueNumber d) (run v w q m g based host .stop) a) l))
       (λ e a. absurd (omega arith)))
       (λ e a. absurd (omega arith)))
@@ -130,13 +132,13 @@ module _
 
 module _ (w : List ℕ) (b : Device History) (m : List ℕ) (g : Good output w (b .play)) where
   pub play-drains :
-      (host : List ℕ)
-      → asked account (Play host) b m .told .answer .number ≡ done
-      → asked account (Play host) b m .told .count < length host
-      → (virtqueueOf (b .rest) output .page .0 ≡ 0 → ⊥)
-      → Drained (indexIn (virtqueueOf (b .rest) output) m) (asked account (Play host) b m .state .play)
-  unfolding transferStep
-  play-drains host a l based = transfer-drains output w (b .rest) (b .play) m host g based a l
+      (host : List ℕ) (backlog : ℕ)
+      → asked account (Play host backlog) b m .told .answer .number ≡ done
+      → asked account (Play host backlog) b m .told .count < length host
+      → (pageOf (b .rest) playQueue .0 ≡ 0 → ⊥)
+      → Drained (indexIn (virtqueueOf (b .rest) output backlog) m) (asked account (Play host backlog) b m .state .play)
+  unfolding transferStep remembering
+  play-drains host backlog a l based = transfer-drains output w (b .rest) (b .play) m host backlog g based a l
 
   -- a Release that answers 0 broke nothing
   released-going :
@@ -149,12 +151,12 @@ module _ (w : List ℕ) (b : Device History) (m : List ℕ) (g : Good output w (
       (p : Pending)
       → orderOf (b .rest) m ≡ ReleaseFirst 0 p
       → asked account Control b m .told .answer .number ≡ done
-      → (virtqueueOf (p .rest) output .page .0 ≡ 0 → ⊥)
-      → Drained (indexIn (virtqueueOf (p .rest) output) m) (asked account Control b m .state .play)
+      → (releaseQueue 0 (p .rest) .page .0 ≡ 0 → ⊥)
+      → Drained (indexIn (releaseQueue 0 (p .rest)) m) (asked account Control b m .state .play)
   unfolding releaseStep
   output-release-drains p o a based =
-      let e = emptied (account output) (virtqueueOf (p .rest) output) (b .play) m in
-      rw o (release-drains (virtqueueOf (p .rest) output) w (b .play) m g based (released-going p (e .mem) (e .stop) (e .signal) (rw o at a)))
+      let e = emptied (account output) (releaseQueue 0 (p .rest)) (b .play) m in
+      rw o (release-drains (releaseQueue 0 (p .rest)) w (b .play) m g based (released-going p (e .mem) (e .stop) (e .signal) (rw o at a)))
 
 -- what a drained history stands for: no message in work, and as many taken as the index says
 pub drained-queue : (index : ℕ) (h : History) → Drained index h → (queueOf h .work ≡ none) × (queueOf h .taken ≡ index % 65536)

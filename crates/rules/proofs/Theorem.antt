@@ -6,7 +6,7 @@ use mathlib.Core.List.{List, [], _∷_, _++_}
 use Prim.Native.Nat.{ℕ, _+_}
 use lib.ListN.{length, length-append, length-map}
 use Rattle.description.specs.declared.Description.{Description}
-use Rattle.rules.specs.Calls.{Request, ReadRegister, WriteRegister, Control, Play, Capture, Event, Call, transferStep, asked, step}
+use Rattle.rules.specs.Calls.{Request, ReadRegister, WriteRegister, Control, Play, Capture, Event, Call, transferStep, remembering, asked, step}
 use Rattle.rules.specs.Claim.{start, toldBy, after, clears, bytesFor, countFor, heard, counted, Good, queueOf, shownAs, card, account, Holds}
 use Rattle.rules.specs.Device.{Direction, output, input, Device, queueFor}
 use Rattle.rules.specs.Histories.{History}
@@ -65,14 +65,14 @@ run-good (c ∷ cs) w b g d = rw (step-same w b c g) (run-good cs (then w b c) (
 asked-counts :
     (d : Direction) (q : Request) (b : Device History) (m : List ℕ)
     → countFor d q (asked account q b m .told) ≡ length (bytesFor d q (asked account q b m .told))
-unfolding transferStep
+unfolding transferStep remembering
 asked-counts d (ReadRegister offset width) b m = refl
 asked-counts d (WriteRegister offset width v) b m = refl
 asked-counts d Control b m = refl
-asked-counts output (Play host) b m = refl
-asked-counts input (Play host) b m = refl
-asked-counts output (Capture host) b m = refl
-asked-counts input (Capture host) b m = refl
+asked-counts output (Play host backlog) b m = refl
+asked-counts input (Play host backlog) b m = refl
+asked-counts output (Capture host backlog) b m = refl
+asked-counts input (Capture host backlog) b m = refl
 asked-counts d (Event code data′) b m = refl
 
 pub run-count :

@@ -18,11 +18,11 @@ use Rattle.registers.specs.declared.answers.Answer.{Answer}
 use Rattle.ring.specs.declared.Cause.{Cause}
 use Rattle.ring.specs.declared.Check.{Check}
 use Rattle.ring.specs.declared.Stop.{Stop}
-use Rattle.rules.specs.Account.{takingAt, entryAt, entriesWritten, Answered, Adds, ifNew, ordersRelease, addsBy, startsAnew, releaseReplied, Turn, Book, end}
-use Rattle.rules.specs.Calls.{Request, ReadRegister, WriteRegister, Control, Play, Capture, Event, Call, Told, Order, Done, ReleaseFirst, Pending, Emptied, emptiedFound, emptied, virtqueueOf, clearsQueue, orderOf, replied, releasedOf, Transferred, untouched, isRunning, transferFound, transferred, readStep, writeStep, releaseStep, transferStep, ordered, asked}
+use Rattle.rules.specs.Account.{takingAt, entryAt, entriesWritten, Answered, AnsweredBy, Adds, ifNew, ordersRelease, addsBy, startsAnew, releaseReplied, Turn, Book, end}
+use Rattle.rules.specs.Calls.{Request, ReadRegister, WriteRegister, Control, Play, Capture, Event, Call, Told, Order, Done, ReleaseFirst, Pending, Emptied, emptiedFound, emptied, virtqueueOf, releaseQueue, clearsQueue, orderOf, replied, releasedOf, Transferred, untouched, isRunning, transferFound, transferred, readStep, writeStep, releaseStep, transferStep, remembering, ordered, asked}
 use Rattle.rules.specs.Claim.{Good, clears, account}
-use Rattle.rules.specs.Device.{output, Virtqueue, Ending, finished, released, Rest, Device, pageOf, bytesOf}
-use Rattle.rules.specs.Histories.{History, blank, number}
+use Rattle.rules.specs.Device.{output, Virtqueue, Taking, Ending, finished, released, Rest, Device, pageOf, bytesOf}
+use Rattle.rules.specs.Histories.{Entry, History, blank, number}
 use Rattle.rules.specs.Numbers.{playQueue}
 use Rattle.rules.specs.Transfer.{Run, found}
 use Rattle.rules.proofs.Anew.{anew-clears}
@@ -45,6 +45,9 @@ release-or-none Check.Idle e = none-some finished e
 release-or-none (Check.Broken cause) e = none-some finished e
 release-or-none (Check.New n) e = finished-released (sym e)
 
+by-own : {latency : ℕ} {call : Ending} {t : Taking} {e : Entry} → Answered latency call t e → AnsweredBy call t e
+by-own a = record { head = a .head; way = a .way; late = refl }
+
 module _ (w : List ℕ) (h : History) (g : Good output w h) (b : Book h) where
   well : Well h
   well busy = b .in-work (leb-false (length (h .takings)) (number h) busy)
@@ -57,10 +60,10 @@ module _ (w : List ℕ) (h : History) (g : Good output w h) (b : Book h) where
       (f : Fair lies call m h s)
       (x : Waits (s .queue))
       (as′ : (k : ℕ) → Answered (lies .latency) call (takingAt (s .queue) k) (entryAt (s .queue) k)
-      → Answered 0 finished (takingAt (s .queue) k) (entryAt (s .queue) k) ⊎ Answered 0 released (takingAt (s .queue) k) (entryAt (s .queue) k)) where
+      → AnsweredBy finished (takingAt (s .queue) k) (entryAt (s .queue) k) ⊎ AnsweredBy released (takingAt (s .queue) k) (entryAt (s .queue) k)) where
     old-answer :
         (k : ℕ) → k < number h
-        → Answered 0 finished (takingAt (s .queue) k) (entryAt (s .queue) k) ⊎ Answered 0 released (takingAt (s .queue) k) (entryAt (s .queue) k)
+        → AnsweredBy finished (takingAt (s .queue) k) (entryAt (s .queue) k) ⊎ AnsweredBy released (takingAt (s .queue) k) (entryAt (s .queue) k)
     old-answer k l =
         let a = f .sofar .adds in
         let t : takingAt (s .queue) k ≡ takingAt h k = rw (a .takings .is) (List·getD-append (h .takings) (a .takings .added) _ k (omega (arith, g .few))) in
@@ -69,7 +72,7 @@ module _ (w : List ℕ) (h : History) (g : Good output w h) (b : Book h) where
 
     answer-at :
         (k : ℕ) → k < number (s .queue) → (x : Bool) → leb (number h) k ≡ x
-        → Answered 0 finished (takingAt (s .queue) k) (entryAt (s .queue) k) ⊎ Answered 0 released (takingAt (s .queue) k) (entryAt (s .queue) k)
+        → AnsweredBy finished (takingAt (s .queue) k) (entryAt (s .queue) k) ⊎ AnsweredBy released (takingAt (s .queue) k) (entryAt (s .queue) k)
     answer-at k l true e = as′ k (f .sofar .adds .answered k (leb-true (number h) k e) l)
     answer-at k l false e = old-answer k (leb-false (number h) k e)
 
@@ -84,39 +87,39 @@ module _ (w : List ℕ) (h : History) (g : Good output w h) (b : Book h) where
 
   -- ---- a play
 
-  module _ (r : Rest) (m host : List ℕ) where
+  module _ (r : Rest) (m host : List ℕ) (backlog : ℕ) where
     record Played (t : Transferred History) (o : Option Ending) : Type 0 where
       same : o ≡ none → t .queue ≡ h
       adds : o ≡ some finished
-          → Adds (virtqueueOf r output) finished m h (t .queue) (t .bytes) × (t .mem ≡ entriesWritten (pageOf r playQueue) h (t .queue) m)
+          → Adds (virtqueueOf r output backlog) finished m h (t .queue) (t .bytes) × (t .mem ≡ entriesWritten (pageOf r playQueue) h (t .queue) m)
       book : Book (t .queue)
 
     unplayed : (answer : Answer) (x : Registers) → Played (untouched answer x h m) none
     unplayed answer x = record { same = λ e. refl; adds = λ e. absurd (none-some finished e); book = b }
 
-    found-played : (c : Check) → Played (transferFound (account output) output r h m host c) (ifNew finished c)
+    found-played : (c : Check) → Played (transferFound (account output) output backlog r h m host c) (ifNew finished c)
     found-played Check.Idle = unplayed _ _
     found-played (Check.Broken cause) = unplayed _ _
     found-played (Check.New n) =
-        let p = play-fair (virtqueueOf r output) m h w host n g well waits (b .in-order) in
-        let x = play-waits (virtqueueOf r output) m h w host n g well waits (b .in-order) in
+        let p = play-fair (virtqueueOf r output backlog) m h w host n g well waits (b .in-order) in
+        let x = play-waits (virtqueueOf r output backlog) m h w host n g well waits (b .in-order) in
         record {
           same = λ e. absurd (none-some finished (sym e));
           adds = λ e. (p .sofar .adds, p .sofar .memory);
-          book = book-after (virtqueueOf r output) finished m _ p x (λ k a. inl a);
+          book = book-after (virtqueueOf r output backlog) finished m _ p x (λ k a. inl (by-own a));
         }
 
-    played : Played (transferred (account output) output r h m host) (addsBy (Play host) r h m)
+    played : Played (transferred (account output) output backlog r h m host) (addsBy (Play host backlog) r h m)
     unfolding transferred addsBy
     played = go (eqb (length m) (r .ram)) (live (r .registers)) (isRunning r 0)
       where
         go :
             (x y z : Bool)
             → Played
-            (cond x (cond y (cond z (transferFound (account output) output r h m host (found (account output) (virtqueueOf r output) h m))
+            (cond x (cond y (cond z (transferFound (account output) output backlog r h m host (found (account output) (virtqueueOf r output backlog) h m))
             (untouched (plain notRunning) (r .registers) h m)) (untouched (plain notLive) (r .registers) h m)) (untouched (plain lengthDiffers) (r .registers) h m))
-            (cond (x && y && z) (ifNew finished (found (account output) (virtqueueOf r output) h m)) none)
-        go true true true = found-played (found (account output) (virtqueueOf r output) h m)
+            (cond (x && y && z) (ifNew finished (found (account output) (virtqueueOf r output backlog) h m)) none)
+        go true true true = found-played (found (account output) (virtqueueOf r output backlog) h m)
         go true true false = unplayed _ _
         go true false z = unplayed _ _
         go false y z = unplayed _ _
@@ -127,26 +130,26 @@ module _ (w : List ℕ) (h : History) (g : Good output w h) (b : Book h) where
     record Given (e : Emptied History) (o : Option Ending) : Type 0 where
       same : o ≡ none → e .queue ≡ h
       adds : o ≡ some released
-          → Adds (virtqueueOf (p .rest) output) released m h (e .queue) [] × (e .mem ≡ entriesWritten (pageOf (p .rest) playQueue) h (e .queue) m)
+          → Adds (releaseQueue 0 (p .rest)) released m h (e .queue) [] × (e .mem ≡ entriesWritten (pageOf (p .rest) playQueue) h (e .queue) m)
       book : Book (e .queue)
 
-    found-given : (c : Check) → Given (emptiedFound (account output) (virtqueueOf (p .rest) output) h m c) (ifNew released c)
+    found-given : (c : Check) → Given (emptiedFound (account output) (releaseQueue 0 (p .rest)) h m c) (ifNew released c)
     found-given Check.Idle = record { same = λ e. refl; adds = λ e. absurd (none-some released e); book = b }
     found-given (Check.Broken cause) = record { same = λ e. refl; adds = λ e. absurd (none-some released e); book = b }
     found-given (Check.New n) =
-        let q = release-fair (virtqueueOf (p .rest) output) m h w n g well (b .in-order) in
-        let x = release-ends (virtqueueOf (p .rest) output) m h w n g well (b .in-order) in
+        let q = release-fair (releaseQueue 0 (p .rest)) m h w n g well (b .in-order) in
+        let x = release-ends (releaseQueue 0 (p .rest)) m h w n g well (b .in-order) in
         record {
           same = λ e. absurd (none-some released (sym e));
           adds = λ e. (rw (q .mute) at (q .fair .sofar .adds), q .fair .sofar .memory);
-          book = book-after (virtqueueOf (p .rest) output) released m _ (q .fair) (λ e. absurd (true≢false (sym x ∙ e))) (λ k a. inr a);
+          book = book-after (releaseQueue 0 (p .rest)) released m _ (q .fair) (λ e. absurd (true≢false (sym x ∙ e))) (λ k a. inr (by-own a));
         }
 
     given :
-        Given (emptied (account output) (virtqueueOf (p .rest) output) h m)
-        (ifNew released (found (account output) (virtqueueOf (p .rest) output) h m))
+        Given (emptied (account output) (releaseQueue 0 (p .rest)) h m)
+        (ifNew released (found (account output) (releaseQueue 0 (p .rest)) h m))
     unfolding emptied
-    given = found-given (found (account output) (virtqueueOf (p .rest) output) h m)
+    given = found-given (found (account output) (releaseQueue 0 (p .rest)) h m)
 
 -- ---- whole calls
 
@@ -235,8 +238,8 @@ module _ (w : List ℕ) (b : Device History) (g : Good output w (b .play)) (k : 
   ordered-no-play (Done o) e = none-some finished e
   ordered-no-play (ReleaseFirst id p) e = go (eqb id 0) e
     where
-      go : (x : Bool) → cond x (ifNew released (found (account output) (virtqueueOf (p .rest) output) h m)) none ≡ some finished → ⊥
-      go true f = release-or-none (found (account output) (virtqueueOf (p .rest) output) h m) f
+      go : (x : Bool) → cond x (ifNew released (found (account output) (releaseQueue 0 (p .rest)) h m)) none ≡ some finished → ⊥
+      go true f = release-or-none (found (account output) (releaseQueue 0 (p .rest)) h m) f
       go false f = none-some finished f
 
   released-turn :
@@ -245,13 +248,13 @@ module _ (w : List ℕ) (b : Device History) (g : Good output w (b .play)) (k : 
       → ordersRelease (orderOf (b .rest) m) h m ≡ some released
       → let s = ordered account (orderOf (b .rest) m) b m in
       let x : List ℕ = entriesWritten (pageOf (p .rest) playQueue) h (s .state .play) m in
-      Adds (virtqueueOf (p .rest) output) released m h (s .state .play) []
+      Adds (releaseQueue 0 (p .rest)) released m h (s .state .play) []
       × (s .told .memory ≡ cond (eqb (s .told .answer .number) done) (releaseReplied p x) x)
   unfolding releaseStep
   released-turn p o e =
       let q = given w h g k p m in
       let a = q .adds (rw o at e) in
-      let l = emptied (account output) (virtqueueOf (p .rest) output) h m in
+      let l = emptied (account output) (releaseQueue 0 (p .rest)) h m in
       rw o (a .0, release-memory p (l .mem) (l .stop) (l .signal) ∙ rw (a .1))
 
   write-anew : (offset width v : ℕ) → clearsQueue output (writeOf (b .rest .registers) offset width v .effect) ≡ startsAnew (WriteRegister offset width v) (b .rest)
@@ -260,7 +263,7 @@ module _ (w : List ℕ) (b : Device History) (g : Good output w (b .play)) (k : 
 
   pub turns :
       (q : Request) → Turn (b .rest) h (call q) (asked account q b m .told) (asked account q b m .state .play) × Book (asked account q b m .state .play)
-  unfolding readStep writeStep transferStep addsBy startsAnew
+  unfolding readStep writeStep transferStep remembering addsBy startsAnew
   turns (ReadRegister offset width) = (idle-turn (ReadRegister offset width) _ refl refl, k)
   turns (WriteRegister offset width v) =
       write-turn (WriteRegister offset width v) _ (clearsQueue output (writeOf (b .rest .registers) offset width v .effect))
@@ -274,15 +277,15 @@ module _ (w : List ℕ) (b : Device History) (g : Good output w (b .play)) (k : 
     },
     ordered-play (orderOf (b .rest) m) .1,
   )
-  turns (Play host) =
-      let p = played w h g k (b .rest) m host in (
+  turns (Play host backlog) =
+      let p = played w h g k (b .rest) m host backlog in (
         record {
           anew = λ e. absurd (true≢false (sym e));
           nothing = λ a e. p .same e;
           played = p .adds;
-          released = λ q o e. absurd (play-no-release (eqb (length m) (b .rest .ram) && live (b .rest .registers) && isRunning (b .rest) 0) (found (account output) (virtqueueOf (b .rest) output) h m) e);
+          released = λ q o e. absurd (play-no-release (eqb (length m) (b .rest .ram) && live (b .rest .registers) && isRunning (b .rest) 0) (found (account output) (virtqueueOf (b .rest) output backlog) h m) e);
         },
         p .book,
       )
-  turns (Capture host) = (idle-turn (Capture host) _ refl refl, k)
+  turns (Capture host backlog) = (idle-turn (Capture host backlog) _ refl refl, k)
   turns (Event code data′) = (idle-turn (Event code data′) _ refl refl, k)

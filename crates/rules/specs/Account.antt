@@ -16,7 +16,7 @@ use Rattle.ring.specs.Rules.{baseOf, postedOf}
 use Rattle.ring.specs.declared.Check.{Check}
 use Rattle.registers.specs.Answers.{done}
 use Rattle.registers.specs.Rules.{live, hasBit}
-use Rattle.rules.specs.Calls.{Request, ReadRegister, WriteRegister, Control, Play, Capture, Event, Call, Told, Order, Done, ReleaseFirst, Pending, orderOf, isRunning, virtqueueOf}
+use Rattle.rules.specs.Calls.{Request, ReadRegister, WriteRegister, Control, Play, Capture, Event, Call, Told, Order, Done, ReleaseFirst, Pending, orderOf, isRunning, virtqueueOf, releaseQueue}
 use Rattle.rules.specs.Control.{status}
 use Rattle.rules.specs.Device.{output, Virtqueue, Form, wellFormed, refused, silent, unwalked, Taking, nobody, Ending, finished, released, illFormed, Rest, pageOf, bytesOf}
 use Rattle.rules.specs.Histories.{Entry, Note, History, blank, unanswered, number, current, waiting, historiesOf}
@@ -100,11 +100,15 @@ pub data Answers : Ending → Taking → Entry → Type 0 where
       → e .length ≡ 0
       → Answers call t e
 
--- .. and names its head; "Status (code, latency 0)": with the call's latency
+-- .. and names its head, with the call's latency
 pub record Answered (latency : ℕ) (call : Ending) (t : Taking) (e : Entry) : Type 0 where
   pub head : e .head ≡ t .head
   pub way : Answers call t e
   pub late : e .latency ≡ latency
+
+-- .. by a call of whatever latency
+abbrev pub AnsweredBy : Ending → Taking → Entry → Type 0
+AnsweredBy call t e = Answered (e .latency) call t e
 
 -- ---- what a play or a Release adds
 
@@ -141,7 +145,16 @@ ifNew call (Check.New n) = some call
 abbrev pub ordersRelease : Order → History → List ℕ → Option Ending
 ordersRelease (Done o) h m = none
 ordersRelease (ReleaseFirst id p) h m =
-    cond (eqb id 0) (ifNew released (found (historiesOf output) (virtqueueOf (p .rest) output) h m)) none
+    cond (eqb id 0) (ifNew released (found (historiesOf output) (releaseQueue 0 (p .rest)) h m)) none
+
+-- the backlog that a transfer hands in: "every status completed in that call carries it" (order 5)
+abbrev pub backlogOf : Request → ℕ
+backlogOf (ReadRegister offset width) = 0
+backlogOf (WriteRegister offset width v) = 0
+backlogOf Control = 0
+backlogOf (Play host backlog) = backlog
+backlogOf (Capture host backlog) = backlog
+backlogOf (Event code data′) = 0
 
 -- "Play, past its checks"; "Release of the output, past its checks". "On an idle queue neither adds anything, nor do other calls or
 -- those stopped by a check."
@@ -149,9 +162,9 @@ unfoldable pub addsBy : Request → Rest → History → List ℕ → Option End
 addsBy (ReadRegister offset width) r h m = none
 addsBy (WriteRegister offset width v) r h m = none
 addsBy Control r h m = ordersRelease (orderOf r m) h m
-addsBy (Play host) r h m =
-    cond (eqb (length m) (r .ram) && live (r .registers) && isRunning r 0) (ifNew finished (found (historiesOf output) (virtqueueOf r output) h m)) none
-addsBy (Capture host) r h m = none
+addsBy (Play host backlog) r h m =
+    cond (eqb (length m) (r .ram) && live (r .registers) && isRunning r 0) (ifNew finished (found (historiesOf output) (virtqueueOf r output backlog) h m)) none
+addsBy (Capture host backlog) r h m = none
 addsBy (Event code data′) r h m = none
 
 -- "anew at each reset and at each base write of queue 2": STATUS (offset 18, one byte) written 0, or QUEUE_PFN (offset 8, four bytes)
@@ -162,8 +175,8 @@ startsAnew (WriteRegister offset width v) r =
     (eqb offset 18 && eqb width 1 && eqb v 0)
     || (eqb offset 8 && eqb width 4 && ltb v (2 ^ 32) && eqb (r .registers .selector) 2 && not (hasBit (r .registers .status) 2))
 startsAnew Control r = false
-startsAnew (Play host) r = false
-startsAnew (Capture host) r = false
+startsAnew (Play host backlog) r = false
+startsAnew (Capture host backlog) r = false
 startsAnew (Event code data′) r = false
 
 -- ".. then replies.": the reply to a RELEASE, of the control queue (N = 64), on the memory that the play queue's part left
@@ -177,7 +190,7 @@ pub record Turn (r : Rest) (h : History) (c : Call) (t : Told) (n : History) : T
   pub nothing : startsAnew (c .asked) r ≡ false → addsBy (c .asked) r h (c .lent) ≡ none → n ≡ h
   pub played :
       addsBy (c .asked) r h (c .lent) ≡ some finished
-      → Adds (virtqueueOf r output) finished (c .lent) h n (t .bytes)
+      → Adds (virtqueueOf r output (backlogOf (c .asked))) finished (c .lent) h n (t .bytes)
       × (t .memory ≡ entriesWritten (pageOf r playQueue) h n (c .lent))
   -- a Release that breaks the queue does not reply
   pub released :
@@ -185,7 +198,7 @@ pub record Turn (r : Rest) (h : History) (c : Call) (t : Told) (n : History) : T
       → orderOf r (c .lent) ≡ ReleaseFirst 0 p
       → addsBy (c .asked) r h (c .lent) ≡ some released
       → let m : List ℕ = entriesWritten (pageOf (p .rest) playQueue) h n (c .lent) in
-      Adds (virtqueueOf (p .rest) output) released (c .lent) h n [] × (t .memory ≡ cond (eqb (t .answer .number) done) (releaseReplied p m) m)
+      Adds (releaseQueue 0 (p .rest)) released (c .lent) h n [] × (t .memory ≡ cond (eqb (t .answer .number) done) (releaseReplied p m) m)
 
 -- ---- what holds of a history
 
@@ -196,7 +209,7 @@ pub data InOrder : ℕ → ℕ → List Note → Type 0 where
 
 pub record Book (h : History) : Type 0 where
   -- every entry answers its taking; only the message in work lacks an entry, and it is well-formed
-  pub answers : (k : ℕ) → k < number h → Answered 0 finished (takingAt h k) (entryAt h k) ⊎ Answered 0 released (takingAt h k) (entryAt h k)
+  pub answers : (k : ℕ) → k < number h → AnsweredBy finished (takingAt h k) (entryAt h k) ⊎ AnsweredBy released (takingAt h k) (entryAt h k)
   pub in-work : number h < length (h .takings) → current h .form ≡ wellFormed
   -- "Once none waits, an OK entry, also for an empty payload": between calls something of the message in work waits
   pub waits : number h < length (h .takings) → 0 < length (waiting output h)

@@ -29,20 +29,21 @@ use Rattle.card.specs.Card.{noCounters, runningState, releasedState}
 use Rattle.card.specs.Rules.{jackReset, streamReset, rungOf}
 use Rattle.card.specs.declared.Jack.{Jack}
 use Rattle.rules.specs.Answers.{brokenAnswer, byStop, answerBy, brokenBy}
-use Rattle.rules.specs.Control.{Served, Reply, Release, served, partsIn, withParts, status, noJack, withState, withStream}
+use Rattle.rules.specs.Control.{Served, Reply, Release, served, partsIn, withParts, status, noJack, withState, withBacklog, withStream}
 use Rattle.rules.specs.Device.{Direction, output, input, streamNumber, queueNumber, directionOf, Virtqueue, Rest, Device, queueFor, withQueue, withRegisters, withJacks, withControl, withEvent, pageOf, streamAt, signalledIf, oneTaken, oneCompleted, bytesOf}
 use Rattle.rules.specs.Numbers.{controlQueue, eventQueue, jackConnected, jackDisconnected, pcmXrun, sOk, sBadMsg}
 use Rattle.rules.specs.Transfer.{Ops, Run, begun, transferRun, releaseRun, found}
 
 -- ---- calls, and what their callers are told
 
--- the play call lends its host buffer, the capture call its host bytes
+-- the play call lends its host buffer, the capture call its host bytes. Order 5: "The play and capture calls now take the host's backlog
+-- in bytes (32 bits)": the number behind them
 pub data Request : Type 0 where
   ReadRegister : ℕ → ℕ → Request
   WriteRegister : ℕ → ℕ → ℕ → Request
   Control : Request
-  Play : List ℕ → Request
-  Capture : List ℕ → Request
+  Play : List ℕ → ℕ → Request
+  Capture : List ℕ → ℕ → Request
   Event : ℕ → ℕ → Request
 
 -- a call: what is asked, and the memory lent to it
@@ -89,13 +90,14 @@ admitted r m refuse go = cond (eqb (length m) (r .ram)) (cond (live (r .register
 abbrev pub indirect : Rest → Bool
 indirect r = hasBit (r .registers .features) 28
 
--- "latency 0"
-abbrev pub noLatency : ℕ
-noLatency = 0
+-- the queue of a direction in a call whose statuses carry this latency
+abbrev pub virtqueueOf : Rest → Direction → ℕ → Virtqueue
+virtqueueOf r d latency = record { direction = d; page = pageOf r (queueNumber d); negotiated = indirect r; latency = latency }
 
--- the queue of a direction in a call
-abbrev pub virtqueueOf : Rest → Direction → Virtqueue
-virtqueueOf r d = record { direction = d; page = pageOf r (queueNumber d); negotiated = indirect r; latency = noLatency }
+-- the queue of a stream in its Release. Order 5: "A Release carries the backlog of the last such call on that stream since reset that
+-- answered 0, else 0."
+abbrev pub releaseQueue : ℕ → Rest → Virtqueue
+releaseQueue id r = virtqueueOf r (directionOf id) (streamAt r id .backlog)
 
 -- ---- registers
 
@@ -260,20 +262,21 @@ untouched answer g q m = record { queue = q; registers = g; answer = answer; byt
 abbrev pub isRunning : Rest → ℕ → Bool
 isRunning r id = ltb id (length (r .streams)) && eqb (streamAt r id .state) runningState
 
-module _ {Q : Type 0} (ops : Ops Q) (d : Direction) where
+-- order 5: ".. and every status completed in that call carries it"
+module _ {Q : Type 0} (ops : Ops Q) (d : Direction) (backlog : ℕ) where
   abbrev pub transferFound : Rest → Q → List ℕ → List ℕ → Check → Transferred Q
   transferFound r q m host Check.Idle = untouched (plain done) (r .registers) q m
   transferFound r q m host (Check.Broken cause) =
       untouched (brokenAnswer (queueNumber d) cause) (broken (r .registers)) q m
   transferFound r q m host (Check.New n) =
-      transferredBy (queueNumber d) (r .registers) (transferRun ops (virtqueueOf r d) n (begun q m host))
+      transferredBy (queueNumber d) (r .registers) (transferRun ops (virtqueueOf r d backlog) n (begun q m host))
 
   -- "Play and capture: 1, 5, 6, 9."
   unfoldable pub transferred : Rest → Q → List ℕ → List ℕ → Transferred Q
   transferred r q m host =
       admitted r m (λ number. untouched (plain number) (r .registers) q m)
       (cond (isRunning r (streamNumber d))
-      (transferFound r q m host (found ops (virtqueueOf r d) q m))
+      (transferFound r q m host (found ops (virtqueueOf r d backlog) q m))
       (untouched (plain notRunning) (r .registers) q m))
 
 -- ---- events
@@ -412,6 +415,22 @@ transferStep d host b t =
       told = toldAll (t .answer) 0 nothingRung (length (t .bytes)) (t .bytes) (hostAfter d host (t .bytes)) (t .mem);
     }
 
+-- order 5: the stream remembers the backlog of a call "that answered 0"
+abbrev pub rememberedIf : Bool → ℕ → ℕ → Rest → Rest
+rememberedIf answered id backlog r = cond answered (withStream r id (withBacklog backlog (streamAt r id))) r
+
+unfoldable pub remembering : {Q : Type 0} → ℕ → ℕ → Step (Device Q) → Step (Device Q)
+remembering id backlog s =
+    record {
+      state =
+          record {
+            rest = rememberedIf (eqb (s .told .answer .number) done) id backlog (s .state .rest);
+            play = s .state .play;
+            capture = s .state .capture;
+          };
+      told = s .told;
+    }
+
 module _ {Q : Type 0} (ops : Direction → Ops Q) where
   unfoldable pub writeStep : ℕ → ℕ → ℕ → Device Q → List ℕ → Step (Device Q)
   writeStep offset width v b m =
@@ -430,17 +449,18 @@ module _ {Q : Type 0} (ops : Direction → Ops Q) where
   ordered (Done o) b m = ended o b
   ordered (ReleaseFirst id p) b m =
       let d : Direction = directionOf id in
-      releaseStep id p b (emptied (ops d) (virtqueueOf (p .rest) d) (queueFor d b) m)
+      releaseStep id p b (emptied (ops d) (releaseQueue id (p .rest)) (queueFor d b) m)
 
-  abbrev pub transferBy : Direction → List ℕ → Device Q → List ℕ → Step (Device Q)
-  transferBy d host b m = transferStep d host b (transferred (ops d) d (b .rest) (queueFor d b) m host)
+  abbrev pub transferBy : Direction → List ℕ → ℕ → Device Q → List ℕ → Step (Device Q)
+  transferBy d host backlog b m =
+      remembering (streamNumber d) backlog (transferStep d host b (transferred (ops d) d backlog (b .rest) (queueFor d b) m host))
 
   abbrev pub asked : Request → Device Q → List ℕ → Step (Device Q)
   asked (ReadRegister offset width) b m = readStep offset width b m
   asked (WriteRegister offset width v) b m = writeStep offset width v b m
   asked Control b m = ordered (orderOf (b .rest) m) b m
-  asked (Play host) b m = transferBy output host b m
-  asked (Capture host) b m = transferBy input host b m
+  asked (Play host backlog) b m = transferBy output host backlog b m
+  asked (Capture host backlog) b m = transferBy input host backlog b m
   asked (Event code data′) b m = ended (eventOf (b .rest) code data′ m) b
 
   abbrev pub step : Device Q → Call → Step (Device Q)

@@ -51,8 +51,8 @@ unfoldable pub clears : Direction → Request → Rest → Bool
 clears d (ReadRegister offset width) r = false
 clears d (WriteRegister offset width v) r = clearsQueue d (writeOf (r .registers) offset width v .effect)
 clears d Control r = false
-clears d (Play host) r = false
-clears d (Capture host) r = false
+clears d (Play host backlog) r = false
+clears d (Capture host backlog) r = false
 clears d (Event code data′) r = false
 
 -- the transfer of a direction: its count is a count of payload bytes
@@ -60,10 +60,10 @@ abbrev pub transfers : Direction → Request → Bool
 transfers d (ReadRegister offset width) = false
 transfers d (WriteRegister offset width v) = false
 transfers d Control = false
-transfers output (Play host) = true
-transfers input (Play host) = false
-transfers output (Capture host) = false
-transfers input (Capture host) = true
+transfers output (Play host backlog) = true
+transfers input (Play host backlog) = false
+transfers output (Capture host backlog) = false
+transfers input (Capture host backlog) = true
 transfers d (Event code data′) = false
 
 -- the payload bytes that a call moved on the queue of a direction, and their count

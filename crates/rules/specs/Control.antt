@@ -182,10 +182,13 @@ abbrev pub withStreamIn : ℕ → Stream → Parts → Parts
 withStreamIn i s p = record { jacks = p .jacks; maps = p .maps; streams = set (p .streams) i s }
 
 abbrev pub withState : ℕ → Stream → Stream
-withState v s = record { info = s .info; state = v; params = s .params }
+withState v s = record { info = s .info; state = v; params = s .params; backlog = s .backlog }
 
 abbrev pub withParams : ℕ → Params → Stream → Stream
-withParams v p s = record { info = s .info; state = v; params = p }
+withParams v p s = record { info = s .info; state = v; params = p; backlog = s .backlog }
+
+abbrev pub withBacklog : ℕ → Stream → Stream
+withBacklog v s = record { info = s .info; state = s .state; params = s .params; backlog = v }
 
 -- a stream's entry in the list
 abbrev pub withStream : Rest → ℕ → Stream → Rest

@@ -27,9 +27,9 @@ use Rattle.stream.specs.Queue.{queueIn, countersIn, messageIn, withFlow}
 -- ---- where it is
 
 -- the queue as the guest laid it out
-pub virtqueue-in : (c : Card) (d : Direction) → virtqueueIn (queueIn c d) ≡ virtqueueOf (restOf c) (directionOf d)
+pub virtqueue-in : (c : Card) (d : Direction) (latency : ℕ) → virtqueueIn (queueIn c d latency) ≡ virtqueueOf (restOf c) (directionOf d) latency
 unfolding restOf
-virtqueue-in c d = refl
+virtqueue-in c d latency = refl
 
 -- the rules' queue is the card's counters and message
 pub queue-in : (c : Card) (d : Direction) → rules.queueFor (directionOf d) (deviceOf c) ≡ queueOf (countersIn c d) (messageIn c d)

@@ -31,12 +31,12 @@ kept : (d : Direction) (g : Flow) (c : Card)
 kept Output g c = (refl, refl, refl)
 kept Input g c = (refl, refl, refl)
 
-module _ (c : Card) (d : Direction) (m : List ℕ) (f : Fit c) where
+module _ (c : Card) (d : Direction) (latency : ℕ) (m : List ℕ) (f : Fit c) where
   abbrev way : rules.Direction
   way = directionOf d
 
   abbrev lies : rules.Virtqueue
-  lies = virtqueueOf (restOf c) way
+  lies = virtqueueOf (restOf c) way latency
 
   abbrev own : rules.Queue
   own = rules.queueFor way (deviceOf c)
@@ -57,7 +57,7 @@ module _ (c : Card) (d : Direction) (m : List ℕ) (f : Fit c) where
   unfolding deviceOf
   own-device = with-own-queue way (deviceOf c)
 
-  pub empties-idle : checked ≡ Check.Idle → Empties way c m m (record { stop = Stop.Going; signal = false; card = c })
+  pub empties-idle : checked ≡ Check.Idle → Empties way latency c m m (record { stop = Stop.Going; signal = false; card = c })
   empties-idle h =
       record {
         run = by-check Check.Idle h;
@@ -69,7 +69,7 @@ module _ (c : Card) (d : Direction) (m : List ℕ) (f : Fit c) where
         long = refl;
       }
 
-  pub empties-broken : (cause : Cause) → checked ≡ Check.Broken cause → Empties way c m m (record { stop = Stop.Broke cause; signal = false; card = c })
+  pub empties-broken : (cause : Cause) → checked ≡ Check.Broken cause → Empties way latency c m m (record { stop = Stop.Broke cause; signal = false; card = c })
   empties-broken cause h =
       record {
         run = by-check (Check.Broken cause) h;
@@ -106,7 +106,7 @@ module _ (c : Card) (d : Direction) (m : List ℕ) (f : Fit c) where
         (rw left-queue (release-kept lies n first (counted-of way (c .«ram_len») (countersIn c d) (messageIn c d) (queue-fit c d f))))
         (waits-same way _ _ left-queue (λ h. absurd (true≢false (sym none ∙ h))))
 
-    pub empties-new : Empties way c m m′ (record { stop = g .stop; signal = g .signal; card = withFlow d g c })
+    pub empties-new : Empties way latency c m m′ (record { stop = g .stop; signal = g .signal; card = withFlow d g c })
     unfolding runOf
     empties-new =
         record {

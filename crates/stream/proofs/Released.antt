@@ -14,29 +14,33 @@ use Rattle.stream.proofs.Laws.{rest-with}
 
 module _ (c : Card) (m m′ : List ℕ) (r : Emptied) where
   -- all but the stream queues stays
-  rest-kept : (d : rules.Direction) → Empties d c m m′ r → restOf (r .card) ≡ restOf c
+  rest-kept : (d : rules.Direction) (latency : ℕ) → Empties d latency c m m′ r → restOf (r .card) ≡ restOf c
   unfolding deviceOf
-  rest-kept d e =
+  rest-kept d latency e =
       ap (λ (b : rules.Device rules.Queue). b .rest) (e .device)
       ∙ rest-with d (restOf c) (rules.queueFor d (deviceOf (r .card))) (deviceOf c)
 
   module _ (id : ℕ) (p : Pending) (same : p .rest ≡ restOf c) where
+    -- the latency of its statuses
+    abbrev carried : ℕ
+    carried = rules.streamAt (restOf c) id .backlog
+
     -- what is left to do
     abbrev pub answered : Result
     answered = releasedOf id (withRest (restOf (r .card)) p) m′ (r .stop) (r .signal)
 
     -- with its queue put back, the device is the card's after
     put-back : (d : rules.Direction) (x : rules.Rest)
-        → Empties d c m m′ r
+        → Empties d carried c m m′ r
         → rules.withQueue d x (rules.queueFor d (deviceOf (r .card))) (deviceOf c)
         ≡ record { rest = x; play = deviceOf (r .card) .play; capture = deviceOf (r .card) .capture }
     put-back rules.output x e = rw (ap (λ (b : rules.Device rules.Queue). b .capture) (e .device))
     put-back rules.input x e = rw (ap (λ (b : rules.Device rules.Queue). b .play) (e .device))
 
     -- the rules' Release of a stream
-    pub released-ordered : (d : rules.Direction) → rules.directionOf id ≡ d → Empties d c m m′ r
+    pub released-ordered : (d : rules.Direction) → rules.directionOf id ≡ d → Empties d carried c m m′ r
         → ordered countersOf (ReleaseFirst id p) (deviceOf c) m ≡ ended answered (deviceOf (r .card))
     unfolding releaseStep
     released-ordered d n e =
-        let back : withRest (restOf (r .card)) p ≡ p = ap (λ v. withRest v p) (rest-kept d e ∙ sym same) in
+        let back : withRest (restOf (r .card)) p ≡ p = ap (λ v. withRest v p) (rest-kept d _ e ∙ sym same) in
         rw (back, n, same, e .run, put-back d (releasedOf id (withRest (restOf c) p) m′ (r .stop) (r .signal) .rest) e)

@@ -14,7 +14,7 @@ use Rattle.message.specs.Message.{directionOf}
 use Rattle.message.specs.declared.Virtqueue.{Virtqueue}
 use Rattle.message.specs.declared.Direction.{Direction}
 use Rattle.message.specs.declared.Direction.the-variants.{Output, Input}
-use Rattle.rules.specs.Calls.{emptied, virtqueueOf, noLatency}
+use Rattle.rules.specs.Calls.{emptied, virtqueueOf}
 use Rattle.rules.specs.Counters.{countersOf}
 use Rattle.rules.specs.Device as rules
 use Rattle.flow.specs.declared.Flow.{Flow}
@@ -27,14 +27,14 @@ abbrev pub withRegisters : Registers → Card → Card
 withRegisters v c =
     record { «ram_len» = c .«ram_len»; registers = v; parts = c .parts; queues = c .queues; play = c .play; capture = c .capture }
 
--- the queue of a stream as the guest laid it out
-abbrev pub queueIn : Card → Direction → Virtqueue
-queueIn c d =
+-- the queue of a stream as the guest laid it out, in a call whose statuses carry this latency
+abbrev pub queueIn : Card → Direction → ℕ → Virtqueue
+queueIn c d latency =
     record {
       direction = d;
       page = getD (c .registers .pages) (rules.queueNumber (directionOf d)) (record { 0 = 0 });
       indirect = hasBit (c .registers .features) 28;
-      latency = noLatency;
+      latency = latency;
     }
 
 -- its counters and message in work
@@ -66,11 +66,11 @@ withFlow Input f c =
       capture = f .message;
     }
 
--- ---- a queue emptied: the card and memory before, memory and the card after
+-- ---- a queue emptied, with statuses of this latency: the card and memory before, memory and the card after
 
-pub record Empties (d : rules.Direction) (c : Card) (m m′ : List ℕ) (r : Emptied) : Type 0 where
+pub record Empties (d : rules.Direction) (latency : ℕ) (c : Card) (m m′ : List ℕ) (r : Emptied) : Type 0 where
   -- queue, memory, stop and signal are the rules'
-  pub run : emptied (countersOf d) (virtqueueOf (restOf c) d) (rules.queueFor d (deviceOf c)) m
+  pub run : emptied (countersOf d) (virtqueueOf (restOf c) d latency) (rules.queueFor d (deviceOf c)) m
       ≡ record { queue = rules.queueFor d (deviceOf (r .card)); mem = m′; stop = r .stop; signal = r .signal }
   -- the card is as it was but for that queue
   pub device : deviceOf (r .card) ≡ rules.withQueue d (restOf c) (rules.queueFor d (deviceOf (r .card))) (deviceOf c)

@@ -5,7 +5,8 @@ ghost use lib.ListN.{length};
 ghost use Rattle.card.specs.Fit.{Fit};
 ghost use Rattle.message.specs.Message.{directionOf};
 ghost use Rattle.rules.specs.Answers.{brokenBy};
-ghost use Rattle.rules.specs.Device.{signalledIf};
+ghost use Rattle.meaning.specs.Card.{restOf};
+ghost use Rattle.rules.specs.Device.{signalledIf, streamAt};
 ghost use Rattle.stream.specs.Queue.{queueIn, countersIn, messageIn, withFlow, Empties};
 use card::Card;
 use card::Counters;
@@ -15,9 +16,6 @@ use message::Virtqueue;
 use registers::Registers;
 use ring::Stop;
 use transfer::Flow;
-
-// "latency 0"
-const NO_LATENCY: u32 = 0;
 
 // What a RELEASE made of a stream's queue: where it stands, an interrupt wanted, the card.
 pub struct Emptied {
@@ -46,10 +44,28 @@ pub fn break_by(stop: Stop, registers: Registers) -> Registers
     }
 }
 
-// The queue of a stream as the guest laid it out.
-pub fn virtqueue(card: Card, direction: Direction) -> Virtqueue
+// The backlog that a stream remembers; 0 where it is absent.
+pub fn backlog(card: Card, id: u32) -> u32
     requires { ⌜ Fit card ⌝ }
-    ensures { λ r. ⌜ r ≡ queueIn card direction ⌝ }
+    ensures { λ r. ⌜ r ≡ streamAt (restOf card) id .backlog ⌝ }
+{
+    let parts = card.parts;
+    let i = id as usize;
+    if 2 <= i {
+        return 0;
+    }
+    if parts.stream_count <= i {
+        return 0;
+    }
+    let streams = parts.streams;
+    let stream = streams[i];
+    stream.backlog
+}
+
+// The queue of a stream as the guest laid it out, in a call whose statuses carry this latency.
+pub fn virtqueue(card: Card, direction: Direction, latency: u32) -> Virtqueue
+    requires { ⌜ Fit card ⌝ }
+    ensures { λ r. ⌜ r ≡ queueIn card direction latency ⌝ }
 {
     let registers = card.registers;
     let pages = registers.pages;
@@ -62,7 +78,7 @@ pub fn virtqueue(card: Card, direction: Direction) -> Virtqueue
         direction: direction,
         page: page,
         indirect: indirect,
-        latency: NO_LATENCY,
+        latency: latency,
     }
 }
 
@@ -110,12 +126,12 @@ pub fn with_flow(card: Card, direction: Direction, f: Flow) -> Card
 }
 
 // A RELEASE of a stream, past its checks: its queue is checked, its message in work completed, then
-// all entries there. The interrupt is the caller's to set.
-pub fn empty(card: Card, m: &mut [u8], direction: Direction) -> Emptied
+// all entries there, with statuses of this latency. The interrupt is the caller's to set.
+pub fn empty(card: Card, m: &mut [u8], direction: Direction, latency: u32) -> Emptied
     requires { ⌜ Fit card × (length (now m) ≡ card .«ram_len») ⌝ }
-    ensures { λ r. ⌜ Empties (directionOf direction) card (now (m .entry)) (now (m .exit)) r ⌝ }
+    ensures { λ r. ⌜ Empties (directionOf direction) latency card (now (m .entry)) (now (m .exit)) r ⌝ }
 {
-    let q = virtqueue(card, direction);
+    let q = virtqueue(card, direction, latency);
     let counters = counters_of(card, direction);
     let message = message_of(card, direction);
     let size = message::queue_size(direction);

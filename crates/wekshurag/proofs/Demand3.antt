@@ -43,13 +43,13 @@ module _ (c n : Card) (m : List ℕ) where
         → Does c (record { asked = Control; lent = m }) (toldAll answer 0 nothingRung count [] [] m′) n
     control-does e = record { says = e .0; fit = e .1 }
 
-    pub play-does : (host host′ : List ℕ) → (stepOf c (Play host) m ≡ leaves n answer count (take count host′) host′ m′) × Fit n
-        → Does c (record { asked = Play host; lent = m }) (toldAll answer 0 nothingRung count (take count host′) host′ m′) n
-    play-does host host′ e = record { says = e .0; fit = e .1 }
+    pub play-does : (host host′ : List ℕ) (backlog : ℕ) → (stepOf c (Play host backlog) m ≡ leaves n answer count (take count host′) host′ m′) × Fit n
+        → Does c (record { asked = Play host backlog; lent = m }) (toldAll answer 0 nothingRung count (take count host′) host′ m′) n
+    play-does host host′ backlog e = record { says = e .0; fit = e .1 }
 
-    pub capture-does : (host : List ℕ) → (stepOf c (Capture host) m ≡ leaves n answer count (take count host) [] m′) × Fit n
-        → Does c (record { asked = Capture host; lent = m }) (toldAll answer 0 nothingRung count (take count host) [] m′) n
-    capture-does host e = record { says = e .0; fit = e .1 }
+    pub capture-does : (host : List ℕ) (backlog : ℕ) → (stepOf c (Capture host backlog) m ≡ leaves n answer count (take count host) [] m′) × Fit n
+        → Does c (record { asked = Capture host backlog; lent = m }) (toldAll answer 0 nothingRung count (take count host) [] m′) n
+    capture-does host backlog e = record { says = e .0; fit = e .1 }
 
     pub event-does : (code data′ : ℕ) → (stepOf c (Event code data′) m ≡ leaves n answer count [] [] m′) × Fit n
         → Does c (record { asked = Event code data′; lent = m }) (toldAll answer 0 nothingRung count [] [] m′) n

@@ -117,16 +117,21 @@ pub extern "C" fn wekshurag_control(card: &mut Card, ram: &mut [u8]) -> CallResu
     }
 }
 
-// The play call: payload of the play queue handed to the host buffer.
+// The play call: payload of the play queue handed to the host buffer. The backlog is the host's, in bytes.
 #[no_mangle]
-pub extern "C" fn wekshurag_play(card: &mut Card, ram: &mut [u8], host: &mut [u8]) -> CallResult
+pub extern "C" fn wekshurag_play(
+    card: &mut Card,
+    ram: &mut [u8],
+    host: &mut [u8],
+    backlog: u32,
+) -> CallResult
     requires { ⌜ Fit (now card) ⌝ }
-    ensures { λ r. ⌜ (stepOf (now (card .entry)) (Request.Play (now (host .entry))) (now (ram .entry))
+    ensures { λ r. ⌜ (stepOf (now (card .entry)) (Request.Play (now (host .entry)) backlog) (now (ram .entry))
         ≡ leaves (now (card .exit)) (told r) (r .count) (take (r .count) (now (host .exit))) (now (host .exit)) (now (ram .exit)))
         × Fit (now (card .exit)) ⌝ }
 {
     let before = *card;
-    let after = entries::play(before, ram, host);
+    let after = entries::play(before, ram, host, backlog);
     *card = after.card;
     CallResult {
         answer: after.answer,
@@ -137,14 +142,19 @@ pub extern "C" fn wekshurag_play(card: &mut Card, ram: &mut [u8], host: &mut [u8
 
 // The capture call: host bytes recorded into the payload of the capture queue.
 #[no_mangle]
-pub extern "C" fn wekshurag_capture(card: &mut Card, ram: &mut [u8], host: &[u8]) -> CallResult
+pub extern "C" fn wekshurag_capture(
+    card: &mut Card,
+    ram: &mut [u8],
+    host: &[u8],
+    backlog: u32,
+) -> CallResult
     requires { ⌜ Fit (now card) ⌝ }
-    ensures { λ r. ⌜ (stepOf (now (card .entry)) (Request.Capture (now (host .entry))) (now (ram .entry))
+    ensures { λ r. ⌜ (stepOf (now (card .entry)) (Request.Capture (now (host .entry)) backlog) (now (ram .entry))
         ≡ leaves (now (card .exit)) (told r) (r .count) (take (r .count) (now (host .entry))) [] (now (ram .exit)))
         × Fit (now (card .exit)) ⌝ }
 {
     let before = *card;
-    let after = entries::capture(before, ram, host);
+    let after = entries::capture(before, ram, host, backlog);
     *card = after.card;
     CallResult {
         answer: after.answer,

@@ -33,8 +33,8 @@ control-requires c κs = search needs
 queue-outcome-requires : tie.Need-queue-outcome-requires
 queue-outcome-requires c κs = search needs
 
-enum-told-2 : tie.Need-enum-told-2
-enum-told-2 c = search needs
+enum-known-request-3 : tie.Need-enum-known-request-3
+enum-known-request-3 c = search needs
 
 play-requires : tie.Need-play-requires
 play-requires c κs = search needs
@@ -42,8 +42,8 @@ play-requires c κs = search needs
 queue-outcome-requires-2 : tie.Need-queue-outcome-requires-2
 queue-outcome-requires-2 c κs = search needs
 
-enum-told-3 : tie.Need-enum-told-3
-enum-told-3 c = search needs
+enum-known-request-4 : tie.Need-enum-known-request-4
+enum-known-request-4 c = search needs
 
 capture-requires : tie.Need-capture-requires
 capture-requires c κs = search needs
@@ -51,8 +51,8 @@ capture-requires c κs = search needs
 queue-outcome-requires-3 : tie.Need-queue-outcome-requires-3
 queue-outcome-requires-3 c κs = search needs
 
-enum-known-request-3 : tie.Need-enum-known-request-3
-enum-known-request-3 c = search needs
+enum-known-request-5 : tie.Need-enum-known-request-5
+enum-known-request-5 c = search needs
 
 event-requires : tie.Need-event-requires
 event-requires c κs = search needs
@@ -105,7 +105,7 @@ returns-4 : tie.Need-returns-4
 returns-4 c =
     let e = c .before .before .before .before .before .play in
     let o : c .queue-outcome2 .result ≡ queueOutcome (e .result .answer) (e .result .count) (e .result .card) = c .queue-outcome2 .ensures in
-    rw (c .before .before .before .before .before .before .before .before .enum-told2 .given .1, o) (record { says = e .ensures .0; fit = e .ensures .1 }, refl)
+    rw (c .before .before .before .before .before .before .before .before .before .request3 .given .1, o) (record { says = e .ensures .0; fit = e .ensures .1 }, refl)
 
 same-length-4 : tie.Need-same-length-4
 same-length-4 c = search needs
@@ -117,7 +117,7 @@ returns-5 : tie.Need-returns-5
 returns-5 c =
     let e = c .before .before .before .capture in
     let o : c .queue-outcome3 .result ≡ queueOutcome (e .result .answer) (e .result .count) (e .result .card) = c .queue-outcome3 .ensures in
-    rw (c .before .before .before .before .before .before .enum-told3 .given .1, o) (record { says = e .ensures .0; fit = e .ensures .1 }, refl)
+    rw (c .before .before .before .before .before .before .before .request4 .given .1, o) (record { says = e .ensures .0; fit = e .ensures .1 }, refl)
 
 same-length-6 : tie.Need-same-length-6
 same-length-6 c = search needs
@@ -126,7 +126,7 @@ returns-6 : tie.Need-returns-6
 returns-6 c =
     let e = c .before .before .before .event in
     let o : c .queue-outcome4 .result ≡ queueOutcome (e .result .answer) 0 (e .result .card) = c .queue-outcome4 .ensures in
-    rw (c .before .before .before .before .before .before .request3 .given .1, o) (record { says = e .ensures .0; fit = e .ensures .1 }, refl)
+    rw (c .before .before .before .before .before .before .request5 .given .1, o) (record { says = e .ensures .0; fit = e .ensures .1 }, refl)
 
 pub call-spec : {M : Type 1} → statement M
 call-spec =
@@ -141,13 +141,13 @@ call-spec =
     enum-told
     control-requires
     queue-outcome-requires
-    enum-told-2
+    enum-known-request-3
     play-requires
     queue-outcome-requires-2
-    enum-told-3
+    enum-known-request-4
     capture-requires
     queue-outcome-requires-3
-    enum-known-request-3
+    enum-known-request-5
     event-requires
     queue-outcome-requires-4
     returns

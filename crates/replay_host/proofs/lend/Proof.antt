@@ -1,5 +1,6 @@
 -- No more than the buffer has: a play's N bytes, a capture's HEX, none for the others.
-use Rattle.replay_host.proofs.Laws.{length-poured}
+use Rattle.replay_host.proofs.Laws.{count-to, filled-to}
+use lib.ListN.{length}
 use borrow.Author.Needs.{needs}
 use Rattle.replay_host.proofs.lend.Statement.{statement}
 use Rattle.replay_host.proofs.lend.Tie as tie
@@ -22,14 +23,14 @@ within-requires c κs = search needs
 enum-known-call-2 : tie.Need-enum-known-call-2
 enum-known-call-2 c = search needs
 
-pour-hex-requires : tie.Need-pour-hex-requires
-pour-hex-requires c κs = search needs
-
-hex-count-requires : tie.Need-hex-count-requires
-hex-count-requires c κs = search needs
-
 within-requires-2 : tie.Need-within-requires-2
 within-requires-2 c κs = search needs
+
+slice-aggregate-lend-hex : tie.Need-slice-aggregate-lend-hex
+slice-aggregate-lend-hex c = search needs
+
+lend-hex-requires : tie.Need-lend-hex-requires
+lend-hex-requires c κs = search needs
 
 enum-told-4 : tie.Need-enum-told-4
 enum-told-4 c = search needs
@@ -56,11 +57,19 @@ same-length-2 c = search needs
 
 returns-5 : tie.Need-returns-5
 returns-5 c =
-    let p = c .before .before .before .before .before in
-    let is = p .before .before .before .call2 .given .1 in
-    let w = c .within2 .ensures in (
-      w .0,
-      (rw (is, w .1, c .before .before .hex-count .ensures, p .pour-hex .ensures, length-poured), rw is (p .pour-hex .ensures)),
+    let l = c .before .before .lend-hex .ensures in
+    let w = c .before .before .before .before .before in
+    let call = w .before .before .call2 .given in
+    let line = w .before .before .before .before .before .before .args .s .now in
+    let host = w .before .before .before .before .before .before .args .host .now in
+    let at = call .0 .0 in
+    let behind = call .0 .1 .0 in
+    let end = w .within2 .ensures .1 in (
+      l .0,
+      (
+        rw (call .1) (count-to line behind _ at end _ (length host) (l .1 .0)),
+        rw (call .1) (filled-to line behind _ at end host _ (l .1 .1)),
+      ),
     )
 
 returns-6 : tie.Need-returns-6
@@ -76,9 +85,9 @@ lend-spec =
     enum-known-call
     within-requires
     enum-known-call-2
-    pour-hex-requires
-    hex-count-requires
     within-requires-2
+    slice-aggregate-lend-hex
+    lend-hex-requires
     enum-told-4
     returns
     returns-2

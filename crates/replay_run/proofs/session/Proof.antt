@@ -42,7 +42,7 @@ start c = c .before .before .before .before .before .before
 ends : (c : tie.After-line-end Inv-loop μ-loop) → c .line-end .result ≤ length (start (c .before .before) .args .s .now)
 ends c =
     let h = c .before .before in
-    let w = simp length-drop at (span-within (drop (h .loop .at) (start h .args .s .now))) in
+    let w = simp length-drop at (span-within 10 (drop (h .loop .at) (start h .args .s .now))) in
     omega (arith, w, c .line-end .ensures, h .loop .inv .inside)
 
 -- and the next one starts further on

@@ -14,7 +14,7 @@ start c = c .before .before .before .before .before .before .before
 
 -- the code's check is the rules'
 checks : (c : tie.After-check-queue)
-    → let s = start c in c .check-queue .result ≡ checked (s .args .card) (s .args .direction) (s .args .m .now) (s .pre .0)
+    → let s = start c in c .check-queue .result ≡ checked (s .args .card) (s .args .direction) (s .args .latency) (s .args .m .now) (s .pre .0)
 unfolding restOf
 checks c =
     rw (
@@ -63,7 +63,7 @@ returns : tie.Need-returns
 returns c =
     let k = c .before .before in
     let s = start k in
-    empties-idle (s .args .card) (s .args .direction) (s .args .m .now) (s .pre .0) (sym (checks k) ∙ c .enum-told .given .1)
+    empties-idle (s .args .card) (s .args .direction) (s .args .latency) (s .args .m .now) (s .pre .0) (sym (checks k) ∙ c .enum-told .given .1)
 
 same-length-2 : tie.Need-same-length-2
 same-length-2 c = search needs
@@ -72,7 +72,7 @@ returns-2 : tie.Need-returns-2
 returns-2 c =
     let k = c .before .before .before in
     let s = start k in
-    empties-broken (s .args .card) (s .args .direction) (s .args .m .now) (s .pre .0) _ (sym (checks k) ∙ c .before .cause .given .1)
+    empties-broken (s .args .card) (s .args .direction) (s .args .latency) (s .args .m .now) (s .pre .0) _ (sym (checks k) ∙ c .before .cause .given .1)
 
 same-length-3 : tie.Need-same-length-3
 same-length-3 c = search needs
@@ -89,10 +89,10 @@ returns-3 c =
       k .before .before .before .message-of .ensures,
       k .before .before .before .before .counters-of .ensures,
       k .before .before .before .before .before .virtqueue .ensures,
-      virtqueue-in (a .card) (a .direction),
+      virtqueue-in (a .card) (a .direction) (a .latency),
     ) at (f .release .ensures) in
     rw (c .with-flow .ensures)
-    (empties-new (a .card) (a .direction) (a .m .now) (s .pre .0) (new .new .given .0 .0) (sym (checks k) ∙ new .new .given .1) (s .pre .1) _
+    (empties-new (a .card) (a .direction) (a .latency) (a .m .now) (s .pre .0) (new .new .given .0 .0) (sym (checks k) ∙ new .new .given .1) (s .pre .1) _
     (f .release .result) t)
 
 pub empty-spec : {M : Type 1} → statement M

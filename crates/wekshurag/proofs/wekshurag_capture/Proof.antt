@@ -97,32 +97,33 @@ after-fields = tcons (tyInt w8) (tcons (tyInt w8) (tcons (tyInt w64) (tcons T′
 after-is : S′.mir ≡ tyStruct (S.struct .name) after-fields
 after-is = refl
 
-module _ {M : Type 1} (𝓤 : URA M) (H : Heap 𝓤) (l0 l1 l2 l3 l4 l5 l6 l7 : ℕ) where
+module _ {M : Type 1} (𝓤 : URA M) (H : Heap 𝓤) (l0 l1 l2 l3 l4 l5 l6 l7 l8 : ℕ) where
   abbrev locals : Env 𝓤 H
   locals = (spell table (tyNamed (O.struct .name, [])), l0) ∷ (spell table (tyRef (named 0) mut (tyNamed (T.struct .name, []))), l1) ∷
       (spell table (tyStruct sliceName (tcons (tyRef (named 1) mut (tyInt w8)) (tcons (tyInt w64) tnil))), l2) ∷ (
         spell table (tyStruct
             sliceName (tcons (tyRef (named 2) imm (tyInt w8)) (tcons (tyInt w64) tnil))),
         l3,
-      ) ∷ (
-        spell table (tyNamed (T.struct .name, [])),
-        l4,
-      ) ∷ (spell table (tyNamed (S.struct .name, [])), l5) ∷ (spell table (tyRef erased mut (tyInt w8)), l6) ∷ (
-        spell table (tyStruct
-            sliceName (tcons (tyRef erased mut (tyInt w8)) (tcons (tyInt w64) tnil))),
+      ) ∷ (spell table (tyInt w32), l4) ∷ (
+        spell table
+            (tyNamed (T.struct .name, [])),
+        l5,
+      ) ∷ (spell table (tyNamed (S.struct .name, [])), l6) ∷ (
+        spell table (tyRef erased mut (tyInt
+            w8)),
         l7,
-      ) ∷ []
+      ) ∷ (spell table (tyStruct sliceName (tcons (tyRef erased mut (tyInt w8)) (tcons (tyInt w64) tnil))), l8) ∷ []
 
-  at-answer : fieldOf ((spotOf 𝓤 H locals 5) .0) 0 ≡ some ((tyInt w8), 0)
+  at-answer : fieldOf ((spotOf 𝓤 H locals 6) .0) 0 ≡ some ((tyInt w8), 0)
   at-answer = refl
 
-  at-queue : fieldOf ((spotOf 𝓤 H locals 5) .0) 1 ≡ some ((tyInt w8), 1)
+  at-queue : fieldOf ((spotOf 𝓤 H locals 6) .0) 1 ≡ some ((tyInt w8), 1)
   at-queue = refl
 
-  at-count : fieldOf ((spotOf 𝓤 H locals 5) .0) 2 ≡ some ((tyInt w64), 8)
+  at-count : fieldOf ((spotOf 𝓤 H locals 6) .0) 2 ≡ some ((tyInt w64), 8)
   at-count = refl
 
-  at-card : fieldOf ((spotOf 𝓤 H locals 5) .0) 3 ≡ some (T′.mir, 16)
+  at-card : fieldOf ((spotOf 𝓤 H locals 6) .0) 3 ≡ some (T′.mir, 16)
   at-card = refl
 
 abbrev stayed : Stays (f.ended .signature .params) (f.ended .kept)
@@ -133,7 +134,7 @@ stayed = (
     (
       stay-dropped (shrSliceOf (2 ∷ []) tt
           (plain (λ _. u8))) yes,
-      tt,
+      (stay-none (λ _. u32) yes, tt),
     ),
   ),
 )
@@ -144,12 +145,12 @@ By 𝓤 H A at-mem run = tripleOf 𝓤 H A g.signature (g.spec 𝓤 H A at-mem r
 
 module _ {M : Type 1} (𝓤 : URA M) (H : Heap 𝓤) (A : Atoms 𝓤) (W : Given 𝓤 H A) (at-mem : Memory → SProp 𝓤) (run : Routine → Fun 𝓤) (κ :
     Lft) (q : Share) (b o : ℕ) (γ : GName) (h : Card) (κ0 : Lft) (q0 : Share) (κ1 : Lft) (q1 : Share) (x0 : RefT (List ℕ)) (x1 : RefT
-    (List ℕ)) where
+    (List ℕ)) (x2 : ℕ) (fits2 : x2 < 2 ^ 32) where
   abbrev Args : Type 0
-  Args = RefT Card × (RefT (List ℕ) × (RefT (List ℕ) × (Unit {0})))
+  Args = RefT Card × (RefT (List ℕ) × (RefT (List ℕ) × (ℕ × (Unit {0}))))
 
   abbrev x : Args
-  x = (record { ptr = (b, o); name = γ; now = h }, (x0, (x1, tt)))
+  x = (record { ptr = (b, o); name = γ; now = h }, (x0, (x1, (x2, tt))))
 
   abbrev s0 : Val
   s0 = sliceVal (x0 .ptr) (length (x0 .now))
@@ -160,8 +161,8 @@ module _ {M : Type 1} (𝓤 : URA M) (H : Heap 𝓤) (A : Atoms 𝓤) (W : Given
   abbrev mach : Card → Val
   mach c = LL.val T.the-type T′.the-laws c
 
-  abbrev at : List Val × (List Val × (List Val × (Unit {0})))
-  at = (vptr b o ∷ [], (s0 ∷ [], (s1 ∷ [], tt)))
+  abbrev at : List Val × (List Val × (List Val × (List Val × (Unit {0}))))
+  at = (vptr b o ∷ [], (s0 ∷ [], (s1 ∷ [], ((vint w32 x2) ∷ [], tt))))
 
   abbrev told : QueueAnswer → CallResult
   told r = (record { answer = (r .answer); queue = (r .queue); count = (r .count) })
@@ -171,15 +172,28 @@ module _ {M : Type 1} (𝓤 : URA M) (H : Heap 𝓤) (A : Atoms 𝓤) (W : Given
 
   -- what the callee's triple binds outside, and that the caller has what it asks
   abbrev to : By 𝓤 H A at-mem run .Ghost
-  to = (((κ0, (κ1, tt)), (q0, (q1, tt)), tt, (h, (x0, (x1, tt))), (mach h ∷ [], (s0 ∷ [], (s1 ∷ [], tt)))), tt)
+  to = (((κ0, (κ1, tt)), (q0, (q1, tt)), tt, (h, (x0, (x1, (x2, tt)))), (mach h ∷ [], (s0 ∷ [], (s1 ∷ [], ((vint w32 x2) ∷ [], tt))))), tt)
 
   goes-by : Fit h → ent 𝓤 (sep 𝓤 (sep 𝓤 (A .lft κ0 q0) (sep 𝓤 (A .lft κ1 q1) (sem 𝓤 H A ftrue))) (sem 𝓤 H A (owns (T.the-row ∷ MutSlice
-      (named 0) κ0 u8 ∷ ShrSlice (named 1) κ1 u8 ∷ []) (h, (x0, (x1, tt))) (mach h ∷ [], (s0 ∷ [], (s1 ∷ [], tt)))))) (By 𝓤 H A at-mem
-      run .pre to)
+      (named 0) κ0 u8 ∷ ShrSlice (named 1) κ1 u8 ∷ u32 ∷ []) (h, (x0, (x1, (x2, tt)))) (
+        mach h ∷ [],
+        (
+          s0 ∷ [],
+          (
+            s1 ∷ [],
+            (
+              (vint w32 x2)
+                  ∷ [],
+              tt,
+            ),
+          ),
+        ),
+      )))) (By 𝓤 H A at-mem run .pre to)
   goes-by fit = qed W ((‵ (flft κ0 q0) ⊛ ‵ (flft κ1 q1) ⊛ ‵ ftrue) ∷ ‵ (owns (T.the-row ∷ MutSlice (named 0) κ0 u8 ∷ ShrSlice (named 1) κ1
-      u8 ∷ []) (h, (x0, (x1, tt))) (mach h ∷ [], (s0 ∷ [], (s1 ∷ [], tt)))) ∷ []) ∵ says ! fit $ frame ! $ done !
+      u8 ∷ u32 ∷ []) (h, (x0, (x1, (x2, tt)))) (mach h ∷ [], (s0 ∷ [], (s1 ∷ [], ((vint w32 x2) ∷ [], tt))))) ∷ []) ∵ says ! fit $ frame
+      ! $ done !
 
-  exits : (r : QueueAnswer) (z0 : List ℕ) → (stepOf h (Request.Capture (x1 .now)) (x0 .now) ≡ leaves (r .card) (answered r) (r .count)
+  exits : (r : QueueAnswer) (z0 : List ℕ) → (stepOf h (Request.Capture (x1 .now) x2) (x0 .now) ≡ leaves (r .card) (answered r) (r .count)
       (take (r .count) (x1 .now)) [] z0) × Fit (r .card) → length z0 ≡ length (x0 .now) → Is u8 (r .answer) ((vint w8 (r .answer)) ∷ [])
       → Is u8 (r .queue) ((vint w8 (r .queue)) ∷ []) → Is usize (r .count) ((vint w64 (r .count)) ∷ []) → ent 𝓤 (⋆ 𝓤 H A (‵ (fobs γ
       (T.the-row .coded .code (r .card))) ∷ ‵ (fbor κ (Body (mem T.the-row) b o γ)) ∷ ‵ (flft κ q) ∷ (‵ (flft κ0 q0) ⊛ ‵ (flft κ1 q1) ⊛
@@ -193,10 +207,11 @@ module _ {M : Type 1} (𝓤 : URA M) (H : Heap 𝓤) (A : Atoms 𝓤) (W : Given
         tt,
       ) (vstruct (vcons (vint w8 (r .answer)) (vcons (vint w8 (r .queue)) (vcons (vint w64 (r .count)) vnil)))) (told r) (
         (r .card),
-        (z0, (tt, tt)),
-      ) (tt, (l0, (tt, tt)))) $ says ! e $
-      move ! (2 ∷ 3 ∷ []) $ join ! $ frame ! $ feqI ! (List Val) (vptr b o ∷ []) (vptr b o ∷ []) refl $ fjoin3 ! $ nothing ! $ nothing ! $
-      fjoin ! $ move ! (2 ∷ 0 ∷ []) $ fjoin ! $ move ! (1 ∷ 0 ∷ []) $ fjoin ! $
+        (z0, (tt, (tt, tt))),
+      ) (tt, (l0, (tt, (tt, tt))))) $ says ! e $
+      move ! (2 ∷ 3 ∷ []) $ join ! $ frame ! $ feqI ! (List Val) (vptr b o ∷ []) (vptr b o ∷ []) refl $ fjoin3 ! $ nothing ! $ owned ! u32
+      (Is u32) (uint-makes 𝓤 H A W w32) x2 _ (refl, fits2) $ fjoin ! $ nothing ! $ fjoin ! $ move ! (2 ∷ 0 ∷ []) $ fjoin ! $ move ! (1 ∷ 0
+      ∷ []) $ fjoin ! $
       owned ! O.the-row (Is O.the-row) (LL.makes O.the-type O′.the-plain 𝓤 H A) (told r) _ (LL.owes O.the-type O′.the-laws (told r)
       (is-answer, (is-queue, (is-count, tt)))) $ move ! (1 ∷ 0 ∷ []) $ done !
 
@@ -207,29 +222,29 @@ module _ {M : Type 1} (𝓤 : URA M) (H : Heap 𝓤) (A : Atoms 𝓤) (W : Given
         q0,
         (q1, tt),
       ),
-    ) x at) (WpFn 𝓤 H C Λ code.function (vptr b o ∷ s0 ∷ s1 ∷ []) Post)
+    ) x at) (WpFn 𝓤 H C Λ code.function (vptr b o ∷ s0 ∷ s1 ∷ (vint w32 x2) ∷ []) Post)
     walk room0 room1 fit =
         qed W ((‵ (flft κ q) ⊛ ‵ (flft κ0 q0) ⊛ ‵ (flft κ1 q1) ⊛ ‵ ftrue) ∷ ‵ (owns (MutRef (named 0) κ T.the-row ∷ MutSlice (named 1) κ0
-        u8 ∷ ShrSlice (named 2) κ1 u8 ∷ []) x at) ∷ []) ∵ split ! $ move ! (2 ∷ []) $ fsplit ! $ fsplit3 ! $ drop ! $ move ! (0 ∷ 1 ∷ 3 ∷
-        []) $
+        u8 ∷ ShrSlice (named 2) κ1 u8 ∷ u32 ∷ []) x at) ∷ []) ∵ split ! $ move ! (2 ∷ []) $ fsplit ! $ fsplit3 ! $ drop ! $ move ! (0 ∷ 1
+        ∷ 3 ∷ []) $
         -- [obs; the card's borrow; its token; what the other parameters own; the other tokens]
-        enter ! C Λ code.function (vptr b o ∷ s0 ∷ s1 ∷ []) _ $
+        enter ! C Λ code.function (vptr b o ∷ s0 ∷ s1 ∷ (vint w32 x2) ∷ []) _ $
         alloc1 ! (λ l0. alloc1 ! (λ l1. alloc1 ! (λ l2. alloc1 ! (λ l3. alloc1 ! (λ l4. alloc1 ! (λ l5. alloc1 ! (λ l6. alloc1 ! (λ l7.
-        alloc0 ! $ params1 ! $
-        pass1 ! (init ! 12 refl (tt, tt)) $ pass1 ! (init ! 10 refl (tt, (tt, (record { fits = room0 .0 }, tt)))) $ pass1 ! (init ! 8 refl
-        (tt, (tt, (record { fits = room1 .0 }, tt)))) $ pass0 ! $
-        move ! (16 ∷ 17 ∷ 18 ∷ []) $ opens ! tt T.the-row {h = h} b o (λ vs. spelt ! T.the-row (Is T.the-row) (shows 𝓤 H A T.the-row)
+        alloc1 ! (λ l8. alloc0 ! $ params1 ! $
+        pass1 ! (init ! 14 refl (tt, tt)) $ pass1 ! (init ! 12 refl (tt, (tt, (record { fits = room0 .0 }, tt)))) $ pass1 ! (init ! 10
+        refl (tt, (tt, (record { fits = room1 .0 }, tt)))) $ pass1 ! (init ! 8 refl (tt, record { fits = fits2 })) $ pass0 ! $
+        move ! (18 ∷ 19 ∷ 20 ∷ []) $ opens ! tt T.the-row {h = h} b o (λ vs. spelt ! T.the-row (Is T.the-row) (shows 𝓤 H A T.the-row)
         (LL.vals T.the-type T′.the-laws) (LL.tells T.the-type T′.the-laws) fullShare h vs b o $
         move ! (1 ∷ []) $ peeks ! T.the-row (Is T.the-row) (shows 𝓤 H A T.the-row) h (LL.vals T.the-type T′.the-laws h) (λ was. move ! (1
         ∷ 0 ∷ []) $
         -- [the card's cell; what it owns; the open borrow; obs; auth; the locals, the last first, each with what frees it;
-        --  what the other parameters own (21); the other tokens]
-        assigns ! (of-opd ! (load ! (from ! (hop ! (look ! 17 refl) (stop !))) (look-raw ! 0 refl))) (from ! (stop !)) (init ! 11 refl
+        --  what the other parameters own (23); the other tokens]
+        assigns ! (of-opd ! (load ! (from ! (hop ! (look ! 19 refl) (stop !))) (look-raw ! 0 refl))) (from ! (stop !)) (init ! 11 refl
         (LL.lawful T.the-type T′.the-laws 𝓤 H A W .typed h _ was .0)) $
-        assigns ! (addr ! (from ! (fld ! refl (hop ! (look-in ! 15 (sub ! 0 refl (whole !))) (stop !))))) (from ! (stop !)) (init ! 7 refl
+        assigns ! (addr ! (from ! (fld ! refl (hop ! (look-in ! 17 (sub ! 0 refl (whole !))) (stop !))))) (from ! (stop !)) (init ! 7 refl
         (tt, tt)) $
         assigns ! (agg ! (and-then ! (load ! (from ! (stop !)) (look ! 7 refl)) (and-then ! (load ! (from ! (fld ! refl (stop !)))
-        (look-in ! 15 (sub ! 1 refl (whole !)))) (no-more !)))) (from ! (stop !)) (init ! 5 refl (
+        (look-in ! 17 (sub ! 1 refl (whole !)))) (no-more !)))) (from ! (stop !)) (init ! 5 refl (
           tt,
           (
             tt,
@@ -239,33 +254,35 @@ module _ {M : Type 1} (𝓤 : URA M) (H : Heap 𝓤) (A : Atoms 𝓤) (W : Given
             ),
           ),
         )) $
-        move ! (1 ∷ 21 ∷ []) $ fjoin ! $ move ! (21 ∷ 0 ∷ []) $ use2 W (raw (By 𝓤 H A at-mem run .pre to)) (goes-by fit) $
+        move ! (1 ∷ 23 ∷ []) $ fjoin ! $ move ! (23 ∷ 0 ∷ []) $ use2 W (raw (By 𝓤 H A at-mem run .pre to)) (goes-by fit) $
         calls-at ! fm (By 𝓤 H A at-mem run) known to (and-then ! (load ! (from ! (stop !)) (look ! 11 refl)) (and-then ! (load ! (from !
-        (stop !)) (look ! 5 refl)) (and-then ! (load ! (from ! (stop !)) (look ! 13 refl)) (no-more !)))) (λ w.
+        (stop !)) (look ! 5 refl)) (and-then ! (load ! (from ! (stop !)) (look ! 15 refl)) (and-then ! (load ! (from ! (stop !)) (look !
+        13 refl)) (no-more !))))) (λ w.
         use1 W (later (any (λ (r : QueueAnswer). ((‵ (flft κ0 q0) ⊛ ‵ (flft κ1 q1) ⊛ ‵ ftrue) ⊛ ‵ (S.the-row .own r (w ∷ []))) ⊛ raw
-        (ensured 𝓤 H A g.ended (g.clauses 𝓤 H A at-mem run) (κ0, (κ1, tt)) (h, (x0, (x1, tt))) tt r)))) (id⊢ 𝓤 _) $ await ! tt $ pick ! (λ
-        r.
-        split ! $ move ! (1 ∷ []) $ use1 W (any (λ (zs : Unit {0} × (List ℕ × (Unit {0} × (Unit {0})))). ‵ (lasts g.ended (κ0, (κ1, tt))
-        (h, (x0, (x1, tt))) zs) ⊛ raw (fact 𝓤 ((stepOf h (Request.Capture (x1 .now)) (x0 .now) ≡ leaves (r .card) (answered r) (r .count)
-        (take (r .count) (x1 .now)) [] (zs .1 .0)) × Fit (r .card))))) (id⊢ 𝓤 _) $ pick ! (λ zs.
-        split ! $ move ! (1 ∷ []) $ heard ! ((stepOf h (Request.Capture (x1 .now)) (x0 .now) ≡ leaves (r .card) (answered r) (r .count)
+        (ensured 𝓤 H A g.ended (g.clauses 𝓤 H A at-mem run) (κ0, (κ1, tt)) (h, (x0, (x1, (x2, tt)))) tt r)))) (id⊢ 𝓤 _) $ await ! tt $
+        pick ! (λ r.
+        split ! $ move ! (1 ∷ []) $ use1 W (any (λ (zs : Unit {0} × (List ℕ × (Unit {0} × (Unit {0} × (Unit {0}))))). ‵ (lasts g.ended
+        (κ0, (κ1, tt)) (h, (x0, (x1, (x2, tt)))) zs) ⊛ raw (fact 𝓤 ((stepOf h (Request.Capture (x1 .now) x2) (x0 .now) ≡ leaves (r .card)
+        (answered r) (r .count) (take (r .count) (x1 .now)) [] (zs .1 .0)) × Fit (r .card))))) (id⊢ 𝓤 _) $ pick ! (λ zs.
+        split ! $ move ! (1 ∷ []) $ heard ! ((stepOf h (Request.Capture (x1 .now) x2) (x0 .now) ≡ leaves (r .card) (answered r) (r .count)
         (take (r .count) (x1 .now)) [] (zs .1 .0)) × Fit (r .card)) (λ e.
-        fsplit ! $ drop ! $ fsplit ! $ fsplit ! $ move ! (1 ∷ []) $ feqL ! (λ same0. move ! (1 ∷ []) $ fsplit ! $ drop ! $ drop ! $
+        fsplit ! $ drop ! $ fsplit ! $ fsplit ! $ move ! (1 ∷ []) $ feqL ! (λ same0. move ! (1 ∷ []) $ fsplit ! $ drop ! $ fsplit ! $ drop
+        ! $ drop ! $
         -- [the last lists, the last first; the tokens and the result; the card's cell; the open borrow; obs; auth; the locals]
         move ! (1 ∷ []) $ split ! $ move ! (1 ∷ []) $ peeks ! S.the-row (Is S.the-row) (shows 𝓤 H A S.the-row) r (w ∷ []) (λ is.
         let fields = LL.owed S.the-type S′.the-laws r (w ∷ []) is in
         land ! (from ! (stop !)) (init ! 11 refl (LL.lawful S.the-type S′.the-laws 𝓤 H A W .typed r _ is .0)) $
-        rewrite ! 11 (λ (v : Val). ‵ (fat fullShare S′.mir l5 0 v)) (ap only (LL.tells S.the-type S′.the-laws r (w ∷ []) is)) refl $
-        rewrite ! 11 (λ (τ : Ty). ‵ (fat fullShare τ l5 0 (LL.val S.the-type S′.the-laws r))) after-is refl $
-        assigns ! (of-opd ! (load ! (from ! (fld ! {τ = T′.mir} {d = 16} (at-card 𝓤 H l0 l1 l2 l3 l4 l5 l6 l7) (stop !))) (look-in ! 11
-        (sub ! {τs = after-fields} 3 {τ = T′.mir} {d = 16} refl (whole !))))) (from ! (hop ! (look ! 19 refl) (stop !))) (store-raw ! 3
+        rewrite ! 11 (λ (v : Val). ‵ (fat fullShare S′.mir l6 0 v)) (ap only (LL.tells S.the-type S′.the-laws r (w ∷ []) is)) refl $
+        rewrite ! 11 (λ (τ : Ty). ‵ (fat fullShare τ l6 0 (LL.val S.the-type S′.the-laws r))) after-is refl $
+        assigns ! (of-opd ! (load ! (from ! (fld ! {τ = T′.mir} {d = 16} (at-card 𝓤 H l0 l1 l2 l3 l4 l5 l6 l7 l8) (stop !))) (look-in ! 11
+        (sub ! {τs = after-fields} 3 {τ = T′.mir} {d = 16} refl (whole !))))) (from ! (hop ! (look ! 21 refl) (stop !))) (store-raw ! 3
         refl (LL.lawful T.the-type T′.the-laws 𝓤 H A W .typed (r .card) _ (fields .1 .1 .1 .0) .0)) $
-        assigns ! (agg ! (and-then ! (load ! (from ! (fld ! {τ = (tyInt w8)} {d = 0} (at-answer 𝓤 H l0 l1 l2 l3 l4 l5 l6 l7) (stop !)))
+        assigns ! (agg ! (and-then ! (load ! (from ! (fld ! {τ = (tyInt w8)} {d = 0} (at-answer 𝓤 H l0 l1 l2 l3 l4 l5 l6 l7 l8) (stop !)))
         (look-in ! 11 (sub ! {τs = after-fields} 0 {τ = (tyInt w8)} {d = 0} refl (whole !)))) (and-then ! (load ! (from ! (fld ! {τ =
-        (tyInt w8)} {d = 1} (at-queue 𝓤 H l0 l1 l2 l3 l4 l5 l6 l7) (stop !))) (look-in ! 11 (sub ! {τs = after-fields} 1 {τ = (tyInt w8)}
-        {d = 1} refl (whole !)))) (and-then ! (load ! (from ! (fld ! {τ = (tyInt w64)} {d = 8} (at-count 𝓤 H l0 l1 l2 l3 l4 l5 l6 l7)
-        (stop !))) (look-in ! 11 (sub ! {τs = after-fields} 2 {τ = (tyInt w64)} {d = 8} refl (whole !)))) (no-more !))))) (from ! (stop
-        !)) (init ! 21 refl (
+        (tyInt w8)} {d = 1} (at-queue 𝓤 H l0 l1 l2 l3 l4 l5 l6 l7 l8) (stop !))) (look-in ! 11 (sub ! {τs = after-fields} 1 {τ = (tyInt
+        w8)} {d = 1} refl (whole !)))) (and-then ! (load ! (from ! (fld ! {τ = (tyInt w64)} {d = 8} (at-count 𝓤 H l0 l1 l2 l3 l4 l5 l6 l7
+        l8) (stop !))) (look-in ! 11 (sub ! {τs = after-fields} 2 {τ = (tyInt w64)} {d = 8} refl (whole !)))) (no-more !))))) (from !
+        (stop !)) (init ! 23 refl (
           tt,
           (
             record { fits = fields .0 .1 },
@@ -273,7 +290,8 @@ module _ {M : Type 1} (𝓤 : URA M) (H : Heap 𝓤) (A : Atoms 𝓤) (W : Given
               record { fits = fields .1 .0 .1 },
               (
                 record {
-                  fits = fields .1 .1 .0 .1;
+                  fits = fields .1 .1
+                      .0 .1;
                 },
                 tt,
               ),
@@ -282,29 +300,30 @@ module _ {M : Type 1} (𝓤 : URA M) (H : Heap 𝓤) (A : Atoms 𝓤) (W : Given
         )) $
         drop ! $ owned ! T.the-row (Is T.the-row) (LL.makes T.the-type T′.the-plain 𝓤 H A) (r .card) _ (fields .1 .1 .1 .0) $ move ! (3 ∷
         0 ∷ 4 ∷ 5 ∷ 6 ∷ []) $ closes ! tt T.the-row (r .card) (LL.vals T.the-type T′.the-laws (r .card)) b o $
-        returns ! (look ! 19 refl) $ forget ! 5 refl $ forget ! 7 refl $ forget ! 9 refl $ forget ! 11 refl $ forget ! 13 refl $ forget !
-        15 refl $ forget ! 17 refl $ forget ! 19 refl $
-        move ! (19 ∷ 20 ∷ []) $ free1 ! $ move ! (17 ∷ 18 ∷ []) $ free1 ! $ move ! (15 ∷ 16 ∷ []) $ free1 ! $ move ! (13 ∷ 14 ∷ []) $
-        free1 ! $ move ! (11 ∷ 12 ∷ []) $ free1 ! $ move ! (9 ∷ 10 ∷ []) $ free1 ! $ move ! (7 ∷ 8 ∷ []) $ free1 ! $ move ! (5 ∷ 6 ∷ []) $
-        free1 ! $ free0 ! $
-        keep ! (0 ∷ 1 ∷ 2 ∷ 3 ∷ 4 ∷ []) $ by ! (exits r (zs .1 .0) e same0 (fields .0) (fields .1 .0) (fields .1 .1 .0))))))))))))))))))
+        returns ! (look ! 21 refl) $ forget ! 5 refl $ forget ! 7 refl $ forget ! 9 refl $ forget ! 11 refl $ forget ! 13 refl $ forget !
+        15 refl $ forget ! 17 refl $ forget ! 19 refl $ forget ! 21 refl $
+        move ! (21 ∷ 22 ∷ []) $ free1 ! $ move ! (19 ∷ 20 ∷ []) $ free1 ! $ move ! (17 ∷ 18 ∷ []) $ free1 ! $ move ! (15 ∷ 16 ∷ []) $
+        free1 ! $ move ! (13 ∷ 14 ∷ []) $ free1 ! $ move ! (11 ∷ 12 ∷ []) $ free1 ! $ move ! (9 ∷ 10 ∷ []) $ free1 ! $ move ! (7 ∷ 8 ∷ [])
+        $ free1 ! $ move ! (5 ∷ 6 ∷ []) $ free1 ! $ free0 ! $
+        keep ! (0 ∷ 1 ∷ 2 ∷ 3 ∷ 4 ∷ []) $ by ! (exits r (zs .1 .0) e same0 (fields .0) (fields .1 .0) (fields .1 .1 .0)))))))))))))))))))
 
 module _ {M : Type 1} (𝓤 : URA M) (H : Heap 𝓤) (A : Atoms 𝓤) (W : Given 𝓤 H A) (at-mem : Memory → SProp 𝓤) (run : Routine → Fun 𝓤) where
   walks : (C : Calls 𝓤 H) (Λ : Loops 𝓤 H) → FmC 𝓤 H (W .laws) C → Triple 𝓤 (C #g) (By 𝓤 H A at-mem run) → Walks 𝓤 H A f.ended stayed (WpFn
       𝓤 H C Λ code.function) (f.clauses 𝓤 H A at-mem run)
   walks C Λ fm known = walked 𝓤 H A f.ended stayed (f.clauses 𝓤 H A at-mem run) (WpFn 𝓤 H C Λ code.function) (λ κs. (
     ptr-vals,
-    (slice-vals, (slice-vals, tt)),
+    (slice-vals, (slice-vals, (uint-vals w32, tt))),
   )) (λ κs. (
     mut-tells (named 0) (κs .0) T.the-row,
     (
-      mut-slice-tells (named 1) (κs .1 .0) u8,
-      (shr-slice-tells (named 2) (κs .1 .1 .0) u8, tt),
+      mut-slice-tells (named 1) (κs .1
+          .0) u8,
+      (shr-slice-tells (named 2) (κs .1 .1 .0) u8, (uint-tells w32, tt)),
     ),
   ))
       (λ κs qs bounds a g are. needs 𝓤 (Fit (a .0 .now)) _ (λ fit. walk 𝓤 H A W at-mem run (κs .0) (qs .0) (a .0 .ptr .0) (a .0 .ptr .1)
-      (a .0 .name) (a .0 .now) (κs .1 .0) (qs .1 .0) (κs .1 .1 .0) (qs .1 .1 .0) (a .1 .0) (a .1 .1 .0) C Λ fm known (are .1 .0 .0 .1)
-      (are .1 .1 .0 .0 .1) fit))
+      (a .0 .name) (a .0 .now) (κs .1 .0) (qs .1 .0) (κs .1 .1 .0) (qs .1 .1 .0) (a .1 .0) (a .1 .1 .0) (a .1 .1 .1 .0) (are .1 .1 .1 .0
+      .1) C Λ fm known (are .1 .0 .0 .1) (are .1 .1 .0 .0 .1) fit))
 
   goes : AllGo 𝓤 H A W 3 (f.signature .params) (f.ended .kept) stayed
   goes = (
@@ -314,7 +333,7 @@ module _ {M : Type 1} (𝓤 : URA M) (H : Heap 𝓤) (A : Atoms 𝓤) (W : Given
       (
         goes-dropped 𝓤 H A W 3
             (shrSliceOf (2 ∷ []) tt (plain (λ _. u8))) yes (λ κs x f. refl),
-        tt,
+        (goes-none 𝓤 H A W 3 (λ _. u32) yes (λ κs x f. refl), tt),
       ),
     ),
   )
