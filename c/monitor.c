@@ -72,6 +72,15 @@ static void plug_in(void)
     expect(wekshurag_power_up(&card, &d, RAM) == WEKSHURAG_DONE, "the description was refused");
 }
 
+/* A call that was not done: why, and with a broken queue which one. */
+static void log_answer(const char *call, struct wekshurag_result r)
+{
+    fprintf(stderr, "monitor: %s: answer %u, %s", call, (unsigned)r.answer, wekshurag_answer_text(r.answer));
+    if (r.queue != WEKSHURAG_NO_QUEUE)
+        fprintf(stderr, " (%s queue)", wekshurag_queue_text(r.queue));
+    fprintf(stderr, "\n");
+}
+
 /* The guest's read of the card's I/O space. */
 static uint32_t guest_reads(uint32_t offset, uint32_t width)
 {
@@ -92,7 +101,7 @@ static void guest_writes(uint32_t offset, uint32_t width, uint32_t value)
             set_line();
         } while (r.count == 1);
         if (r.answer != WEKSHURAG_DONE)
-            fprintf(stderr, "monitor: control answered %u\n", (unsigned)r.answer);
+            log_answer("control", r);
     }
 }
 
@@ -107,7 +116,7 @@ static size_t host_plays(void)
     r = wekshurag_play(&card, ram, RAM, host, sizeof host, backlog);
     set_line();
     if (r.answer != WEKSHURAG_DONE)
-        fprintf(stderr, "monitor: play answered %u\n", (unsigned)r.answer);
+        log_answer("play", r);
     expect(r.count <= sizeof heard - heard_len, "more is played than the guest put");
     memcpy(heard + heard_len, host, r.count);
     heard_len += r.count;
@@ -121,7 +130,7 @@ static size_t host_records(const uint8_t host[PERIOD])
     struct wekshurag_result r = wekshurag_capture(&card, ram, RAM, host, PERIOD, 0);
     set_line();
     if (r.answer != WEKSHURAG_DONE)
-        fprintf(stderr, "monitor: capture answered %u\n", (unsigned)r.answer);
+        log_answer("capture", r);
     return r.count;
 }
 

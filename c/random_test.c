@@ -4,9 +4,9 @@
  * pages, messages.
  *
  * Checked of each call: its answer is one that it may give, its count is possible, a refused call and one that is lent memory of another
- * length leave memory and host buffer alone, what must only be read is only read, a broken queue raises the line; the same call on a
- * copy of the card and of memory does the same. Card, memory and host buffer each end at a page that can't be touched and begin behind
- * bytes that must keep their value. At the end: every answer was seen, and bytes were played and recorded.
+ * length leave memory and host buffer alone, what must only be read is only read, a broken queue is named and raises the line; the same
+ * call on a copy of the card and of memory does the same. Card, memory and host buffer each end at a page that can't be touched and begin
+ * behind bytes that must keep their value. At the end: every answer was seen, and bytes were played and recorded.
  */
 #ifndef _DEFAULT_SOURCE
 #define _DEFAULT_SOURCE
@@ -96,8 +96,8 @@ static uint8_t ram_before[MAX_RAM], host_before[MAX_HOST], ram_copy[MAX_RAM], ho
 
 static void answered(unsigned answer, const char *lawful, const char *what)
 {
-    static const char digits[] = "0123456789a";
-    check(answer <= 10 && strchr(lawful, digits[answer]) != NULL, what);
+    static const char digits[] = "0123456789abc";
+    check(answer <= 12 && strchr(lawful, digits[answer]) != NULL, what);
     seen[answer]++;
     calls++;
 }
@@ -141,13 +141,28 @@ static struct wekshurag_result make(struct call c, struct wekshurag_card *on, ui
     }
 }
 
+/* Whether a call of this kind can find this queue broken: a RELEASE looks at its stream's too. */
+static bool names(char kind, unsigned queue)
+{
+    switch (kind) {
+    case 'p':
+        return queue == WEKSHURAG_PLAY_QUEUE;
+    case 'c':
+        return queue == WEKSHURAG_CAPTURE_QUEUE;
+    case 'e':
+        return queue == WEKSHURAG_EVENT_QUEUE;
+    default:
+        return queue == WEKSHURAG_CONTROL_QUEUE || queue == WEKSHURAG_PLAY_QUEUE || queue == WEKSHURAG_CAPTURE_QUEUE;
+    }
+}
+
 static struct wekshurag_result call(struct call c)
 {
-    const char *lawful = c.kind == 'k' ? "0159" : c.kind == 'e' ? "015789" : "01569";
+    const char *lawful = c.kind == 'k' ? "0159bc" : c.kind == 'e' ? "015789bc" : "01569bc";
     size_t lent = ram_len > 0 && one_in(64) ? below((uint32_t)ram_len) : ram_len;
     struct wekshurag_card copy = *card;
     struct wekshurag_result r, again;
-    bool twice = one_in(8), refused;
+    bool twice = one_in(8), refused, broken;
     lend(&host_pages, c.host_len);
     for (size_t i = 0; i < c.host_len; i++)
         host_pages.at[i] = (uint8_t)(i * 7 + calls);
@@ -158,19 +173,21 @@ static struct wekshurag_result call(struct call c)
     refused = r.answer >= 1 && r.answer <= 7;
     check((r.answer == WEKSHURAG_RAM_LENGTH) == (lent != ram_len), "the length of memory");
     check(!refused || memcmp(ram_before, ram, ram_len) == 0, "a refused call wrote memory");
-    check(r.count == 0 || r.answer == 0 || r.answer == 9, "a refused call counts");
+    broken = r.answer == WEKSHURAG_REGION_PAST_RAM || r.answer == WEKSHURAG_TOO_MANY_ENTRIES || r.answer == WEKSHURAG_HEAD_PAST_TABLE;
+    check(r.count == 0 || r.answer == 0 || broken, "a refused call counts");
+    check(broken ? names(c.kind, r.queue) : r.queue == WEKSHURAG_NO_QUEUE, "the queue that an answer names");
     check(r.count <= (c.kind == 'k' ? 1 : c.kind == 'e' ? 0 : c.host_len), "a count");
     if (c.kind == 'p')
         check(memcmp(host_before + r.count, host_pages.at + r.count, c.host_len - r.count) == 0, "host bytes past the count");
     else
         check(memcmp(host_before, host_pages.at, c.host_len) == 0, "host bytes that are only read");
-    check(r.answer != 9 || wekshurag_interrupt_line(card), "a broken queue raises the line");
+    check(!broken || wekshurag_interrupt_line(card), "a broken queue raises the line");
     unharmed(&host_pages, "bytes before the host buffer");
     if (twice) {
         memcpy(ram_copy, ram_before, ram_len);
         memcpy(host_copy, host_before, c.host_len);
         again = make(c, &copy, ram_copy, lent, host_copy);
-        check(again.answer == r.answer && again.count == r.count, "a copy of the card answers otherwise");
+        check(again.answer == r.answer && again.queue == r.queue && again.count == r.count, "a copy of the card answers otherwise");
         check(memcmp(ram_copy, ram, ram_len) == 0 && memcmp(host_copy, host_pages.at, c.host_len) == 0,
               "a copy of the card writes otherwise");
         check(wekshurag_interrupt_line(&copy) == wekshurag_interrupt_line(card), "a copy's line");
@@ -457,8 +474,8 @@ int main(int argc, char **argv)
     while (calls < wanted)
         session();
     printf("random_test: %lu calls;", calls);
-    for (unsigned i = 0; i <= 10; i++) {
-        printf(" %lu answered %u%s", seen[i], i, i < 10 ? "," : "");
+    for (unsigned i = 0; i <= 12; i++) {
+        printf(" %lu answered %u%s", seen[i], i, i < 12 ? "," : "");
         check(seen[i] > 0, "an answer that was never given");
     }
     printf("; %lu bytes played, %lu recorded, %lu bells\n", played, recorded, rung);

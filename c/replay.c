@@ -112,19 +112,37 @@ static void print_answer(unsigned answer)
     printf("%lu %u\n", line_number, answer);
 }
 
+static void print_queue(unsigned queue)
+{
+    if (queue == WEKSHURAG_NO_QUEUE)
+        printf(" -");
+    else
+        printf(" %u", queue);
+}
+
 static void print_access(unsigned answer, uint32_t value, unsigned rung)
 {
-    printf("%lu %u %" PRIu32 " ", line_number, answer, value);
-    if (rung == WEKSHURAG_NO_QUEUE)
-        printf("-");
-    else
-        printf("%u", rung);
+    printf("%lu %u %" PRIu32, line_number, answer, value);
+    print_queue(rung);
     printf(" %d\n", wekshurag_interrupt_line(&card));
+}
+
+/* a call up to SUM; for a play HOST is printed next; then QUEUE */
+static void print_start(struct wekshurag_result r)
+{
+    printf("%lu %u %zu %d %" PRIu32, line_number, (unsigned)r.answer, r.count, wekshurag_interrupt_line(&card), adler32(ram, ram_len));
+}
+
+static void print_end(struct wekshurag_result r)
+{
+    print_queue(r.queue);
+    putchar('\n');
 }
 
 static void print_call(struct wekshurag_result r)
 {
-    printf("%lu %u %zu %d %" PRIu32, line_number, (unsigned)r.answer, r.count, wekshurag_interrupt_line(&card), adler32(ram, ram_len));
+    print_start(r);
+    print_end(r);
 }
 
 /* ---- the lines; false where one can't be read ------------------------------------------------------------------------------------ */
@@ -216,7 +234,6 @@ static bool call(void)
         if (!at_end(7) || !powered)
             return false;
         print_call(wekshurag_control(&card, ram, ram_len));
-        putchar('\n');
         return true;
     }
     if (begins("play ")) {
@@ -224,8 +241,10 @@ static bool call(void)
         if (!number(&at, MAX_HOST, &a) || !number(&at, UINT32_MAX, &b) || !at_end(at) || !powered)
             return false;
         memset(host, 238, (size_t)a);
-        print_call(wekshurag_play(&card, ram, ram_len, host, (size_t)a, (uint32_t)b));
-        printf(" %" PRIu32 "\n", adler32(host, (size_t)a));
+        struct wekshurag_result r = wekshurag_play(&card, ram, ram_len, host, (size_t)a, (uint32_t)b);
+        print_start(r);
+        printf(" %" PRIu32, adler32(host, (size_t)a));
+        print_end(r);
         return true;
     }
     if (begins("capture ")) {
@@ -235,14 +254,12 @@ static bool call(void)
         for (size_t i = 0; i < bytes; i++)
             host[i] = byte_at(digits, i);
         print_call(wekshurag_capture(&card, ram, ram_len, host, bytes, (uint32_t)b));
-        putchar('\n');
         return true;
     }
     at = 5;
     if (!begins("event ") || !number(&at, UINT32_MAX, &a) || !number(&at, UINT32_MAX, &b) || !at_end(at) || !powered)
         return false;
     print_call(wekshurag_event(&card, ram, ram_len, (uint32_t)a, (uint32_t)b));
-    putchar('\n');
     return true;
 }
 

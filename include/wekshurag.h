@@ -36,7 +36,8 @@ extern "C" {
 
 /*
  * The answers. Of several refusals that apply the first is answered, in the order that the call says. On a refusal (1 to 8, and 10) the
- * count is 0 and, save where the call says more, card, memory and host buffer are as they were.
+ * count is 0 and, save where the call says more, card, memory and host buffer are as they were. With 9, 11 and 12 the guest's ring makes no
+ * sense: "a broken queue" below. Of these three, too, the first is answered.
  */
 enum wekshurag_answer {
     WEKSHURAG_DONE = 0,
@@ -48,8 +49,10 @@ enum wekshurag_answer {
     WEKSHURAG_NOT_RUNNING = 6,       /* the stream is absent, or not Running */
     WEKSHURAG_EVENT_NOT_ALLOWED = 7, /* no such kind of event, jack or stream, or an XRUN that was not selected */
     WEKSHURAG_NO_EVENT_BUFFER = 8,   /* the guest has put no buffer for it; send it again later */
-    WEKSHURAG_QUEUE_BROKEN = 9,      /* the guest's ring makes no sense (`queue` says which); what was done before stands and is counted */
-    WEKSHURAG_BAD_DESCRIPTION = 10
+    WEKSHURAG_REGION_PAST_RAM = 9,   /* a broken queue: its rings pass the end of RAM */
+    WEKSHURAG_BAD_DESCRIPTION = 10,
+    WEKSHURAG_TOO_MANY_ENTRIES = 11, /* a broken queue: more messages are in it than it has descriptors */
+    WEKSHURAG_HEAD_PAST_TABLE = 12   /* a broken queue: an entry names a descriptor past the table */
 };
 
 /* The queues, by the numbers that wekshurag_write tells. */
@@ -161,7 +164,7 @@ bool wekshurag_interrupt_line(const struct wekshurag_card *card);
 
 struct wekshurag_result {
     uint8_t answer;
-    uint8_t queue; /* with WEKSHURAG_QUEUE_BROKEN the queue that broke, an enum wekshurag_queue; else WEKSHURAG_NO_QUEUE */
+    uint8_t queue; /* the broken queue, an enum wekshurag_queue; WEKSHURAG_NO_QUEUE if none is, with all answers but 9, 11 and 12 */
     size_t count;  /* control messages completed, or bytes; 0 for an event */
 };
 WEKSHURAG_ASSERT(sizeof(struct wekshurag_result) == 16, "what a call answers");
@@ -169,16 +172,17 @@ WEKSHURAG_ASSERT(sizeof(struct wekshurag_result) == 16, "what a call answers");
 /*
  * Of all four calls:
  *   - `ram` is the guest's memory. The card reads the queue there and writes replies, recorded bytes and the used ring, nothing else.
- *   - With WEKSHURAG_QUEUE_BROKEN, NEEDS_RESET and bit 1 of ISR are set: the card is not live until the guest resets it. What the call had
- *     written and handed on before stands, and bytes are counted.
+ *   - On a broken queue the answer is WEKSHURAG_REGION_PAST_RAM, WEKSHURAG_TOO_MANY_ENTRIES or WEKSHURAG_HEAD_PAST_TABLE, and `queue` says
+ *     which queue. NEEDS_RESET and bit 1 of ISR are set: the card is not live until the guest resets it. What the call had written and
+ *     handed on before stands, and bytes are counted.
  *   - On a queue that the guest has not placed, the answer is WEKSHURAG_DONE and the count 0 (an event: WEKSHURAG_NO_EVENT_BUFFER).
  */
 
 /*
  * Works one message of the control queue. Call it when that queue is rung, again while it counts 1.
  *
- * Answers WEKSHURAG_DONE and 1, or 0 where no message was there; or WEKSHURAG_RAM_LENGTH, WEKSHURAG_NOT_LIVE, WEKSHURAG_QUEUE_BROKEN
- * (a RELEASE looks at its stream's queue too).
+ * Answers WEKSHURAG_DONE and 1, or 0 where no message was there; or WEKSHURAG_RAM_LENGTH, WEKSHURAG_NOT_LIVE, or a broken queue: a RELEASE
+ * looks at its stream's queue too, and names it.
  */
 struct wekshurag_result wekshurag_control(struct wekshurag_card *card, uint8_t *ram, size_t ram_len);
 
@@ -191,7 +195,7 @@ struct wekshurag_result wekshurag_control(struct wekshurag_card *card, uint8_t *
  * does not know it says 0.
  *
  * Answers WEKSHURAG_DONE and the bytes handed over, which are the first of `host`; those behind them are as they were (fill them with
- * silence first). Or WEKSHURAG_RAM_LENGTH, WEKSHURAG_NOT_LIVE, WEKSHURAG_NOT_RUNNING, WEKSHURAG_QUEUE_BROKEN.
+ * silence first). Or WEKSHURAG_RAM_LENGTH, WEKSHURAG_NOT_LIVE, WEKSHURAG_NOT_RUNNING, or a broken queue.
  */
 struct wekshurag_result wekshurag_play(struct wekshurag_card *card, uint8_t *ram, size_t ram_len, uint8_t *host, size_t host_len,
                                        uint32_t backlog);
@@ -212,13 +216,67 @@ struct wekshurag_result wekshurag_capture(struct wekshurag_card *card, uint8_t *
 #define WEKSHURAG_PCM_XRUN UINT32_C(0x1101)
 
 /*
- * Tells the guest of an event. A jack's state is recorded with the answers WEKSHURAG_DONE, WEKSHURAG_NO_EVENT_BUFFER and
- * WEKSHURAG_QUEUE_BROKEN.
+ * Tells the guest of an event. A jack's state is recorded with the answers WEKSHURAG_DONE and WEKSHURAG_NO_EVENT_BUFFER, and on a broken
+ * queue.
  *
- * Answers WEKSHURAG_DONE; or WEKSHURAG_RAM_LENGTH, WEKSHURAG_NOT_LIVE, WEKSHURAG_EVENT_NOT_ALLOWED, then WEKSHURAG_NO_EVENT_BUFFER or
- * WEKSHURAG_QUEUE_BROKEN, whichever the queue comes to first. Buffers that are of no use are handed back to the guest on the way.
+ * Answers WEKSHURAG_DONE; or WEKSHURAG_RAM_LENGTH, WEKSHURAG_NOT_LIVE, WEKSHURAG_EVENT_NOT_ALLOWED, then WEKSHURAG_NO_EVENT_BUFFER or a
+ * broken queue, whichever comes first. Buffers that are of no use are handed back to the guest on the way.
  */
 struct wekshurag_result wekshurag_event(struct wekshurag_card *card, uint8_t *ram, size_t ram_len, uint32_t code, uint32_t data);
+
+/* ---- for the monitor's log -------------------------------------------------------------------------------------------------- */
+
+/* What an answer says, without a full stop. */
+static inline const char *wekshurag_answer_text(uint8_t answer)
+{
+    switch (answer) {
+    case WEKSHURAG_DONE:
+        return "done";
+    case WEKSHURAG_RAM_LENGTH:
+        return "memory of another length than at power-up";
+    case WEKSHURAG_NO_SUCH_ACCESS:
+        return "no such register access";
+    case WEKSHURAG_WRONG_DIRECTION:
+        return "the register can't be read, or written";
+    case WEKSHURAG_VALUE_TOO_WIDE:
+        return "the value is too wide for the access";
+    case WEKSHURAG_NOT_LIVE:
+        return "the device is not live";
+    case WEKSHURAG_NOT_RUNNING:
+        return "the stream is absent or not running";
+    case WEKSHURAG_EVENT_NOT_ALLOWED:
+        return "the event is not allowed";
+    case WEKSHURAG_NO_EVENT_BUFFER:
+        return "no event buffer";
+    case WEKSHURAG_REGION_PAST_RAM:
+        return "queue broken: its rings pass the end of RAM";
+    case WEKSHURAG_BAD_DESCRIPTION:
+        return "bad description";
+    case WEKSHURAG_TOO_MANY_ENTRIES:
+        return "queue broken: too many entries";
+    case WEKSHURAG_HEAD_PAST_TABLE:
+        return "queue broken: a head past the table";
+    default:
+        return "no answer of the card";
+    }
+}
+
+/* A queue's name; "none" for WEKSHURAG_NO_QUEUE. */
+static inline const char *wekshurag_queue_text(uint8_t queue)
+{
+    switch (queue) {
+    case WEKSHURAG_CONTROL_QUEUE:
+        return "control";
+    case WEKSHURAG_EVENT_QUEUE:
+        return "event";
+    case WEKSHURAG_PLAY_QUEUE:
+        return "play";
+    case WEKSHURAG_CAPTURE_QUEUE:
+        return "capture";
+    default:
+        return "none";
+    }
+}
 
 #ifdef __cplusplus
 }

@@ -169,7 +169,7 @@ run b m qs = runs card b m qs
 abbrev pub call : Request → List ℕ → Call
 call q m = record { asked = q; lent = m }
 
--- ---- answers 1 and 5 to 9: the order of the checks, in 8 bytes of RAM
+-- ---- answers 1, 5 to 9, 11 and 12: the order of the checks, in 8 bytes of RAM
 
 -- a call of each kind; events of a running stream, an absent stream, no kind that is sent, an absent jack
 abbrev pub oneOfEach : List Request
@@ -197,17 +197,18 @@ pub broken-comes-last :
 unfolding runs
 broken-comes-last = (refl, refl, refl)
 
--- the control ring at page 1, which ends where RAM ends: 64 new entries, and 65; a head of 64, which is not taken
+-- the control ring at page 1, which ends where RAM ends: 64 new entries, and 65, also with a head of 64; that head, which is not taken
 abbrev pub offering : ℕ → ℕ → Ran Queue
 offering index head = run (device 5768 15 (1 ∷ 0 ∷ 0 ∷ 0 ∷ []) []) (memory 5768 (block 5120 (available 1 index (head ∷ [])) ∷ [])) (Control ∷ [])
 
 pub control-ring :
     (offering 64 0 .answers ≡ 0 ∷ [])
-    × (offering 65 0 .answers ≡ 9 ∷ [])
-    × (offering 1 64 .answers ≡ 9 ∷ [])
+    × (offering 65 0 .answers ≡ 11 ∷ [])
+    × (offering 65 64 .answers ≡ 11 ∷ [])
+    × (offering 1 64 .answers ≡ 12 ∷ [])
     × (offering 1 64 .state .rest .control ≡ noCounters)
 unfolding runs
-control-ring = (refl, refl, refl, refl)
+control-ring = (refl, refl, refl, refl, refl)
 
 -- ---- answers 2, 3 and 4: registers
 
@@ -355,7 +356,7 @@ pub play-in-two-calls :
 unfolding runs
 play-in-two-calls = refl
 
--- answer 9, with room to meet the bad head: what came before it stands and is counted
+-- answer 12, with room to meet the bad head: what came before it stands and is counted
 abbrev pub oneMessage : List Block → List Block → List ℕ
 oneMessage reply used′ =
     memory 10760 (block 100 (11 ∷ 12 ∷ []) ∷ reply ++ block 400 (message 96 6 200 8) ∷ block 4176 (table 400) ∷ twoHeads ∷ used′)
@@ -370,7 +371,7 @@ pub bad-head-when-met :
             capture = emptyQueue;
           };
       told =
-          toldAll (record { number = 9; queue = 2 }) 0 255 2 (11 ∷ 12 ∷ []) (11 ∷ 12 ∷ 0 ∷ [])
+          toldAll (record { number = 12; queue = 2 }) 0 255 2 (11 ∷ 12 ∷ []) (11 ∷ 12 ∷ 0 ∷ [])
           (oneMessage (block 200 (xfer ok) ∷ []) (block 8710 (used 1 (element 5 8 ∷ [])) ∷ []));
     }
 unfolding runs
@@ -498,7 +499,9 @@ pub release-of-a-broken-queue :
             play = emptyQueue;
             capture = record { taken = 1; completed = 1; work = none };
           };
-      told = toldAll (record { number = 9; queue = 3 }) 0 255 0 [] [] (badRing (block 41 (xfer ok) ∷ []) (block 9350 (used 1 (element 0 8 ∷ [])) ∷ []));
+      told =
+          toldAll (record { number = 12; queue = 3 }) 0 255 0 [] []
+          (badRing (block 41 (xfer ok) ∷ []) (block 9350 (used 1 (element 0 8 ∷ [])) ∷ []));
     }
 unfolding runs
 release-of-a-broken-queue = refl

@@ -37,7 +37,7 @@ unfoldable pub refusalOf : rules.Rest → ℕ → ℕ → ℕ
 refusalOf r len id =
     cond (eqb len (r .ram)) (cond (live (r .registers)) (cond (isRunning r id) done notRunning) notLive) lengthDiffers
 
--- registers after a flow: "bit 0 clear sets ISR bit 0", and answer 9 where a bad head was met
+-- registers after a flow: "bit 0 clear sets ISR bit 0", and NEEDS_RESET with ISR bit 1 where a bad head was met
 abbrev pub registersAfter : Flow → Registers → Registers
 registersAfter f g = brokenBy (f .stop) (rules.signalledIf (f .signal) g)
 

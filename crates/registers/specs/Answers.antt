@@ -1,4 +1,4 @@
--- 01, Answers to the monitor: the number of each answer.
+-- 01, Answers to the monitor, and order 6: the number of each answer.
 use Prim.Native.Nat.{ℕ}
 use Rattle.registers.specs.declared.answers.Answer.{Answer}
 
@@ -29,11 +29,19 @@ eventNotAllowed = 7
 abbrev pub noEventBuffer : ℕ
 noEventBuffer = 8
 
-abbrev pub queueBroken : ℕ
-queueBroken = 9
-
 abbrev pub badDescription : ℕ
 badDescription = 10
+
+-- ---- order 6: the three causes of 01's "9 queue broken"
+
+abbrev pub regionPastRam : ℕ
+regionPastRam = 9
+
+abbrev pub tooManyEntries : ℕ
+tooManyEntries = 11
+
+abbrev pub headPastTable : ℕ
+headPastTable = 12
 
 -- ---- an answer names the queue that broke, or none
 

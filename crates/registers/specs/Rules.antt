@@ -61,7 +61,7 @@ withBit x i = cond (hasBit x i) x (x + 2 ^ i)
 unfoldable pub signalled : Registers → Registers
 signalled r = withIsr r (withBit (r .isr) 0)
 
--- 01, Answers: answer 9 leaves "NEEDS_RESET and ISR bit 1 set"
+-- 01, Answers: a broken queue leaves "NEEDS_RESET and ISR bit 1 set"
 unfoldable pub broken : Registers → Registers
 broken r = withIsr (withStatus r (withBit (r .status) 6)) (withBit (r .isr) 1)
 

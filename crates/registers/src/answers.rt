@@ -1,4 +1,4 @@
-// The monitor's answers, as 01 numbers them.
+// The monitor's answers, as 01 and order 6 number them.
 ghost use mathlib.Core.Path.{_≡_};
 ghost use Rattle.registers.specs.Answers.{plain};
 
@@ -20,9 +20,14 @@ pub const EVENT_NOT_ALLOWED: u8 = 7;
 
 pub const NO_EVENT_BUFFER: u8 = 8;
 
-pub const QUEUE_BROKEN: u8 = 9;
-
 pub const BAD_DESCRIPTION: u8 = 10;
+
+// How a queue broke (order 6).
+pub const REGION_PAST_RAM: u8 = 9;
+
+pub const TOO_MANY_ENTRIES: u8 = 11;
+
+pub const HEAD_PAST_TABLE: u8 = 12;
 
 // The queue that an answer names where it names none.
 pub const NO_QUEUE: u8 = 255;

@@ -27,13 +27,13 @@ irqIn d = cond (raised (d .rest .registers)) 1 0
 abbrev pub registerTold : ℕ → ℕ → Told → Text
 registerTold line irq t = registerText line (t .answer .number) (t .value) (t .rung) irq
 
--- "LINE ANSWER COUNT IRQ SUM: SUM is the Adler-32 checksum of the memory lent, after the call"
+-- "LINE ANSWER COUNT IRQ SUM QUEUE: SUM is the Adler-32 checksum of the memory lent, after the call"; QUEUE the queue that the answer names
 abbrev pub callTold : ℕ → ℕ → Told → Text
-callTold line irq t = callText line (t .answer .number) (t .count) irq (adler (t .memory))
+callTold line irq t = callText line (t .answer .number) (t .count) irq (adler (t .memory)) (t .answer .queue)
 
 -- "HOST is the Adler-32 checksum of the whole host buffer after the call"
 abbrev pub playTold : ℕ → ℕ → Told → Text
-playTold line irq t = playText line (t .answer .number) (t .count) irq (adler (t .memory)) (adler (t .host))
+playTold line irq t = playText line (t .answer .number) (t .count) irq (adler (t .memory)) (adler (t .host)) (t .answer .queue)
 
 abbrev pub textFor : Request → ℕ → ℕ → Told → Text
 textFor (ReadRegister offset width) = registerTold

@@ -28,12 +28,13 @@ fn irq(card: Card) -> u8
     0
 }
 
-// `LINE ANSWER COUNT IRQ SUM`
+// `LINE ANSWER COUNT IRQ SUM QUEUE`
 fn sum_text(line: u64, told: Outcome, irq: u8, m: &[u8]) -> Text
-    ensures { λ r. ⌜ r ≡ callText line (told .answer .number) (told .count) irq (adler (now (m .entry))) ⌝ }
+    ensures { λ r. ⌜ r ≡ callText line (told .answer .number) (told .count) irq (adler (now (m .entry))) (told .answer .queue) ⌝ }
 {
     let sum = replay_text::adler32(m);
-    replay_text::call_text(line, told.answer.number, told.count, irq, sum)
+    let queue = told.answer.queue;
+    replay_text::call_text(line, told.answer.number, told.count, irq, sum, queue)
 }
 
 // What is printed for a request that told this, with memory and host buffer as it left them.
@@ -54,7 +55,15 @@ fn text(line: u64, request: Request, told: Outcome, m: &[u8], host: &[u8]) -> Te
         Request::Play(_) => {
             let sum = replay_text::adler32(m);
             let heard = replay_text::adler32(host);
-            replay_text::play_text(line, told.answer.number, told.count, raised, sum, heard)
+            replay_text::play_text(
+                line,
+                told.answer.number,
+                told.count,
+                raised,
+                sum,
+                heard,
+                told.answer.queue,
+            )
         }
         Request::Capture(_) => sum_text(line, told, raised, m),
         Request::Event(_, _) => sum_text(line, told, raised, m),

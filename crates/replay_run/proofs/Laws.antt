@@ -56,10 +56,10 @@ use Rattle.replay_run.specs.declared.Turn.{Turn}
 called-text : (q : Request) (line : ℕ) (s : Step (Device Queue)) → kept (shownFor q line s) ≡ printed q line s
 called-text (ReadRegister offset width) line s = kept-register line _ _ _ _
 called-text (WriteRegister offset width v) line s = kept-register line _ _ _ _
-called-text Control line s = kept-call line _ _ _ _
-called-text (Play host backlog) line s = kept-play line _ _ _ _ _
-called-text (Capture host backlog) line s = kept-call line _ _ _ _
-called-text (Event code info) line s = kept-call line _ _ _ _
+called-text Control line s = kept-call line _ _ _ _ _
+called-text (Play host backlog) line s = kept-play line _ _ _ _ _ _
+called-text (Capture host backlog) line s = kept-call line _ _ _ _ _
+called-text (Event code info) line s = kept-call line _ _ _ _ _
 
 -- a line's call, on the first `lent` bytes of the array
 module _ (st : State) (call : Call) (s ram : List ℕ) (lent : ℕ) (p : st .powered ≡ true) (e : lent ≡ min (st .len) (length ram)) where

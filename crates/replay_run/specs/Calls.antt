@@ -12,16 +12,18 @@ use Rattle.rules.specs.Device.{Device, Queue}
 abbrev pub stepIn : Device Queue → Request → List ℕ → Step (Device Queue)
 stepIn d q m = step countersOf d (record { asked = q; lent = m })
 
--- "r, w: LINE ANSWER VALUE RUNG IRQ"; "control, event, capture: LINE ANSWER COUNT IRQ SUM", and "play" with HOST
+-- "r, w: LINE ANSWER VALUE RUNG IRQ"; "control, event, capture: LINE ANSWER COUNT IRQ SUM QUEUE", and "play" with HOST before QUEUE
 abbrev pub registerPrinted : ℕ → Step (Device Queue) → List ℕ
 registerPrinted line s = registerBytes line (s .told .answer .number) (s .told .value) (s .told .rung) (irqIn (s .state))
 
 abbrev pub callPrinted : ℕ → Step (Device Queue) → List ℕ
-callPrinted line s = callBytes line (s .told .answer .number) (s .told .count) (irqIn (s .state)) (adler (s .told .memory))
+callPrinted line s =
+    callBytes line (s .told .answer .number) (s .told .count) (irqIn (s .state)) (adler (s .told .memory)) (s .told .answer .queue)
 
 abbrev pub playPrinted : ℕ → Step (Device Queue) → List ℕ
 playPrinted line s =
     playBytes line (s .told .answer .number) (s .told .count) (irqIn (s .state)) (adler (s .told .memory)) (adler (s .told .host))
+    (s .told .answer .queue)
 
 abbrev pub printed : Request → ℕ → Step (Device Queue) → List ℕ
 printed (ReadRegister offset width) = registerPrinted

@@ -60,7 +60,7 @@ fn text_buffer() -> [u8; 131096]
 // `LINE ANSWER`, written to the start of `out`. The place behind it.
 fn answer(line: u64, answer: u8, out: &mut [u8]) -> usize
     requires { ⌜ 131096 ≤ length (now out) ⌝ }
-    ensures { λ r. ⌜ Put (answerBytes line answer) (now (out .entry)) 0 (now (out .exit)) r × (r ≤ 128) ⌝ }
+    ensures { λ r. ⌜ Put (answerBytes line answer) (now (out .entry)) 0 (now (out .exit)) r × (r ≤ 147) ⌝ }
 {
     replay_text::lay(replay_text::answer_text(line, answer), out)
 }

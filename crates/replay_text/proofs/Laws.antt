@@ -16,7 +16,7 @@ use Rattle.replay_text.specs.Text.{
   startBytes,
   callBytes,
   playBytes,
-  rungBytes,
+  queueBytes,
   registerBytes,
   noText,
   withBytes,
@@ -43,18 +43,18 @@ with-then t u v =
 
 -- ---- a text keeps all its bytes
 
-pub kept-text : (t : List ℕ) → length t ≤ 128 → kept (textOf t) ≡ t
+pub kept-text : (t : List ℕ) → length t ≤ 147 → kept (textOf t) ≡ t
 unfolding withBytes
 kept-text t h =
     let f : Put t (noText .bytes) 0 (textOf t .bytes) (textOf t .count) = record { stored = refl; behind = refl } in
     put-back f (rw length-replicate h)
 
-rung-short : (rung : ℕ) → length (rungBytes rung) ≤ 21
-unfolding rungBytes
-rung-short rung = by (eqb rung 255) where
-  by : (x : Bool) → length (cond x (45 ∷ 32 ∷ []) (fieldOf rung 32)) ≤ 21
+queue-short : (queue end : ℕ) → length (queueBytes queue end) ≤ 21
+unfolding queueBytes
+queue-short queue end = by (eqb queue 255) where
+  by : (x : Bool) → length (cond x (45 ∷ end ∷ []) (fieldOf queue end)) ≤ 21
   by true = omega arith
-  by false = field-short rung 32
+  by false = field-short queue end
 
 module _ (line answer : ℕ) where
   pub kept-answer : kept (textOf (answerBytes line answer)) ≡ answerBytes line answer
@@ -64,26 +64,35 @@ module _ (line answer : ℕ) where
   start-short count irq =
       simp length-append (omega (arith, field-short line 32, field-short answer 32, field-short count 32, field-short irq 32))
 
-  pub kept-call : (count irq sum : ℕ) → kept (textOf (callBytes line answer count irq sum)) ≡ callBytes line answer count irq sum
-  kept-call count irq sum =
-      kept-text _ (rw length-append (omega (arith, start-short count irq, field-short sum 10)))
-
-  pub kept-play : (count irq sum host : ℕ)
-      → kept (textOf (playBytes line answer count irq sum host)) ≡ playBytes line answer count irq sum host
-  kept-play count irq sum host =
+  pub kept-call :
+      (count irq sum queue : ℕ) → kept (textOf (callBytes line answer count irq sum queue)) ≡ callBytes line answer count irq sum queue
+  kept-call count irq sum queue =
       kept-text _
       (rw (
-        length-append (startBytes line answer count irq ++ fieldOf sum 32) (fieldOf host 10),
+        length-append (startBytes line answer count irq ++ fieldOf sum 32) (queueBytes queue 10),
         length-append (startBytes line answer count irq) (fieldOf sum 32),
       )
-      (omega (arith, start-short count irq, field-short sum 32, field-short host 10)))
+      (omega (arith, start-short count irq, field-short sum 32, queue-short queue 10)))
+
+  pub kept-play :
+      (count irq sum host queue : ℕ)
+      → kept (textOf (playBytes line answer count irq sum host queue)) ≡ playBytes line answer count irq sum host queue
+  kept-play count irq sum host queue =
+      let two = startBytes line answer count irq ++ fieldOf sum 32 in
+      kept-text _
+      (rw (
+        length-append (two ++ fieldOf host 32) (queueBytes queue 10),
+        length-append two (fieldOf host 32),
+        length-append (startBytes line answer count irq) (fieldOf sum 32),
+      )
+      (omega (arith, start-short count irq, field-short sum 32, field-short host 32, queue-short queue 10)))
 
   pub kept-register : (value rung irq : ℕ)
       → kept (textOf (registerBytes line answer value rung irq)) ≡ registerBytes line answer value rung irq
   kept-register value rung irq =
       kept-text _
       (simp length-append
-      (omega (arith, field-short line 32, field-short answer 32, field-short value 32, rung-short rung, field-short irq 10)))
+      (omega (arith, field-short line 32, field-short answer 32, field-short value 32, queue-short rung 32, field-short irq 10)))
 
 -- ---- a fold over the bytes from a place on
 

@@ -3,14 +3,15 @@ ghost use mathlib.Core.Path.{_≡_};
 ghost use Prim.Native.Nat.{_<_, _≤_, _+_, _*_};
 ghost use lib.ListN.{length, getD, take};
 ghost use Rattle.decimal.specs.Write.{fieldOf, Put};
-ghost use Rattle.replay_text.specs.Text.{noText, withBytes, kept, startText, rungBytes, answerText, callText, playText, registerText};
+ghost use Rattle.replay_text.specs.Text.{noText, withBytes, kept, startText, queueBytes, answerText, callText, playText};
+ghost use Rattle.replay_text.specs.Text.{registerText};
 ghost use Rattle.replay_text.specs.Adler.{step, adler};
 ghost use Rattle.replay_text.specs.Hex.{glyphOf, behindOf, hexBytes, hexWord};
 
-// A line that is being written: its first `count` bytes. The longest that is made here has six numbers
+// A line that is being written: its first `count` bytes. The longest that is made here has seven numbers
 // of at most 20 digits, and a byte behind each.
 pub struct Text {
-    pub bytes: [u8; 128],
+    pub bytes: [u8; 147],
     pub count: usize,
 }
 
@@ -25,14 +26,14 @@ fn empty() -> Text
     ensures { λ r. ⌜ (r ≡ noText) × (r .count ≡ 0) ⌝ }
 {
     Text {
-        bytes: [0; 128],
+        bytes: [0; 147],
         count: 0,
     }
 }
 
 // A text with a number in decimal and the byte `end` behind it.
 fn with_number(text: Text, n: u64, end: u8) -> Text
-    requires { ⌜ text .count + 21 ≤ 128 ⌝ }
+    requires { ⌜ text .count + 21 ≤ 147 ⌝ }
     ensures { λ r. ⌜ (r ≡ withBytes text (fieldOf n end)) × (r .count ≤ text .count + 21) ⌝ }
 {
     let mut bytes = text.bytes;
@@ -61,35 +62,46 @@ fn call_start(line: u64, answer: u8, count: usize, irq: u8) -> Text
     with_number(counted, irq as u64, b' ')
 }
 
-// `LINE ANSWER COUNT IRQ SUM`
-pub fn call_text(line: u64, answer: u8, count: usize, irq: u8, sum: u32) -> Text
-    ensures { λ r. ⌜ r ≡ callText line answer count irq sum ⌝ }
+// The index of a queue, or `-` for none, and the byte `end` behind it
+fn with_queue(text: Text, queue: u8, end: u8) -> Text
+    requires { ⌜ text .count + 21 ≤ 147 ⌝ }
+    ensures { λ r. ⌜ (r ≡ withBytes text (queueBytes queue end)) × (r .count ≤ text .count + 21) ⌝ }
 {
-    with_number(call_start(line, answer, count, irq), sum as u64, b'\n')
-}
-
-// `LINE ANSWER COUNT IRQ SUM HOST`
-pub fn play_text(line: u64, answer: u8, count: usize, irq: u8, sum: u32, host: u32) -> Text
-    ensures { λ r. ⌜ r ≡ playText line answer count irq sum host ⌝ }
-{
-    let summed = with_number(call_start(line, answer, count, irq), sum as u64, b' ');
-    with_number(summed, host as u64, b'\n')
-}
-
-// `RUNG` and a space: the queue, or `-` for none
-fn with_rung(text: Text, rung: u8) -> Text
-    requires { ⌜ text .count + 21 ≤ 128 ⌝ }
-    ensures { λ r. ⌜ (r ≡ withBytes text (rungBytes rung)) × (r .count ≤ text .count + 21) ⌝ }
-{
-    if rung == 255 {
+    if queue == 255 {
+        let dash = [b'-', end];
         let mut bytes = text.bytes;
-        let count = decimal::put_bytes(&mut bytes, text.count, b"- ");
+        let count = decimal::put_bytes(&mut bytes, text.count, &dash);
         return Text {
             bytes: bytes,
             count: count,
         };
     }
-    with_number(text, rung as u64, b' ')
+    with_number(text, queue as u64, end)
+}
+
+// `LINE ANSWER COUNT IRQ SUM QUEUE`
+pub fn call_text(line: u64, answer: u8, count: usize, irq: u8, sum: u32, queue: u8) -> Text
+    ensures { λ r. ⌜ r ≡ callText line answer count irq sum queue ⌝ }
+{
+    let summed = with_number(call_start(line, answer, count, irq), sum as u64, b' ');
+    with_queue(summed, queue, b'\n')
+}
+
+// `LINE ANSWER COUNT IRQ SUM HOST QUEUE`
+pub fn play_text(
+    line: u64,
+    answer: u8,
+    count: usize,
+    irq: u8,
+    sum: u32,
+    host: u32,
+    queue: u8,
+) -> Text
+    ensures { λ r. ⌜ r ≡ playText line answer count irq sum host queue ⌝ }
+{
+    let summed = with_number(call_start(line, answer, count, irq), sum as u64, b' ');
+    let heard = with_number(summed, host as u64, b' ');
+    with_queue(heard, queue, b'\n')
 }
 
 // `LINE ANSWER VALUE RUNG IRQ`
@@ -99,7 +111,7 @@ pub fn register_text(line: u64, answer: u8, value: u32, rung: u8, irq: u8) -> Te
     let numbered = with_number(empty(), line, b' ');
     let answered = with_number(numbered, answer as u64, b' ');
     let valued = with_number(answered, value as u64, b' ');
-    with_number(with_rung(valued, rung), irq as u64, b'\n')
+    with_number(with_queue(valued, rung, b' '), irq as u64, b'\n')
 }
 
 // The first `count` bytes of `s`, or all of `s` where it has no more, written to the start of `out`. The
@@ -116,8 +128,8 @@ fn put_first(out: &mut [u8], s: &[u8], count: usize) -> usize
 
 // A text's bytes, written to the start of `out`. The place behind them.
 pub fn lay(text: Text, out: &mut [u8]) -> usize
-    requires { ⌜ 128 ≤ length (now out) ⌝ }
-    ensures { λ r. ⌜ Put (kept text) (now (out .entry)) 0 (now (out .exit)) r × (r ≤ 128) ⌝ }
+    requires { ⌜ 147 ≤ length (now out) ⌝ }
+    ensures { λ r. ⌜ Put (kept text) (now (out .entry)) 0 (now (out .exit)) r × (r ≤ 147) ⌝ }
 {
     let bytes = text.bytes;
     put_first(out, &bytes, text.count)

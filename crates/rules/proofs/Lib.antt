@@ -1,6 +1,6 @@
--- Below demand 3: cases and lists; what each change of a history keeps; that the rules, and with them the calls, run alike over any two ways
--- of keeping the play queue; that histories and counters are two such; the theorem; and what follows from it, and from the account
--- alone, in a reader's words.
+-- Below demand 3: cases and lists; what each change of a history keeps; that the rules, and with them the calls, run alike over any
+-- two ways of keeping the play queue; that histories and counters are two such; the theorem; and what follows from it, and from the
+-- account alone, in a reader's words. What the orders ask to be shown of the rules, and the table of 01's cases.
 pub mod Cases
 pub mod Lists
 pub mod Keeps
@@ -18,4 +18,5 @@ pub mod Reading
 pub mod Release
 pub mod Drained
 pub mod Lifecycle
+pub mod Causes
 pub mod Table

@@ -1,18 +1,20 @@
--- 01, Answers to the monitor: how a queue broke, as an answer that names the queue. Each cause has its number here, and only here.
+-- 01, Answers to the monitor, and order 6: how a queue broke, as an answer that names the queue. Each cause has its number here, and
+-- only here.
 use mathlib.Core.Bool.{Bool, true, false}
 use Prim.Native.Nat.{ℕ}
-use Rattle.registers.specs.Answers.{done, queueBroken, plain}
+use Rattle.registers.specs.Answers.{done, regionPastRam, tooManyEntries, headPastTable, plain}
 use Rattle.registers.specs.Rules.{broken}
 use Rattle.registers.specs.declared.Registers.{Registers}
 use Rattle.registers.specs.declared.answers.Answer.{Answer}
 use Rattle.ring.specs.declared.Cause.{Cause}
 use Rattle.ring.specs.declared.Stop.{Stop}
 
--- "9 queue broken", for each cause
+-- order 6: "Refusals: 9 region past RAM, 11 too many entries, 12 head past the table, in that order, in the old place of 9; what they
+-- leave is unchanged."
 abbrev pub numberOf : Cause → ℕ
-numberOf Cause.Region = queueBroken
-numberOf Cause.Entries = queueBroken
-numberOf Cause.Head = queueBroken
+numberOf Cause.Region = regionPastRam
+numberOf Cause.Entries = tooManyEntries
+numberOf Cause.Head = headPastTable
 
 abbrev pub brokenAnswer : ℕ → Cause → Answer
 brokenAnswer queue cause = record { number = numberOf cause; queue = queue }

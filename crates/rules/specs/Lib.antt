@@ -11,4 +11,5 @@ pub mod Calls
 pub mod Histories
 pub mod Account
 pub mod Claim
+pub mod Causes
 pub mod Table

@@ -1,16 +1,18 @@
 -- 01, Numbers on each side: the cases marked P, all of them, with those of the orders, as one table over the definitions.
 use mathlib.Core.Path.{_≡_}
 use mathlib.Core.List.{List, [], _∷_, _++_}
-use mathlib.Core.Bool.{Bool}
+use mathlib.Core.Bool.{Bool, true}
 use mathlib.Core.Option.{Option, none, some}
-use Prim.Native.Nat.{ℕ, _+_, _≤_, _<_}
+use Prim.Native.Nat.{ℕ, _+_, _%_, _≤_, _<_}
 use lib.ListN.{length, take, replicate}
 use Rattle.counts.specs.declared.PageNumber.{PageNumber}
+use Rattle.memory.specs.Bytes.{le}
 use Rattle.registers.specs.Map.{sizeOf}
-use Rattle.registers.specs.Rules.{readOf, writeOf, powerOn, valueRead}
+use Rattle.registers.specs.Rules.{readOf, writeOf, powerOn, valueRead, live}
 use Rattle.registers.specs.declared.Config.{Config}
 use Rattle.registers.specs.declared.Registers.{Registers}
-use Rattle.ring.specs.Layout.{endAt}
+use Rattle.registers.specs.declared.answers.Answer.{Answer}
+use Rattle.ring.specs.Layout.{endAt, ringPlaceAt}
 use Rattle.ring.specs.Rules.{baseOf, newOf, indexOf}
 use Rattle.ring.specs.declared.Cause.{Cause}
 use Rattle.ring.specs.declared.Check.{Check}
@@ -18,10 +20,11 @@ use Rattle.card.specs.declared.Jack.{Jack}
 use Rattle.card.specs.declared.Params.{Params}
 use Rattle.card.specs.declared.Stream.{Stream}
 use Rattle.description.specs.declared.StreamInfo.{StreamInfo}
+use Rattle.rules.specs.Calls.{Control, ReleaseFirst, Pending, orderOf, step}
 use Rattle.rules.specs.Control.{Parts, Reply, served, judgedParams, status, pcmItem, withDefconf}
 use Rattle.rules.specs.Counters.{countersOf}
-use Rattle.rules.specs.Device.{output, Message, bytesOf}
-use Rattle.rules.specs.Numbers.{jackRemap, pcmInfo, playQueue, sOk, sBadMsg, sNotSupp}
+use Rattle.rules.specs.Device.{output, Message, Queue, Rest, Device, pageOf, bytesOf}
+use Rattle.rules.specs.Numbers.{jackRemap, pcmInfo, controlQueue, playQueue, sOk, sBadMsg, sNotSupp}
 use Rattle.rules.specs.Transfer.{found}
 
 -- ---- what the cases are asked of
@@ -60,6 +63,28 @@ anything = record { nid = 0; features = 0; formats = 33554431; rates = 16383; «
 abbrev pub params : ℕ → ℕ → ℕ → ℕ → Params
 params period channels format rate =
     record { «buffer_bytes» = period; «period_bytes» = period; features = 0; channels = channels; format = format; rate = rate }
+
+-- order 6: a live device, lent its RAM, whose control queue (0, of 64) has a base; what a control call on it answers
+pub record Controls (b : Device Queue) (m : List ℕ) : Type 0 where
+  pub lent : length m ≡ b .rest .ram
+  pub is-live : live (b .rest .registers) ≡ true
+  pub based : 0 < pageOf (b .rest) controlQueue .0
+
+abbrev pub controlled : Device Queue → List ℕ → Answer
+controlled b m = step countersOf b (record { asked = Control; lent = m }) .told .answer
+
+abbrev pub named : ℕ → ℕ → Answer
+named number queue = record { number = number; queue = queue }
+
+-- the end of a queue, at the page that it has then; how many new entries the control queue has, and its next head
+abbrev pub endsAt : Rest → ℕ → ℕ
+endsAt r queue = baseOf (pageOf r queue) + endAt (sizeOf queue)
+
+abbrev pub newFor : Rest → List ℕ → ℕ
+newFor r m = newOf (indexOf m (pageOf r controlQueue) (sizeOf controlQueue)) (r .control .taken)
+
+abbrev pub headFor : Rest → List ℕ → ℕ
+headFor r m = le 2 m (baseOf (pageOf r controlQueue) + ringPlaceAt (sizeOf controlQueue) (r .control .taken % sizeOf controlQueue))
 
 -- ---- the table
 
@@ -116,3 +141,17 @@ pub record Table : Type 0 where
       (p : Parts) (j : Jack) (js : List Jack) (room : ℕ) → p .jacks ≡ j ∷ js → j .info .features ≡ 1 → j .defconf ≡ 18956319
       → served p (remaps 0 2 5) room
       ≡ Reply (record { jacks = withDefconf 18956325 j ∷ js; maps = p .maps; streams = p .streams }) (status sOk)
+  -- order 6: a region past RAM is 9, whatever its ring shows; inside RAM, 65 new entries or more are 11, whatever the head; with 1 to
+  -- 64 a head of 64 or more is 12. Each names queue 0; a Release of stream 0 whose queue passes the end of RAM names 2
+  pub region-first : (b : Device Queue) (m : List ℕ) → Controls b m → length m < endsAt (b .rest) controlQueue → controlled b m ≡ named 9 0
+  pub then-entries :
+      (b : Device Queue) (m : List ℕ) → Controls b m → endsAt (b .rest) controlQueue ≤ length m → 65 ≤ newFor (b .rest) m
+      → controlled b m ≡ named 11 0
+  pub then-head :
+      (b : Device Queue) (m : List ℕ) → Controls b m → endsAt (b .rest) controlQueue ≤ length m
+      → 1 ≤ newFor (b .rest) m → newFor (b .rest) m ≤ 64 → 64 ≤ headFor (b .rest) m
+      → controlled b m ≡ named 12 0
+  pub release-names :
+      (b : Device Queue) (m : List ℕ) (p : Pending)
+      → orderOf (b .rest) m ≡ ReleaseFirst 0 p → 0 < pageOf (p .rest) playQueue .0 → length m < endsAt (p .rest) playQueue
+      → controlled b m ≡ named 9 2

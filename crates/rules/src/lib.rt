@@ -42,14 +42,14 @@ pub const JACK_DISCONNECTED: u32 = 4097;
 
 pub const PCM_XRUN: u32 = 4353;
 
-// The answer of a call whose queue is broken: the cause's number, and the queue.
+// The answer of a call whose queue is broken: the cause's number, and the queue (order 6).
 pub fn broken_answer(queue: u8, cause: Cause) -> Answer
     ensures { λ r. ⌜ r ≡ brokenAnswer queue cause ⌝ }
 {
     let number = match cause {
-        Cause::Region => registers::QUEUE_BROKEN,
-        Cause::Entries => registers::QUEUE_BROKEN,
-        Cause::Head => registers::QUEUE_BROKEN,
+        Cause::Region => registers::REGION_PAST_RAM,
+        Cause::Entries => registers::TOO_MANY_ENTRIES,
+        Cause::Head => registers::HEAD_PAST_TABLE,
     };
     Answer {
         number: number,

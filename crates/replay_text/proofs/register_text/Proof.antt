@@ -17,8 +17,8 @@ with-number-requires-2 c κs = omega arith
 with-number-requires-3 : tie.Need-with-number-requires-3
 with-number-requires-3 c κs = omega arith
 
-with-rung-requires : tie.Need-with-rung-requires
-with-rung-requires c κs = omega arith
+with-queue-requires : tie.Need-with-queue-requires
+with-queue-requires c κs = omega arith
 
 with-number-requires-4 : tie.Need-with-number-requires-4
 with-number-requires-4 c κs = omega arith
@@ -29,7 +29,7 @@ returns c =
     let one = three .before .before in
     rw (
       c .with-number4 .ensures .0,
-      c .before .with-rung .ensures .0,
+      c .before .with-queue .ensures .0,
       three .with-number3 .ensures .0,
       three .before .with-number2 .ensures .0,
       one .with-number .ensures .0,
@@ -44,6 +44,6 @@ register-text-spec =
     with-number-requires
     with-number-requires-2
     with-number-requires-3
-    with-rung-requires
+    with-queue-requires
     with-number-requires-4
     returns)
