@@ -2,18 +2,14 @@
 -- past the end of memory or of a buffer.
 use mathlib.Core.Path.{_≡_, refl, sym, _∙_, ap}
 use mathlib.Core.List.{List, [], _∷_, _++_, map, append-assoc, map-append}
-use mathlib.Core.Bool.{_&&_}
-use Prim.Native.Nat.{ℕ, zero, suc, _+_, _-_, _^_, _≤_, _<_, min}
+use Prim.Native.Nat.{ℕ, zero, suc, _+_, _-_, _*_, _≤_, _<_, min}
 use native.Mathlib.Numerals.{add-one}
 use native.Mathlib.Nat.{add-zero, zero-add, suc-add, sub-zero}
 use native.Mathlib.Omega.{arith}
-use borrow.Author.Tests.{lt-ltb}
-use lib.ListN.{length, getD, set, take, drop, replicate, length-append, length-take, length-drop, length-set, length-map, List·getD-eq-default, drop-of-length-le}
-use lib.Seq.{sets, set-out, drop-cons, take-nil, drop-nil, drop-drop, getD-take, take-suc-set}
-use Rattle.memory.specs.Bytes.{insideOf}
+use lib.ListN.{length, getD, set, take, drop, replicate, length-append, length-drop, length-set, length-map, List·getD-eq-default}
+use lib.Seq.{sets, set-out, drop-cons, take-nil, drop-nil, drop-drop, getD-set-same, getD-set-other}
 use Rattle.ranges.specs.declared.Range.{Range}
-use Rattle.ranges.specs.declared.Ranges.{Ranges}
-use Rattle.ranges.specs.Ranges.{noRange, noRanges, rangesOf, withRange, total, Sound, upFrom, places, bytesAt, putAt, allInside}
+use Rattle.ranges.specs.Ranges.{noRanges, rangeIn, putRange, rangesIn, rangesOf, total, Sound, upFrom, places, bytesAt, putAt}
 
 -- ---- lengths and joins
 
@@ -43,31 +39,68 @@ length-putAt m [] bs = refl
 length-putAt m (a ∷ as′) [] = refl
 length-putAt m (a ∷ as′) (b ∷ bs) = rw (length-putAt (set m a b) as′ bs, length-set)
 
--- ---- no range, and one range more
+-- ---- ranges in a list of words
 
-pub rangesOf-none : rangesOf noRanges ≡ []
-rangesOf-none = refl
+pub rangesIn-none : (ws : List ℕ) (i k : ℕ) → k ≡ 0 → rangesIn ws i k ≡ []
+unfolding rangesIn
+rangesIn-none ws i k h = rw h
 
-pub sound-none : Sound noRanges
+pub rangesIn-more : (ws : List ℕ) (i n k : ℕ) → n ≡ k + 1 → rangesIn ws i n ≡ rangeIn ws i ∷ rangesIn ws (i + 1) k
+unfolding rangesIn
+rangesIn-more ws i n k h = rw (h, add-one k)
+
+pub rangesOf-none : (ws : List ℕ) → rangesOf ws noRanges ≡ []
+rangesOf-none ws = rangesIn-none ws 0 0 refl
+
+pub sound-none : (ws : List ℕ) → Sound ws noRanges
 unfolding total
-sound-none = record { long = refl; few = omega arith; sum = refl }
+sound-none ws = rw (rangesOf-none ws)
 
-module _ (r : Ranges) (range : Range) (room : r .count < 34) (fits : r .bytes + range .len < 2 ^ 32) where
-  pub with-fits : withRange r range ≡ record { list = set (r .list) (r .count) range; count = r .count + 1; bytes = r .bytes + range .len }
-  unfolding withRange
-  with-fits = rw (lt-ltb _ _ room, lt-ltb _ _ fits)
+pub length-rangesIn : (ws : List ℕ) (i k : ℕ) → length (rangesIn ws i k) ≡ k
+unfolding rangesIn
+length-rangesIn ws i zero = refl
+length-rangesIn ws i (suc k) = rw (length-rangesIn ws (i + 1) k)
 
-  pub rangesOf-with : Sound r → rangesOf (withRange r range) ≡ rangesOf r ++ (range ∷ [])
-  rangesOf-with s = rw (with-fits, add-one, take-suc-set (r .list) (r .count) range (omega arith))
+pub length-putRange : (ws : List ℕ) (n : ℕ) (x : Range) → length (putRange ws n x) ≡ length ws
+unfolding putRange
+length-putRange ws n x = rw (length-set, length-set)
 
-  pub sound-with : Sound r → Sound (withRange r range)
-  unfolding total
-  sound-with s =
-      record {
-        long = rw (with-fits, length-set) (s .long);
-        few = rw with-fits (omega arith);
-        sum = rw (rangesOf-with s, total-append, with-fits) (omega arith);
-      }
+module _ (ws : List ℕ) (n : ℕ) (x : Range) where
+  range-before : (i : ℕ) → i < n → rangeIn (putRange ws n x) i ≡ rangeIn ws i
+  unfolding rangeIn putRange
+  range-before i h =
+      rw (
+        getD-set-other (set ws (2 * n) (x .at .0)) (2 * n + 1) (2 * i) (x .len) 0 (λ e. omega arith),
+        getD-set-other ws (2 * n) (2 * i) (x .at .0) 0 (λ e. omega arith),
+        getD-set-other (set ws (2 * n) (x .at .0)) (2 * n + 1) (2 * i + 1) (x .len) 0 (λ e. omega arith),
+        getD-set-other ws (2 * n) (2 * i + 1) (x .at .0) 0 (λ e. omega arith),
+      )
+
+  range-put : 2 * n + 1 < length ws → rangeIn (putRange ws n x) n ≡ x
+  unfolding rangeIn putRange
+  range-put h =
+      rw (
+        getD-set-other (set ws (2 * n) (x .at .0)) (2 * n + 1) (2 * n) (x .len) 0 (λ e. omega arith),
+        getD-set-same ws (2 * n) (x .at .0) 0 (omega arith),
+        getD-set-same (set ws (2 * n) (x .at .0)) (2 * n + 1) (x .len) 0 (simp length-set (omega arith)),
+      )
+
+  -- a range put behind them leaves them as they are
+  pub rangesIn-before : (k i : ℕ) → i + k ≤ n → rangesIn (putRange ws n x) i k ≡ rangesIn ws i k
+  unfolding rangesIn
+  rangesIn-before zero i h = refl
+  rangesIn-before (suc k) i h = rw (range-before i (omega arith), rangesIn-before k (i + 1) (omega arith))
+
+  -- right behind them it is one more
+  pub rangesIn-snoc : (k i : ℕ) → i + k ≡ n → 2 * n + 1 < length ws → rangesIn (putRange ws n x) i (k + 1) ≡ rangesIn ws i k ++ (x ∷ [])
+  unfolding rangesIn
+  rangesIn-snoc zero i h room = let e : i ≡ n = omega arith in rw (e, range-put room)
+  rangesIn-snoc (suc k) i h room =
+      rw (
+        rangesIn-more (putRange ws n x) i (suc k + 1) (k + 1) (omega arith),
+        range-before i (omega arith),
+        rangesIn-snoc k (i + 1) (omega arith) room,
+      )
 
 -- ---- parts of lists
 
@@ -170,32 +203,16 @@ split-first a len skip left behind =
       sub-min-left skip len,
     )
 
-module _ (r : Ranges) (i : ℕ) (h : i < length (rangesOf r)) where
-  range-at : drop i (rangesOf r) ≡ getD (r .list) i noRange ∷ drop (i + 1) (rangesOf r)
-  range-at =
-      let few : i < r .count = omega (arith, length-take (r .count) (r .list)) in
-      rw (drop-cons (rangesOf r) i noRange, getD-take, add-one)
-
-  pub allInside-next :
-      (len : ℕ)
-      → allInside len (drop i (rangesOf r))
-      ≡ insideOf len (getD (r .list) i noRange .at .0) (getD (r .list) i noRange .len) && allInside len (drop (i + 1) (rangesOf r))
-  unfolding allInside
-  allInside-next len = rw range-at
-
+module _ (x : Range) (rest : List Range) (skip left gone k : ℕ) (g : gone ≡ min skip (x .len)) (h : k ≡ min (x .len - gone) left) where
   pub places-next :
-      (skip left gone k : ℕ)
-      → gone ≡ min skip (getD (r .list) i noRange .len)
-      → k ≡ min (getD (r .list) i noRange .len - gone) left
-      → take left (drop skip (places (drop i (rangesOf r))))
-      ≡ upFrom (getD (r .list) i noRange .at .0 + gone) k ++ take (left - k) (drop (skip - gone) (places (drop (i + 1) (rangesOf r))))
+      take left (drop skip (places (x ∷ rest)))
+      ≡ upFrom (x .at .0 + gone) k ++ take (left - k) (drop (skip - gone) (places rest))
   unfolding places
-  places-next skip left gone k g h = rw (range-at, h, g, split-first)
+  places-next = rw (h, g, split-first)
 
-pub places-none :
-    (r : Ranges) (i skip left : ℕ) → length (rangesOf r) ≤ i → take left (drop skip (places (drop i (rangesOf r)))) ≡ []
+pub places-none : (skip left : ℕ) → take left (drop skip (places [])) ≡ []
 unfolding places
-places-none r i skip left h = rw (drop-of-length-le (rangesOf r) {i = i} h, drop-nil, take-nil)
+places-none skip left = rw (drop-nil, take-nil)
 
 -- ---- bytes written to addresses
 

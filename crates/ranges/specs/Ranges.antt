@@ -2,41 +2,45 @@
 -- a byte string is read from or written to these addresses one byte after the other, also where ranges overlap.
 use mathlib.Core.Path.{_≡_}
 use mathlib.Core.List.{List, [], _∷_, _++_, map}
-use mathlib.Core.Bool.{Bool, true, cond, _&&_}
-use Prim.Native.Nat.{ℕ, zero, suc, _+_, _^_, _≤_}
-use lib.Dec.{ltb}
-use lib.ListN.{length, getD, set, take, replicate}
+use mathlib.Core.Bool.{Bool, true, _&&_}
+use Prim.Native.Nat.{ℕ, zero, suc, _+_, _*_}
+use lib.ListN.{getD, set}
 use Rattle.memory.specs.Bytes.{insideOf}
 use Rattle.ranges.specs.declared.Range.{Range}
 use Rattle.ranges.specs.declared.Ranges.{Ranges}
 
-abbrev pub noRange : Range
-noRange = record { at = record { 0 = 0 }; len = 0 }
+-- ---- ranges in a list of words
 
 abbrev pub noRanges : Ranges
-noRanges = record { list = replicate 34 noRange; count = 0; bytes = 0 }
+noRanges = record { first = 0; count = 0; bytes = 0 }
 
--- what the struct stands for
-abbrev pub rangesOf : Ranges → List Range
-rangesOf r = take (r .count) (r .list)
+-- the range in words 2i and 2i + 1: address and length
+unfoldable pub rangeIn : List ℕ → ℕ → Range
+rangeIn ws i = record { at = record { 0 = getD ws (2 * i) 0 }; len = getD ws (2 * i + 1) 0 }
 
--- one range more, where the list has a place for it and the sum still fits 32 bits
-unfoldable pub withRange : Ranges → Range → Ranges
-withRange r range =
-    cond (ltb (r .count) 34 && ltb (r .bytes + range .len) (2 ^ 32))
-    (record { list = set (r .list) (r .count) range; count = r .count + 1; bytes = r .bytes + range .len })
-    r
+-- the list with another range there
+unfoldable pub putRange : List ℕ → ℕ → Range → List ℕ
+putRange ws i x = set (set ws (2 * i) (x .at .0)) (2 * i + 1) (x .len)
+
+-- k ranges from place i on
+unfoldable pub rangesIn : List ℕ → ℕ → ℕ → List Range
+rangesIn ws i zero = []
+rangesIn ws i (suc k) = rangeIn ws i ∷ rangesIn ws (i + 1) k
+
+-- what the struct stands for, over the list lent
+abbrev pub rangesOf : List ℕ → Ranges → List Range
+rangesOf ws r = rangesIn ws (r .first) (r .count)
 
 -- the sum of the lengths
 unfoldable pub total : List Range → ℕ
 total [] = 0
 total (r ∷ rs) = r .len + total rs
 
--- a struct that stands for its list as it should: the count is the list's, the sum is its sum
-pub record Sound (r : Ranges) : Type 0 where
-  pub long : length (r .list) ≡ 34
-  pub few : r .count ≤ 34
-  pub sum : r .bytes ≡ total (rangesOf r)
+-- a struct whose sum is that of its ranges
+abbrev pub Sound : List ℕ → Ranges → Type 0
+Sound ws r = r .bytes ≡ total (rangesOf ws r)
+
+-- ---- the bytes of ranges
 
 -- the addresses a, a + 1, .. of which there are n
 unfoldable pub upFrom : ℕ → ℕ → List ℕ

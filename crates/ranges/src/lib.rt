@@ -1,24 +1,25 @@
 // The ranges of a message: what its descriptors name of guest memory, one side at a time. The bytes
-// of a side are those of its ranges, one after the other; descriptor borders mean nothing.
+// of a side are those of its ranges, one after the other; descriptor borders mean nothing. The ranges
+// stand in a list of words that the caller lends.
 ghost use mathlib.Core.Path.{_≡_};
-ghost use Prim.Native.Nat.{_+_, _≤_, min};
-ghost use lib.ListN.{length, take, drop, replicate};
+ghost use Prim.Native.Nat.{_+_, _≤_, _<_, min};
+ghost use lib.ListN.{length, getD, set, take, drop, replicate};
 ghost use lib.Seq.{sets};
-ghost use Rattle.ranges.specs.Ranges.{noRanges, withRange, rangesOf, upFrom, places, bytesAt, putAt, allInside};
+ghost use Rattle.ranges.specs.Ranges.{noRanges, rangeIn, putRange, rangesOf, upFrom, places, bytesAt, putAt, allInside};
 use counts::GuestAddress;
 
 // The buffer of one descriptor.
-#[repr(C)]
 pub struct Range {
     pub at: GuestAddress,
-    pub len: u32,
+    pub len: u64,
 }
 
-// One side of a message: the first `count` of `list`, and the sum of their lengths.
+// One side of a message: `count` ranges of a lent list of words, from its place `first` on, and the
+// sum of their lengths. A range takes two words, address and length.
 #[repr(C)]
 pub struct Ranges {
-    pub list: [Range; 34],
-    pub count: usize,
+    pub first: u32,
+    pub count: u32,
     pub bytes: u32,
 }
 
@@ -37,53 +38,69 @@ impl Ranges {
         ensures { λ r. ⌜ r ≡ noRanges ⌝ }
     {
         Ranges {
-            list: [Range {
-                at: GuestAddress::of(0),
-                len: 0,
-            }; 34],
+            first: 0,
             count: 0,
             bytes: 0,
         }
     }
+}
 
-    // One range more; a full list, or one whose sum would not fit, stays as it is.
-    pub fn with(self, range: Range) -> Ranges
-        ensures { λ r. ⌜ r ≡ withRange self range ⌝ }
-    {
-        let at = self.count;
-        if 34 <= at {
-            return self;
-        }
-        if 4294967295 - self.bytes < range.len {
-            return self;
-        }
-        let mut next = self;
-        next.list[at] = range;
-        next.count = at + 1;
-        next.bytes = self.bytes + range.len;
-        next
+// The word `i` of a list, 0 past its end.
+fn word(list: &[u64], i: usize) -> u64
+    ensures { λ r. ⌜ r ≡ getD (now (list .entry)) i 0 ⌝ }
+{
+    if list.len() <= i {
+        return 0;
     }
+    list[i]
+}
 
-    // How many ranges it holds.
-    fn held(self) -> usize
-        ensures { λ r. ⌜ (r ≡ length (rangesOf self)) × (r ≤ 34) ⌝ }
-    {
-        least(self.count, 34)
+// Another word there; nothing past its end.
+fn set_word(list: &mut [u64], i: usize, v: u64)
+    ensures { λ r. ⌜ now (list .exit) ≡ set (now (list .entry)) i v ⌝ }
+{
+    if list.len() <= i {
+        return;
+    }
+    list[i] = v;
+}
+
+// The range at place `i` of a list.
+fn range_at(list: &[u64], i: usize) -> Range
+    requires { ⌜ i < 8589934592 ⌝ }
+    ensures { λ r. ⌜ r ≡ rangeIn (now (list .entry)) i ⌝ }
+{
+    let at = word(list, 2 * i);
+    let len = word(list, 2 * i + 1);
+    Range {
+        at: GuestAddress::of(at),
+        len,
     }
 }
 
-// Whether every range lies inside `len` bytes of memory.
-pub fn all_inside(len: usize, r: Ranges) -> bool
-    ensures { λ ok. ⌜ ok ≡ allInside len (rangesOf r) ⌝ }
+// Another range there.
+pub fn put_range(list: &mut [u64], i: usize, range: Range)
+    requires { ⌜ i < 8589934592 ⌝ }
+    ensures { λ r. ⌜ now (list .exit) ≡ putRange (now (list .entry)) i range ⌝ }
 {
-    let count = r.held();
-    let mut i = 0;
-    while i < count {
-        let range = r.list[i];
-        if !memory::inside(len, range.at, range.len as u64) {
+    let at = range.at;
+    set_word(list, 2 * i, at.number());
+    set_word(list, 2 * i + 1, range.len);
+}
+
+// Whether every range lies inside `len` bytes of memory.
+pub fn all_inside(len: usize, list: &[u64], r: Ranges) -> bool
+    ensures { λ ok. ⌜ ok ≡ allInside len (rangesOf (now (list .entry)) r) ⌝ }
+{
+    let mut i = r.first as usize;
+    let mut more = r.count;
+    while 0 < more {
+        let range = range_at(list, i);
+        if !memory::inside(len, range.at, range.len) {
             return false;
         }
         i += 1;
+        more -= 1;
     }
     true
 }
@@ -143,23 +160,23 @@ fn scatter_run(m: &mut [u8], start: GuestAddress, skip: usize, src: &[u8], from:
 
 // At most `n` of the joined bytes, from the byte `offset` on, put into `dst` at `at`, as far as it
 // reaches.
-pub fn gather(m: &[u8], r: Ranges, offset: usize, dst: &mut [u8], at: usize, n: usize)
+pub fn gather(m: &[u8], list: &[u64], r: Ranges, offset: usize, dst: &mut [u8], at: usize, n: usize)
     ensures { λ u. ⌜ now (dst .exit)
-        ≡ sets (now (dst .entry)) at (bytesAt (now (m .entry)) (take n (drop offset (places (rangesOf r))))) ⌝ }
+        ≡ sets (now (dst .entry)) at (bytesAt (now (m .entry)) (take n (drop offset (places (rangesOf (now (list .entry)) r))))) ⌝ }
 {
     if dst.len() <= at {
         return;
     }
-    let count = r.held();
+    let mut more = r.count;
     let mut left = least(n, dst.len() - at);
     let mut skip = offset;
     let mut d = at;
-    let mut i = 0;
-    while i < count {
+    let mut i = r.first as usize;
+    while 0 < more {
         if left == 0 {
             return;
         }
-        let range = r.list[i];
+        let range = range_at(list, i);
         let len = range.len as usize;
         // of this range, `gone` bytes are passed over and `k` moved
         let gone = least(skip, len);
@@ -169,28 +186,37 @@ pub fn gather(m: &[u8], r: Ranges, offset: usize, dst: &mut [u8], at: usize, n: 
         d += k;
         left -= k;
         i += 1;
+        more -= 1;
     }
 }
 
 // The bytes of `src` from `from` on, at most `n`, written in order to the joined bytes from the byte
 // `offset` on.
-pub fn scatter(m: &mut [u8], r: Ranges, offset: usize, src: &[u8], from: usize, n: usize)
+pub fn scatter(
+    m: &mut [u8],
+    list: &[u64],
+    r: Ranges,
+    offset: usize,
+    src: &[u8],
+    from: usize,
+    n: usize,
+)
     ensures { λ u. ⌜ now (m .exit)
-        ≡ putAt (now (m .entry)) (take n (drop offset (places (rangesOf r)))) (drop from (now (src .entry))) ⌝ }
+        ≡ putAt (now (m .entry)) (take n (drop offset (places (rangesOf (now (list .entry)) r)))) (drop from (now (src .entry))) ⌝ }
 {
     if src.len() <= from {
         return;
     }
-    let count = r.held();
+    let mut more = r.count;
     let mut left = least(n, src.len() - from);
     let mut skip = offset;
     let mut f = from;
-    let mut i = 0;
-    while i < count {
+    let mut i = r.first as usize;
+    while 0 < more {
         if left == 0 {
             return;
         }
-        let range = r.list[i];
+        let range = range_at(list, i);
         let len = range.len as usize;
         // of this range, `gone` bytes are passed over and `k` moved
         let gone = least(skip, len);
@@ -200,5 +226,6 @@ pub fn scatter(m: &mut [u8], r: Ranges, offset: usize, src: &[u8], from: usize, 
         f += k;
         left -= k;
         i += 1;
+        more -= 1;
     }
 }

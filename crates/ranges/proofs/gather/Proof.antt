@@ -1,29 +1,26 @@
 -- At each turn what is left to take of the ranges not yet passed, put at `d`, makes the whole; no more is taken than `dst`
--- has room for. `t2` is the parameter `r`.
+-- has room for.
 use mathlib.Core.Path.{_≡_, refl}
 use Prim.Native.Nat.{_+_, _-_, _≤_}
 use native.Mathlib.Omega.{arith}
 use lib.ListN.{length, take, drop}
 use lib.Seq.{sets}
-use Rattle.ranges.specs.Ranges.{rangesOf, places, bytesAt}
-use Rattle.ranges.proofs.Laws.{sets-past, places-next, places-none, gather-next, gather-room, room-next}
+use Rattle.ranges.specs.Ranges.{rangesIn, places, bytesAt}
+use Rattle.ranges.proofs.Laws.{sets-past, places-next, places-none, gather-next, gather-room, room-next, rangesIn-none, rangesIn-more}
 use Rattle.ranges.proofs.gather.Statement.{statement}
 use Rattle.ranges.proofs.gather.Tie as tie
 
 abbrev Inv-loop : tie.InvT-loop
-Inv-loop m offset dst₀ at n r count left₀ skip₀ d₀ i₀ dst left skip d i =
-    (d + left ≤ length dst) × (length dst ≡ length dst₀)
-    × (sets dst d (bytesAt m (take left (drop skip (places (drop i (rangesOf r))))))
-    ≡ sets dst₀ at (bytesAt m (take n (drop offset (places (rangesOf r))))))
+Inv-loop m list offset dst₀ at n more₀ left₀ skip₀ d₀ i₀ dst more left skip d i =
+    (d + left ≤ length dst) × (length dst ≡ length dst₀) × (i + more ≤ 8589934591)
+    × (sets dst d (bytesAt m (take left (drop skip (places (rangesIn list i more)))))
+    ≡ sets dst₀ at (bytesAt m (take n (drop offset (places (rangesIn list i₀ more₀))))))
 
 abbrev μ-loop : tie.MeasureT-loop
-μ-loop m offset dst₀ at n r count left₀ skip₀ d₀ i₀ dst left skip d i = count - i
+μ-loop m list offset dst₀ at n more₀ left₀ skip₀ d₀ i₀ dst more left skip d i = more
 
 returns : tie.Need-returns Inv-loop μ-loop
-returns c = let past : length (c .before .before .before .args .dst .now) ≤ c .before .before .before .args .at = c .if1 .taken in rw sets-past
-
-held-requires : tie.Need-held-requires Inv-loop μ-loop
-held-requires c κs = omega arith
+returns c = let past : length (c .before .before .before .before .args .dst .now) ≤ c .before .before .before .before .args .at = c .if1 .taken in rw sets-past
 
 sub-least : tie.Need-sub-least Inv-loop μ-loop
 sub-least c = omega arith
@@ -31,25 +28,22 @@ sub-least c = omega arith
 least-requires : tie.Need-least-requires Inv-loop μ-loop
 least-requires c κs = omega arith
 
+cast-i : tie.Need-cast-i Inv-loop μ-loop
+cast-i c = omega arith
+
 loop-holds : tie.Need-loop-holds Inv-loop μ-loop
 loop-holds c =
-    let a = c .before .before .before .before .before .args in
-    (omega arith, refl, gather-room (a .m .now) (a .n) (c .least .result) _ (a .dst .now) (a .at) (c .least .ensures))
+    let a = c .before .before .before .before .before .before .args in
+    (omega arith, refl, omega arith, gather-room (a .m .now) (a .n) (c .before .least .result) _ (a .dst .now) (a .at) (c .before .least .ensures))
 
 same-length : tie.Need-same-length Inv-loop μ-loop
 same-length c = omega arith
 
 returns-2 : tie.Need-returns-2 Inv-loop μ-loop
-returns-2 c = rw (← (c .before .before .loop .inv .2), c .if2 .taken)
+returns-2 c = rw (← (c .before .before .loop .inv .3), c .if2 .taken)
 
-mul-range : tie.Need-mul-range Inv-loop μ-loop
-mul-range c = omega arith
-
-element-copy-out-range : tie.Need-element-copy-out-range Inv-loop μ-loop
-element-copy-out-range c = omega arith
-
-cast-len : tie.Need-cast-len Inv-loop μ-loop
-cast-len c = omega arith
+range-at-requires : tie.Need-range-at-requires Inv-loop μ-loop
+range-at-requires c κs = omega arith
 
 least-requires-2 : tie.Need-least-requires-2 Inv-loop μ-loop
 least-requires-2 c κs = omega arith
@@ -75,6 +69,9 @@ sub-left c = omega arith
 add-i : tie.Need-add-i Inv-loop μ-loop
 add-i c = omega arith
 
+sub-more : tie.Need-sub-more Inv-loop μ-loop
+sub-more c = omega arith
+
 loop-less : tie.Need-loop-less Inv-loop μ-loop
 loop-less c = omega arith
 
@@ -82,19 +79,22 @@ loop-again : tie.Need-loop-again Inv-loop μ-loop
 loop-again c =
     let back6 = c .before .before .before .before .before .before in
     let back12 = back6 .before .before .before .before .before .before in
-    let l = back6 .before .before .before .before .loop in
+    let l = back6 .before .before .before .loop in
     let a = back12 .before .before .before .before .args in
+    let x = back6 .range-at in
     let gone = c .before .before .before .before .before .least2 in
     let k = c .before .before .before .before .least3 in
-    let g = c .before .before .gather-run in (
+    let g = c .before .before .gather-run in
+    let behind = rangesIn (a .list .now) (l .i + 1) (l .more - 1) in (
       rw (g .kept .1 .1 .1 .0) (room-next (l .d) (l .left) _ (k .result) (length (l .dst)) (l .inv .0) (k .ensures)),
+      omega arith,
       omega arith,
       rw (
         g .ensures,
         ← (gather-next (a .m .now) _ (k .result) _ (l .dst) (l .d)),
-        ← (places-next (a .t2) (l .i) (omega arith) (l .skip) (l .left) (gone .result) (k .result) (gone .ensures) (k .ensures)),
+        ← (places-next (x .result) behind (l .skip) (l .left) (gone .result) (k .result) (gone .ensures) (k .ensures)),
       )
-          (l .inv .2),
+          (rw (rangesIn-more (a .list .now) (l .i) (l .more) (l .more - 1) (omega arith), ← (x .ensures)) at (l .inv .3)),
     )
 
 same-length-2 : tie.Need-same-length-2 Inv-loop μ-loop
@@ -102,9 +102,8 @@ same-length-2 c = omega arith
 
 returns-3 : tie.Need-returns-3 Inv-loop μ-loop
 returns-3 c =
-    let back6 = c .before .before .before .before .before .before in
     let l = c .before .loop in
-    rw (← (l .inv .2), places-none (back6 .before .args .t2) (l .i) (l .skip) (l .left) (omega arith))
+    rw (← (l .inv .3), rangesIn-none _ (l .i) (l .more) (omega arith), places-none)
 
 pub gather-spec : {M : Type 1} → statement M
 gather-spec =
@@ -113,15 +112,13 @@ gather-spec =
     Inv-loop
     μ-loop
     returns
-    held-requires
     sub-least
     least-requires
+    cast-i
     loop-holds
     same-length
     returns-2
-    mul-range
-    element-copy-out-range
-    cast-len
+    range-at-requires
     least-requires-2
     sub-least-2
     least-requires-3
@@ -130,6 +127,7 @@ gather-spec =
     add-d
     sub-left
     add-i
+    sub-more
     loop-less
     loop-again
     same-length-2
