@@ -8,11 +8,9 @@ use native.Mathlib.Omega.{arith}
 use borrow.Author.Tests.{le-leb, lt-leb, leb-true}
 use lib.Dec.{eqb, leb}
 use lib.ListN.{length, getD, length-append}
-use lib.Seq.{length-take-le}
 use Rattle.ranges.specs.declared.Range.{Range}
-use Rattle.ranges.specs.declared.Ranges.{Ranges}
-use Rattle.ranges.specs.Ranges.{rangesOf, total, Sound, withRange}
-use Rattle.ranges.proofs.Laws.{total-append, rangesOf-with, sound-with, sound-none}
+use Rattle.ranges.specs.Ranges.{rangesOf, rangesIn, putRange, total}
+use Rattle.ranges.proofs.Laws.{total-append, rangesIn-none, rangesIn-before, rangesIn-snoc, sound-none}
 use Rattle.chain.specs.declared.Fault.{Fault}
 use Rattle.chain.specs.declared.Fault.the-variants.{PastTable, TooMany, Nested}
 use Rattle.chain.specs.declared.End.{End}
@@ -22,7 +20,7 @@ use Rattle.chain.specs.declared.Chain.{Chain}
 use Rattle.chain.specs.declared.Walked.{Walked}
 use Rattle.chain.specs.Walk.{descriptorAt, descriptors, noDescriptor, hasNext, isWritable, isIndirect, rangeOf, Outcome, whole}
 use Rattle.chain.specs.Walk.{faulted, andThen, byEnd, joinedOf, enterOf, onward, inTable, direct, walkOf, emptyChain, SoundChain}
-use Rattle.chain.specs.Walk.{Joins}
+use Rattle.chain.specs.Walk.{replyWith, requestWith, Joins}
 
 -- ---- tables
 
@@ -95,25 +93,23 @@ module _ (m : List ℕ) (a size n k number : ℕ) (rd wr : List Range) (fuel : n
 -- ---- one descriptor joined to a chain
 
 -- how the walk goes on after a descriptor that the code joined
-module _ {c : Chain} {d : Descriptor} {w : Walked} (j : Joins c d w) (go : List Range → List Range → Outcome) where
-  pub onward-fault : {f : Fault} → w .end ≡ Faulted f → onward d (rangesOf (c .request)) (rangesOf (c .reply)) go ≡ faulted f
+module _ {ws ws′ : List ℕ} {c : Chain} {d : Descriptor} {w : Walked} (j : Joins ws c d ws′ w) (go : List Range → List Range → Outcome) where
+  pub onward-fault : {f : Fault} → w .end ≡ Faulted f → onward d (rangesOf ws (c .request)) (rangesOf ws (c .reply)) go ≡ faulted f
   onward-fault e = rw (← (j .outcome), e)
 
   pub onward-last : w .end ≡ Whole → hasNext d ≡ false
-      → onward d (rangesOf (c .request)) (rangesOf (c .reply)) go ≡ whole (rangesOf (w .chain .request)) (rangesOf (w .chain .reply))
+      → onward d (rangesOf ws (c .request)) (rangesOf ws (c .reply)) go ≡ whole (rangesOf ws′ (w .chain .request)) (rangesOf ws′ (w .chain .reply))
   onward-last e h = rw (← (j .outcome), e, h)
 
   pub onward-next : w .end ≡ Whole → hasNext d ≡ true
-      → onward d (rangesOf (c .request)) (rangesOf (c .reply)) go ≡ go (rangesOf (w .chain .request)) (rangesOf (w .chain .reply))
+      → onward d (rangesOf ws (c .request)) (rangesOf ws (c .reply)) go ≡ go (rangesOf ws′ (w .chain .request)) (rangesOf ws′ (w .chain .reply))
   onward-next e h = rw (← (j .outcome), e, h)
 
 -- ---- no descriptor, and a side with one range more
 
-pub sound-empty : SoundChain emptyChain
-sound-empty = record { request = sound-none; reply = sound-none; few = omega arith; readable = omega arith; writable = omega arith }
-
-pub length-rangesOf : (r : Ranges) → Sound r → length (rangesOf r) ≡ r .count
-length-rangesOf r s = length-take-le (r .count) (r .list) (omega arith)
+pub sound-empty : (ws : List ℕ) → SoundChain ws emptyChain
+unfolding total rangesIn
+sound-empty ws = record { start = refl; behind = refl; few = omega arith; request = refl; reply = refl; readable = omega arith; writable = omega arith }
 
 total-snoc : (rs : List Range) (x : Range) → total (rs ++ (x ∷ [])) ≡ total rs + x .len
 unfolding total
@@ -122,23 +118,46 @@ total-snoc rs x = rw total-append (omega arith)
 length-snoc : (rs : List Range) (x : Range) → length (rs ++ (x ∷ [])) ≡ length rs + 1
 length-snoc rs x = length-append rs (x ∷ [])
 
--- `r′` is `r` with `x` at the end
-pub record Longer (r : Ranges) (x : Range) (r′ : Ranges) : Type 0 where
-  pub ranges : rangesOf r′ ≡ rangesOf r ++ (x ∷ [])
-  pub sound : Sound r′
-  pub count : r′ .count ≡ r .count + 1
-  pub bytes : r′ .bytes ≡ r .bytes + x .len
+module _ (ws : List ℕ) (c : Chain) (x : Range) (s : SoundChain ws c) (few : c .request .count + c .reply .count < 34) (room : 68 ≤ length ws) where
+  -- a range put behind the reply
+  module _ (fits : c .reply .bytes + x .len ≤ 1048576) (ws′ : List ℕ) (e : ws′ ≡ putRange ws (c .reply .first + c .reply .count) x) where
+    pub reply-kept : rangesOf ws′ (c .request) ≡ rangesOf ws (c .request)
+    reply-kept = rw e (rangesIn-before ws (c .reply .first + c .reply .count) x (c .request .count) (c .request .first) (omega (arith, s .start, s .behind)))
 
-pub longer : (r : Ranges) (x : Range) (r′ : Ranges) → Sound r → r .count < 34 → r .bytes + x .len < 2 ^ 32 → r′ ≡ withRange r x → Longer r x r′
-longer r x r′ s room fits e =
-    let ranges : rangesOf r′ ≡ rangesOf r ++ (x ∷ []) = rw e (rangesOf-with r x room fits s) in
-    let sound : Sound r′ = rw e (sound-with r x room fits s) in
-    record {
-      ranges = ranges;
-      sound = sound;
-      count = sym (length-rangesOf r′ sound) ∙ rw (ranges, length-snoc (rangesOf r) x, length-rangesOf r s);
-      bytes = sound .sum ∙ rw (ranges, total-snoc (rangesOf r) x, s .sum);
-    }
+    pub reply-more : rangesIn ws′ (c .reply .first) (c .reply .count + 1) ≡ rangesOf ws (c .reply) ++ (x ∷ [])
+    reply-more = rw e (rangesIn-snoc ws (c .reply .first + c .reply .count) x (c .reply .count) (c .reply .first) refl (omega (arith, s .behind)))
+
+    pub reply-sound : SoundChain ws′ (replyWith c (x .len))
+    reply-sound =
+        record {
+          start = s .start;
+          behind = s .behind;
+          few = omega arith;
+          request = rw reply-kept (s .request);
+          reply = rw (reply-more, total-snoc (rangesOf ws (c .reply)) x, s .reply);
+          readable = s .readable;
+          writable = fits;
+        }
+
+  -- a range put behind the request, while there is no reply
+  module _ (none : c .reply .count ≡ 0) (fits : c .request .bytes + x .len ≤ 1048576) (ws′ : List ℕ) (e : ws′ ≡ putRange ws (c .request .first + c .request .count) x) where
+    pub request-more : rangesIn ws′ (c .request .first) (c .request .count + 1) ≡ rangesOf ws (c .request) ++ (x ∷ [])
+    request-more = rw e (rangesIn-snoc ws (c .request .first + c .request .count) x (c .request .count) (c .request .first) refl (omega (arith, s .start)))
+
+    pub request-kept : rangesIn ws′ (c .reply .first + 1) (c .reply .count) ≡ rangesOf ws (c .reply)
+    request-kept = rangesIn-none ws′ _ _ none ∙ sym (rangesIn-none ws _ _ none)
+
+    pub request-sound : SoundChain ws′ (requestWith c (x .len))
+    request-sound =
+        record {
+          start = s .start;
+          behind = rw (s .behind);
+          few = omega arith;
+          request = rw (request-more, total-snoc (rangesOf ws (c .request)) x, s .request);
+          reply = rw request-kept (s .reply);
+          readable = fits;
+          writable = s .writable;
+        }
 
 -- ---- the bounds of a whole chain, by induction over the definition
 

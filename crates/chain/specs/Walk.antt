@@ -9,6 +9,7 @@ use lib.ListN.{length, getD}
 use Rattle.memory.specs.Bytes.{le, insideOf}
 use Rattle.ranges.specs.Ranges.{noRanges, rangesOf, total, Sound}
 use Rattle.ranges.specs.declared.Range.{Range}
+use Rattle.ranges.specs.declared.Ranges.{Ranges}
 use Rattle.chain.specs.declared.Fault.{Fault}
 use Rattle.chain.specs.declared.Fault.the-variants.{PastTable, TooMany, Order, TooLong, NotNegotiated, WithNext, Nested}
 use Rattle.chain.specs.declared.Fault.the-variants.{TableLength, TableOutside}
@@ -115,32 +116,48 @@ direct m negotiated (suc k) table number rd wr =
 abbrev pub walkOf : List ℕ → ℕ → ℕ → ℕ → Bool → Outcome
 walkOf m table size head negotiated = direct m negotiated 34 (descriptors m table size) head [] []
 
--- ---- what the code's structs stand for
+-- ---- what the code's structs stand for, over the list of words that the walk fills
 
 abbrev pub emptyChain : Chain
 emptyChain = record { request = noRanges; reply = noRanges }
 
--- at most 34 ranges in all, and no side above 1,048,576 bytes
-pub record SoundChain (c : Chain) : Type 0 where
-  pub request : Sound (c .request)
-  pub reply : Sound (c .reply)
+-- one side with a range of `len` bytes more
+abbrev pub longerBy : ℕ → Ranges → Ranges
+longerBy len r = record { first = r .first; count = r .count + 1; bytes = r .bytes + len }
+
+abbrev pub replyWith : Chain → ℕ → Chain
+replyWith c len = record { request = c .request; reply = longerBy len (c .reply) }
+
+abbrev pub requestWith : Chain → ℕ → Chain
+requestWith c len =
+    record {
+      request = longerBy len (c .request);
+      reply = record { first = c .reply .first + 1; count = c .reply .count; bytes = c .reply .bytes };
+    }
+
+-- the reply stands right behind the request; at most 34 ranges in all, and no side above 1,048,576 bytes
+pub record SoundChain (ws : List ℕ) (c : Chain) : Type 0 where
+  pub start : c .request .first ≡ 0
+  pub behind : c .reply .first ≡ c .request .count
   pub few : c .request .count + c .reply .count ≤ 34
+  pub request : Sound ws (c .request)
+  pub reply : Sound ws (c .reply)
   pub readable : c .request .bytes ≤ 1048576
   pub writable : c .reply .bytes ≤ 1048576
 
-abbrev pub outcomeOf : Walked → Outcome
-outcomeOf w = byEnd (w .end) (whole (rangesOf (w .chain .request)) (rangesOf (w .chain .reply)))
+abbrev pub outcomeOf : List ℕ → Walked → Outcome
+outcomeOf ws w = byEnd (w .end) (whole (rangesOf ws (w .chain .request)) (rangesOf ws (w .chain .reply)))
 
 -- one descriptor joined to a chain: at most one range more
-pub record Joins (c : Chain) (d : Descriptor) (w : Walked) : Type 0 where
-  pub outcome : outcomeOf w ≡ joinedOf d (rangesOf (c .request)) (rangesOf (c .reply))
-  pub sound : SoundChain (w .chain)
+pub record Joins (ws : List ℕ) (c : Chain) (d : Descriptor) (ws′ : List ℕ) (w : Walked) : Type 0 where
+  pub outcome : outcomeOf ws′ w ≡ joinedOf d (rangesOf ws (c .request)) (rangesOf ws (c .reply))
+  pub sound : SoundChain ws′ (w .chain)
   pub more : w .chain .request .count + w .chain .reply .count ≤ c .request .count + c .reply .count + 1
 
 -- the ranges followed to the end of the chain or to a fault; the chain is sound after a fault too
-pub record Follows (m : List ℕ) (table size head : ℕ) (negotiated : Bool) (w : Walked) : Type 0 where
-  pub outcome : outcomeOf w ≡ walkOf m table size head negotiated
-  pub sound : SoundChain (w .chain)
+pub record Follows (m : List ℕ) (table size head : ℕ) (negotiated : Bool) (ws : List ℕ) (w : Walked) : Type 0 where
+  pub outcome : outcomeOf ws w ≡ walkOf m table size head negotiated
+  pub sound : SoundChain ws (w .chain)
 
 -- no ranges after a fault
 abbrev pub Cleared : End → Chain → Type 0
@@ -148,7 +165,7 @@ Cleared Whole c = Unit
 Cleared (Faulted f) c = c ≡ emptyChain
 
 -- the whole walk: its outcome is the rule's, and after a fault the chain is empty
-pub record Walks (m : List ℕ) (table size head : ℕ) (negotiated : Bool) (w : Walked) : Type 0 where
-  pub outcome : outcomeOf w ≡ walkOf m table size head negotiated
-  pub sound : SoundChain (w .chain)
+pub record Walks (m : List ℕ) (table size head : ℕ) (negotiated : Bool) (ws : List ℕ) (w : Walked) : Type 0 where
+  pub outcome : outcomeOf ws w ≡ walkOf m table size head negotiated
+  pub sound : SoundChain ws (w .chain)
   pub cleared : Cleared (w .end) (w .chain)

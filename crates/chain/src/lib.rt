@@ -1,10 +1,11 @@
 // The walk of a descriptor chain of a split virtqueue: the ranges that its descriptors name, or the
 // fault that ends it. It ends whatever memory holds; a byte past the end of memory reads as 0.
 ghost use mathlib.Core.Path.{_≡_};
-ghost use Prim.Native.Nat.{_+_, _*_, _<_};
+ghost use Prim.Native.Nat.{_+_, _*_, _≤_, _<_};
+ghost use lib.ListN.{length};
 ghost use Rattle.chain.specs.declared.End.the-variants.{Faulted};
 ghost use Rattle.chain.specs.Walk.{descriptorAt, hasNext, isWritable, isIndirect, rangeOf, enterOf, SoundChain, emptyChain};
-ghost use Rattle.chain.specs.Walk.{Joins, Follows, Walks};
+ghost use Rattle.chain.specs.Walk.{replyWith, requestWith, Joins, Follows, Walks};
 use counts::DescriptorNumber;
 use counts::GuestAddress;
 use memory::get16;
@@ -92,7 +93,7 @@ impl Descriptor {
         ensures { λ r. ⌜ r ≡ rangeOf self ⌝ }
     {
         let at = self.at;
-        let len = self.len;
+        let len = self.len as u64;
         Range { at, len }
     }
 
@@ -135,14 +136,38 @@ impl Chain {
             chain: self,
         }
     }
+
+    // One range of `len` bytes more in its reply, and in its request.
+    fn with_reply(self, len: u32) -> Chain
+        requires { ⌜ (self .reply .count ≤ 34) × (self .reply .bytes + len ≤ 1048576) ⌝ }
+        ensures { λ r. ⌜ r ≡ replyWith self len ⌝ }
+    {
+        let mut reply = self.reply;
+        reply.count += 1;
+        reply.bytes += len;
+        let request = self.request;
+        Chain { request, reply }
+    }
+
+    fn with_request(self, len: u32) -> Chain
+        requires { ⌜ (self .request .count ≤ 34) × (self .reply .first ≤ 34) × (self .request .bytes + len ≤ 1048576) ⌝ }
+        ensures { λ r. ⌜ r ≡ requestWith self len ⌝ }
+    {
+        let mut request = self.request;
+        request.count += 1;
+        request.bytes += len;
+        let mut reply = self.reply;
+        reply.first += 1;
+        Chain { request, reply }
+    }
 }
 
-// The chain with one descriptor more at the end of its side; or as it was, with the fault.
-fn joined(chain: Chain, d: Descriptor) -> Walked
-    requires { ⌜ SoundChain chain × (chain .request .count + chain .reply .count < 34) ⌝ }
-    ensures { λ r. ⌜ Joins chain d r ⌝ }
+// The chain with one descriptor more at the end of its side, its range put into the list; or as it
+// was, with the fault.
+fn joined(list: &mut [u64], chain: Chain, d: Descriptor) -> Walked
+    requires { ⌜ SoundChain (now list) chain × (chain .request .count + chain .reply .count < 34) × (68 ≤ length (now list)) ⌝ }
+    ensures { λ r. ⌜ Joins (now (list .entry)) chain d (now (list .exit)) r ⌝ }
 {
-    let mut next = chain;
     let request = chain.request;
     let reply = chain.reply;
     let range = d.range();
@@ -150,10 +175,10 @@ fn joined(chain: Chain, d: Descriptor) -> Walked
         if MOST_BYTES - reply.bytes < d.len {
             return chain.stopped(Fault::TooLong);
         }
-        next.reply = reply.with(range);
+        ranges::put_range(list, reply.first as usize + reply.count as usize, range);
         return Walked {
             end: End::Whole,
-            chain: next,
+            chain: chain.with_reply(d.len),
         };
     }
     if 0 < reply.count {
@@ -162,10 +187,10 @@ fn joined(chain: Chain, d: Descriptor) -> Walked
     if MOST_BYTES - request.bytes < d.len {
         return chain.stopped(Fault::TooLong);
     }
-    next.request = request.with(range);
+    ranges::put_range(list, request.first as usize + request.count as usize, range);
     Walked {
         end: End::Whole,
-        chain: next,
+        chain: chain.with_request(d.len),
     }
 }
 
@@ -192,12 +217,14 @@ fn enter(ram: usize, negotiated: bool, d: Descriptor) -> End
 // that bit 28 is negotiated. After a fault the chain is what was read so far.
 fn follow(
     m: &[u8],
+    list: &mut [u64],
     table: GuestAddress,
     size: u16,
     head: DescriptorNumber,
     indirect: bool,
 ) -> Walked
-    ensures { λ r. ⌜ Follows (now (m .entry)) (table .0) size (head .0) indirect r ⌝ }
+    requires { ⌜ 68 ≤ length (now list) ⌝ }
+    ensures { λ r. ⌜ Follows (now (m .entry)) (table .0) size (head .0) indirect (now (list .exit)) r ⌝ }
 {
     let mut chain = Chain::empty();
     let mut number = head;
@@ -228,7 +255,7 @@ fn follow(
                 if entry.is_indirect() {
                     break 'walk End::Faulted(Fault::Nested);
                 }
-                let step = joined(chain, entry);
+                let step = joined(list, chain, entry);
                 chain = step.chain;
                 let stop = step.end;
                 if let End::Faulted(fault) = stop {
@@ -241,7 +268,7 @@ fn follow(
                 number = entry.next;
             }
         }
-        let step = joined(chain, d);
+        let step = joined(list, chain, d);
         chain = step.chain;
         let stop = step.end;
         if let End::Faulted(fault) = stop {
@@ -256,17 +283,20 @@ fn follow(
     Walked { end, chain }
 }
 
-// The walk of the chain at `head`: its ranges, or a fault and no ranges.
+// The walk of the chain at `head`: its ranges, put into the list, readable ones first; or a fault and
+// no ranges.
 pub fn walk(
     m: &[u8],
+    list: &mut [u64],
     table: GuestAddress,
     size: u16,
     head: DescriptorNumber,
     indirect: bool,
 ) -> Walked
-    ensures { λ r. ⌜ Walks (now (m .entry)) (table .0) size (head .0) indirect r ⌝ }
+    requires { ⌜ 68 ≤ length (now list) ⌝ }
+    ensures { λ r. ⌜ Walks (now (m .entry)) (table .0) size (head .0) indirect (now (list .exit)) r ⌝ }
 {
-    let walked = follow(m, table, size, head, indirect);
+    let walked = follow(m, list, table, size, head, indirect);
     let end = walked.end;
     let chain = walked.chain;
     let nothing = Chain::empty();

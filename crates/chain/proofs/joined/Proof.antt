@@ -1,8 +1,7 @@
--- The tests are the definition's own; a side that stays at 1,048,576 bytes or below fits its struct.
 use mathlib.Core.Path.{_≡_, _∙_, sym}
-use Prim.Native.Nat.{_+_}
+use mathlib.Core.List.{List}
+use Prim.Native.Nat.{ℕ, _+_, _≤_}
 use native.Mathlib.Omega.{arith}
-use borrow.Author.Needs.{needs}
 use borrow.Author.Tests.{le-leb, lt-leb, eq-eqb, ne-eqb}
 use Rattle.chain.specs.declared.Fault.{Fault}
 use Rattle.chain.specs.declared.End.the-variants.{Faulted}
@@ -10,18 +9,20 @@ use Rattle.chain.specs.declared.Descriptor.{Descriptor}
 use Rattle.chain.specs.declared.Chain.{Chain}
 use Rattle.chain.specs.declared.Walked.{Walked}
 use Rattle.ranges.specs.Ranges.{rangesOf}
+use Rattle.ranges.proofs.Laws.{length-rangesIn}
 use Rattle.chain.specs.Walk.{joinedOf, rangeOf, faulted, SoundChain, Joins}
-use Rattle.chain.proofs.Laws.{longer, length-rangesOf}
+use Rattle.chain.proofs.Laws.{reply-kept, reply-more, reply-sound, request-kept, request-more, request-sound}
+use borrow.Author.Needs.{needs}
 use Rattle.chain.proofs.joined.Statement.{statement}
 use Rattle.chain.proofs.joined.Tie as tie
 
 -- a fault leaves the chain as it was
 stops :
-    {c : Chain} {d : Descriptor} {f : Fault} {w : Walked}
-    → SoundChain c
+    {ws : List ℕ} {c : Chain} {d : Descriptor} {f : Fault} {w : Walked}
+    → SoundChain ws c
     → w ≡ record { end = Faulted f; chain = c }
-    → faulted f ≡ joinedOf d (rangesOf (c .request)) (rangesOf (c .reply))
-    → Joins c d w
+    → faulted f ≡ joinedOf d (rangesOf ws (c .request)) (rangesOf ws (c .reply))
+    → Joins ws c d ws w
 stops s e o = rw e (record { outcome = o; sound = s; more = omega arith })
 
 range-requires : tie.Need-range-requires
@@ -40,35 +41,55 @@ returns : tie.Need-returns
 unfolding joinedOf
 returns c =
     let back6 = c .before .before .before .before .before .before in
-    let p = back6 .before .before .before .pre in
-    let a = back6 .before .before .before .args in
+    let p = back6 .before .before .before .before .pre in
+    let a = back6 .before .before .before .before .args in
     stops (p .0) (c .stopped .ensures)
     (rw (
       sym (c .before .before .before .before .before .is-writable .ensures) ∙ c .before .before .before .before .if1 .taken,
-      ← (p .0 .reply .sum),
+      ← (p .0 .reply),
       lt-leb (a .chain .reply .bytes + a .d .len) 1048576 (omega arith),
     ))
 
-with-requires : tie.Need-with-requires
-with-requires c κs = search needs
+cast-put-range : tie.Need-cast-put-range
+cast-put-range c = search needs
+
+cast-put-range-2 : tie.Need-cast-put-range-2
+cast-put-range-2 c = search needs
+
+add-put-range : tie.Need-add-put-range
+add-put-range c = search needs
+
+put-range-requires : tie.Need-put-range-requires
+put-range-requires c κs = search needs
+
+with-reply-requires : tie.Need-with-reply-requires
+with-reply-requires c κs = search needs
+
+same-length : tie.Need-same-length
+same-length c = search needs
 
 returns-2 : tie.Need-returns-2
 unfolding joinedOf
 returns-2 c =
     let back6 = c .before .before .before .before .before .before in
-    let p = back6 .before .before .before .pre in
-    let a = back6 .before .before .before .args in
-    let g = longer (a .chain .reply) (rangeOf (a .d)) (c .with .result) (p .0 .reply) (omega arith) (omega arith)
-    (rw (← (c .before .before .before .before .before .before .range .ensures)) (c .with .ensures)) in
+    let back12 = back6 .before .before .before .before .before .before in
+    let p = back12 .before .before .before .before .pre in
+    let a = back12 .before .before .before .before .args in
+    let w = c .with-reply .ensures in
+    let e = rw (back6 .before .before .before .before .before .before .range .ensures) at (c .before .before .before .put-range .ensures) in
+    let x = rangeOf (a .d) in
+    let fits : a .chain .reply .bytes + a .d .len ≤ 1048576 = omega arith in
     record {
       outcome = rw (
-        sym (c .before .before .before .before .before .is-writable .ensures) ∙ c .before .before .before .before .if1 .taken,
-        ← (p .0 .reply .sum),
-        le-leb (a .chain .reply .bytes + a .d .len) 1048576 (omega arith),
-        g .ranges,
+        w,
+        sym (back6 .before .before .before .before .before .is-writable .ensures) ∙ back6 .before .before .before .before .if1 .taken,
+        ← (p .0 .reply),
+        le-leb (a .chain .reply .bytes + a .d .len) 1048576 fits,
+        reply-kept (a .list .now) (a .chain) x (p .0) (p .1) (p .2) fits _ e,
+        reply-more (a .list .now) (a .chain) x (p .0) (p .1) (p .2) fits _ e,
       );
-      sound = record { request = p .0 .request; reply = g .sound; few = omega arith; readable = omega arith; writable = omega arith };
-      more = omega arith;
+      sound = rw w (reply-sound (a .list .now) (a .chain) x (p .0) (p .1) (p .2) fits _ e);
+      more = rw w (omega arith);
     }
 
 stopped-requires-2 : tie.Need-stopped-requires-2
@@ -78,13 +99,13 @@ returns-3 : tie.Need-returns-3
 unfolding joinedOf
 returns-3 c =
     let back6 = c .before .before .before .before .before .before in
-    let p = back6 .before .before .pre in
-    let r = back6 .before .before .args .chain .reply in
+    let p = back6 .before .before .before .pre in
+    let a = back6 .before .before .before .args in
     stops (p .0) (c .stopped2 .ensures)
     (rw (
       sym (c .before .before .before .before .is-writable .ensures) ∙ c .before .before .before .if1 .left,
-      length-rangesOf r (p .0 .reply),
-      ne-eqb (r .count) 0 (λ z. omega arith),
+      length-rangesIn (a .list .now) (a .chain .reply .first) (a .chain .reply .count),
+      ne-eqb (a .chain .reply .count) 0 (λ z. omega arith),
     ))
 
 sub-if4 : tie.Need-sub-if4
@@ -97,39 +118,60 @@ returns-4 : tie.Need-returns-4
 unfolding joinedOf
 returns-4 c =
     let back6 = c .before .before .before .before .before .before in
-    let p = back6 .before .before .before .before .before .pre in
-    let a = back6 .before .before .before .before .before .args in
+    let p = back6 .before .before .before .before .before .before .pre in
+    let a = back6 .before .before .before .before .before .before .args in
     stops (p .0) (c .stopped3 .ensures)
     (rw (
       sym (back6 .before .is-writable .ensures) ∙ c .before .before .before .before .before .before .if1 .left,
-      length-rangesOf (a .chain .reply) (p .0 .reply),
+      length-rangesIn (a .list .now) (a .chain .reply .first) (a .chain .reply .count),
       eq-eqb (a .chain .reply .count) 0 (omega arith),
-      ← (p .0 .request .sum),
+      ← (p .0 .request),
       lt-leb (a .chain .request .bytes + a .d .len) 1048576 (omega arith),
     ))
 
-with-requires-2 : tie.Need-with-requires-2
-with-requires-2 c κs = search needs
+cast-put-range-3 : tie.Need-cast-put-range-3
+cast-put-range-3 c = search needs
+
+cast-put-range-4 : tie.Need-cast-put-range-4
+cast-put-range-4 c = search needs
+
+add-put-range-2 : tie.Need-add-put-range-2
+add-put-range-2 c = search needs
+
+put-range-requires-2 : tie.Need-put-range-requires-2
+put-range-requires-2 c κs = search needs
+
+with-request-requires : tie.Need-with-request-requires
+with-request-requires c κs = search needs
+
+same-length-2 : tie.Need-same-length-2
+same-length-2 c = search needs
 
 returns-5 : tie.Need-returns-5
 unfolding joinedOf
 returns-5 c =
     let back6 = c .before .before .before .before .before .before in
-    let p = back6 .before .before .before .before .before .pre in
-    let a = back6 .before .before .before .before .before .args in
-    let g = longer (a .chain .request) (rangeOf (a .d)) (c .with2 .result) (p .0 .request) (omega arith) (omega arith)
-    (rw (← (back6 .before .before .range .ensures)) (c .with2 .ensures)) in
+    let back12 = back6 .before .before .before .before .before .before in
+    let p = back12 .before .before .before .before .before .before .pre in
+    let a = back12 .before .before .before .before .before .before .args in
+    let w = c .with-request .ensures in
+    let e = rw (back12 .before .before .range .ensures) at (c .before .before .before .put-range2 .ensures) in
+    let x = rangeOf (a .d) in
+    let none : a .chain .reply .count ≡ 0 = omega arith in
+    let fits : a .chain .request .bytes + a .d .len ≤ 1048576 = omega arith in
     record {
       outcome = rw (
-        sym (back6 .before .is-writable .ensures) ∙ c .before .before .before .before .before .before .if1 .left,
-        length-rangesOf (a .chain .reply) (p .0 .reply),
-        eq-eqb (a .chain .reply .count) 0 (omega arith),
-        ← (p .0 .request .sum),
-        le-leb (a .chain .request .bytes + a .d .len) 1048576 (omega arith),
-        g .ranges,
+        w,
+        sym (back12 .before .is-writable .ensures) ∙ back6 .before .before .before .before .before .before .if1 .left,
+        length-rangesIn (a .list .now) (a .chain .reply .first) (a .chain .reply .count),
+        eq-eqb (a .chain .reply .count) 0 none,
+        ← (p .0 .request),
+        le-leb (a .chain .request .bytes + a .d .len) 1048576 fits,
+        request-more (a .list .now) (a .chain) x (p .0) (p .1) (p .2) none fits _ e,
+        request-kept (a .list .now) (a .chain) x (p .0) (p .1) (p .2) none fits _ e,
       );
-      sound = record { request = g .sound; reply = p .0 .reply; few = omega arith; readable = omega arith; writable = omega arith };
-      more = omega arith;
+      sound = rw w (request-sound (a .list .now) (a .chain) x (p .0) (p .1) (p .2) none fits _ e);
+      more = rw w (omega arith);
     }
 
 pub joined-spec : {M : Type 1} → statement M
@@ -141,12 +183,22 @@ joined-spec =
     sub-if2
     stopped-requires
     returns
-    with-requires
+    cast-put-range
+    cast-put-range-2
+    add-put-range
+    put-range-requires
+    with-reply-requires
+    same-length
     returns-2
     stopped-requires-2
     returns-3
     sub-if4
     stopped-requires-3
     returns-4
-    with-requires-2
+    cast-put-range-3
+    cast-put-range-4
+    add-put-range-2
+    put-range-requires-2
+    with-request-requires
+    same-length-2
     returns-5)
