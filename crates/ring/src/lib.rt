@@ -149,14 +149,15 @@ pub fn complete(
     completed: u16,
     head: DescriptorNumber,
     len: u32,
+    list: &[u64],
     reply: Ranges,
     offset: usize,
     bytes: &[u8],
     n: usize,
 ) -> Posted
     ensures { λ r. ⌜ completion (now (m .exit)) r
-        ≡ completedOf (now (m .entry)) page size completed head len (rangesOf reply) offset (now (bytes .entry)) n ⌝ }
+        ≡ completedOf (now (m .entry)) page size completed head len (rangesOf (now (list .entry)) reply) offset (now (bytes .entry)) n ⌝ }
 {
-    ranges::scatter(m, reply, offset, bytes, 0, n);
+    ranges::scatter(m, list, reply, offset, bytes, 0, n);
     post(m, page, size, completed, head, len)
 }
