@@ -11,7 +11,7 @@ use lib.ListN.{length, getD, set, replicate, length-set, length-map, List·getD-
 use Rattle.description.specs.Lawful.{lawful, lawfulCounts}
 use Rattle.description.specs.declared.Description.{Description}
 use Rattle.ranges.specs.Ranges.{allInside}
-use Rattle.ranges.proofs.Laws.{sound-none}
+use Rattle.ranges.proofs.Laws.{rangesOf-none, sound-none}
 use Rattle.registers.specs.Fit.{FitRegisters}
 use Rattle.registers.specs.Map.{sizeOf}
 use Rattle.registers.specs.Rules.{writeOf}
@@ -29,26 +29,28 @@ use Rattle.card.specs.declared.Parts.{Parts}
 use Rattle.card.specs.declared.Stream.{Stream}
 use Rattle.card.specs.declared.WriteAnswer.{WriteAnswer}
 
-pub no-message-fit : (len : ℕ) → FitMessage len noMessage
+pub no-message-fit : (len : ℕ) (ws : List ℕ) → FitMessage len ws noMessage
 unfolding allInside
-no-message-fit len =
+no-message-fit len ws =
     record {
       one = omega arith;
-      request = sound-none;
-      reply = sound-none;
+      idle = λ h. refl;
+      request = sound-none ws;
+      reply = sound-none ws;
       few = omega arith;
       short-request = omega arith;
       short-reply = omega arith;
       moved = omega arith;
-      request-inside = refl;
-      reply-inside = refl;
+      request-inside = rw (rangesOf-none ws);
+      reply-inside = rw (rangesOf-none ws);
     }
 
 -- a queue of which nothing was taken
-pub no-queue-fit : (N payload len : ℕ) → FitQueue N payload len noCounters noMessage
-no-queue-fit N payload len =
+pub no-queue-fit : (N payload len : ℕ) (ws : List ℕ) → length ws ≡ 68 → FitQueue N payload len ws noCounters noMessage
+no-queue-fit N payload len ws h =
     record {
-      message = no-message-fit len;
+      message = no-message-fit len ws;
+      room = h;
       wraps = omega arith;
       balanced = refl;
       head = λ h. absurd (omega arith);
@@ -108,7 +110,7 @@ parts-reset-fit p f =
 
 pub card-of-fit : (p : Parts) (len : ℕ) → FitParts p → Fit (cardOf p len)
 card-of-fit p len f =
-    record { registers = power-on-fit; parts = f; four = refl; play = no-queue-fit _ _ len; capture = no-queue-fit _ _ len }
+    record { registers = power-on-fit; parts = f; four = refl; play = no-queue-fit _ _ len _ refl; capture = no-queue-fit _ _ len _ refl }
 
 module _ (c : Card) (f : Fit c) where
   pub fit-with-registers : (r : Registers) → FitRegisters r → Fit (withRegisters c r)
@@ -136,19 +138,20 @@ module _ (c : Card) (f : Fit c) where
         registers = f .registers;
         parts = parts-reset-fit (c .parts) (f .parts);
         four = refl;
-        play = no-queue-fit _ _ (c .«ram_len»);
-        capture = no-queue-fit _ _ (c .«ram_len»);
+        play = no-queue-fit _ _ (c .«ram_len») _ refl;
+        capture = no-queue-fit _ _ (c .«ram_len») _ refl;
       }
 
   -- a stream's queue i after a base write of queue q; its payload is measured by `p`
-  dropped-fit : (N q i : ℕ) (p : Message → ℕ) (m : Message) (b : Bool)
+  dropped-fit : (N q i : ℕ) (p : Message → ℕ) (ws : List ℕ) (m : Message) (b : Bool)
       → i < 4
       → eqb q i ≡ b
-      → FitQueue N (p m) (c .«ram_len») (getD (c .queues) i noCounters) m
-      → let n : Message = cond b noMessage m in FitQueue N (p n) (c .«ram_len») (getD (set (c .queues) q noCounters) i noCounters) n
-  dropped-fit N q i p m true l e g =
-      rw (eqb-true q i e, getD-set-same (c .queues) i noCounters noCounters (omega (arith, f .four))) (no-queue-fit N (p noMessage) (c .«ram_len»))
-  dropped-fit N q i p m false l e g = rw (getD-set-other (c .queues) q i noCounters noCounters (λ z. eqb-false q i e (sym z))) g
+      → FitQueue N (p m) (c .«ram_len») ws (getD (c .queues) i noCounters) m
+      → let n : Message = cond b noMessage m in FitQueue N (p n) (c .«ram_len») ws (getD (set (c .queues) q noCounters) i noCounters) n
+  dropped-fit N q i p ws m true l e g =
+      rw (eqb-true q i e, getD-set-same (c .queues) i noCounters noCounters (omega (arith, f .four)))
+      (no-queue-fit N (p noMessage) (c .«ram_len») ws (g .room))
+  dropped-fit N q i p ws m false l e g = rw (getD-set-other (c .queues) q i noCounters noCounters (λ z. eqb-false q i e (sym z))) g
 
   based-card-fit : (q : ℕ) → Fit (basedCard q c)
   unfolding basedCard
@@ -157,8 +160,8 @@ module _ (c : Card) (f : Fit c) where
         registers = f .registers;
         parts = f .parts;
         four = length-set (c .queues) q noCounters ∙ f .four;
-        play = dropped-fit (sizeOf 2) q 2 (λ m. m .request .bytes - 4) (c .play) (eqb q 2) (omega arith) refl (f .play);
-        capture = dropped-fit (sizeOf 3) q 3 (λ m. m .reply .bytes - 8) (c .capture) (eqb q 3) (omega arith) refl (f .capture);
+        play = dropped-fit (sizeOf 2) q 2 (λ m. m .request .bytes - 4) _ (c .play) (eqb q 2) (omega arith) refl (f .play);
+        capture = dropped-fit (sizeOf 3) q 3 (λ m. m .reply .bytes - 8) _ (c .capture) (eqb q 3) (omega arith) refl (f .capture);
       }
 
 affected-fit : (e : Effect) (c : Card) → Fit c → Fit (affected e c)

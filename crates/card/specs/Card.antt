@@ -80,7 +80,16 @@ partsAtPower d =
 -- a card of these parts, as at power-up
 abbrev pub cardOf : Parts → ℕ → Card
 cardOf p len =
-    record { «ram_len» = len; registers = powerOn; parts = p; queues = replicate 4 noCounters; play = noMessage; capture = noMessage }
+    record {
+      «ram_len» = len;
+      registers = powerOn;
+      queues = replicate 4 noCounters;
+      play = noMessage;
+      capture = noMessage;
+      parts = p;
+      «play_words» = replicate 68 0;
+      «capture_words» = replicate 68 0;
+    }
 
 -- no part at all
 abbrev pub noParts : Parts
@@ -99,7 +108,16 @@ configOf c = record { jacks = c .parts .«jack_count»; streams = c .parts .«st
 
 abbrev pub withRegisters : Card → Registers → Card
 withRegisters c r =
-    record { «ram_len» = c .«ram_len»; registers = r; parts = c .parts; queues = c .queues; play = c .play; capture = c .capture }
+    record {
+      «ram_len» = c .«ram_len»;
+      registers = r;
+      queues = c .queues;
+      play = c .play;
+      capture = c .capture;
+      parts = c .parts;
+      «play_words» = c .«play_words»;
+      «capture_words» = c .«capture_words»;
+    }
 
 -- a card with these counters of a queue
 abbrev pub withCounters : ℕ → Counters → Card → Card
@@ -107,8 +125,10 @@ withCounters q v c =
     record {
       «ram_len» = c .«ram_len»;
       registers = c .registers;
-      parts = c .parts;
       queues = set (c .queues) q v;
       play = c .play;
       capture = c .capture;
+      parts = c .parts;
+      «play_words» = c .«play_words»;
+      «capture_words» = c .«capture_words»;
     }

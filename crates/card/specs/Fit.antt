@@ -1,32 +1,36 @@
 -- What holds of every card that power-up or an entry returned: all that an entry may require of the card given in.
 use mathlib.Core.Path.{_≡_}
 use mathlib.Core.Bool.{true}
+use mathlib.Core.List.{List}
 use Prim.Native.Nat.{ℕ, _+_, _-_, _%_, _≤_, _<_}
 use lib.ListN.{length, getD}
 use Rattle.ranges.specs.Ranges.{Sound, rangesOf, allInside}
 use Rattle.registers.specs.Fit.{FitRegisters}
 use Rattle.registers.specs.Map.{sizeOf}
-use Rattle.card.specs.Card.{noStream, noCounters}
+use Rattle.card.specs.Card.{noStream, noCounters, noMessage}
 use Rattle.card.specs.declared.Card.{Card}
 use Rattle.card.specs.declared.Counters.{Counters}
 use Rattle.card.specs.declared.Message.{Message}
 use Rattle.card.specs.declared.Parts.{Parts}
 
--- a message in work: at most one, its ranges remembered as the walk found them, inside RAM
-pub record FitMessage (len : ℕ) (m : Message) : Type 0 where
+-- a message in work: at most one, its ranges remembered in the words of its chain as the walk found them, inside RAM
+pub record FitMessage (len : ℕ) (ws : List ℕ) (m : Message) : Type 0 where
   pub one : m .count ≤ 1
-  pub request : Sound (m .request)
-  pub reply : Sound (m .reply)
+  -- where there is none, nothing of an earlier one is left
+  pub idle : m .count ≡ 0 → m ≡ noMessage
+  pub request : Sound ws (m .request)
+  pub reply : Sound ws (m .reply)
   pub few : m .request .count + m .reply .count ≤ 34
   pub short-request : m .request .bytes ≤ 1048576
   pub short-reply : m .reply .bytes ≤ 1048576
   pub moved : m .done ≤ 1048576
-  pub request-inside : allInside len (rangesOf (m .request)) ≡ true
-  pub reply-inside : allInside len (rangesOf (m .reply)) ≡ true
+  pub request-inside : allInside len (rangesOf ws (m .request)) ≡ true
+  pub reply-inside : allInside len (rangesOf ws (m .reply)) ≡ true
 
 -- a stream's queue, of N descriptors, whose message in work has a payload of so many bytes
-pub record FitQueue (N payload len : ℕ) (q : Counters) (m : Message) : Type 0 where
-  pub message : FitMessage len m
+pub record FitQueue (N payload len : ℕ) (ws : List ℕ) (q : Counters) (m : Message) : Type 0 where
+  pub message : FitMessage len ws m
+  pub room : length ws ≡ 68
   pub wraps : q .completed < 65536
   -- as many were taken and not completed as are in work, modulo 65,536
   pub balanced : (q .taken + (65536 - q .completed)) % 65536 ≡ m .count
@@ -48,5 +52,6 @@ pub record Fit (c : Card) : Type 0 where
   pub registers : FitRegisters (c .registers)
   pub parts : FitParts (c .parts)
   pub four : length (c .queues) ≡ 4
-  pub play : FitQueue (sizeOf 2) (c .play .request .bytes - 4) (c .«ram_len») (getD (c .queues) 2 noCounters) (c .play)
-  pub capture : FitQueue (sizeOf 3) (c .capture .reply .bytes - 8) (c .«ram_len») (getD (c .queues) 3 noCounters) (c .capture)
+  pub play : FitQueue (sizeOf 2) (c .play .request .bytes - 4) (c .«ram_len») (c .«play_words») (getD (c .queues) 2 noCounters) (c .play)
+  pub capture :
+      FitQueue (sizeOf 3) (c .capture .reply .bytes - 8) (c .«ram_len») (c .«capture_words») (getD (c .queues) 3 noCounters) (c .capture)

@@ -65,10 +65,12 @@ basedCard q c =
     record {
       «ram_len» = c .«ram_len»;
       registers = c .registers;
-      parts = c .parts;
       queues = set (c .queues) q noCounters;
       play = cond (eqb q 2) noMessage (c .play);
       capture = cond (eqb q 3) noMessage (c .capture);
+      parts = c .parts;
+      «play_words» = c .«play_words»;
+      «capture_words» = c .«capture_words»;
     }
 
 abbrev pub affected : Effect → Card → Card

@@ -31,4 +31,13 @@ withStreamAt i s p =
 -- a card with other parts, all else as it was
 abbrev pub withParts : Parts → Card → Card
 withParts p c =
-    record { «ram_len» = c .«ram_len»; registers = c .registers; parts = p; queues = c .queues; play = c .play; capture = c .capture }
+    record {
+      «ram_len» = c .«ram_len»;
+      registers = c .registers;
+      queues = c .queues;
+      play = c .play;
+      capture = c .capture;
+      parts = p;
+      «play_words» = c .«play_words»;
+      «capture_words» = c .«capture_words»;
+    }

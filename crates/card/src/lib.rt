@@ -72,7 +72,7 @@ pub struct Counters {
 }
 
 // The message in work of a stream's queue: `count` is how many there are (0 or 1), `done` how many
-// bytes of its payload were moved.
+// bytes of its payload were moved. Its ranges stand in the words of its chain.
 #[repr(C)]
 pub struct Message {
     pub count: u16,
@@ -115,15 +115,18 @@ impl Parts {
     }
 }
 
-// The queues' counters by their number, the messages in work of the play and the capture queue.
+// The queues' counters by their number, the messages in work of the play and the capture queue, and
+// the words of their chains: address and length of each range, at most 34.
 #[repr(C)]
 pub struct Card {
     pub ram_len: usize,
     pub registers: Registers,
-    pub parts: Parts,
     pub queues: [Counters; 4],
     pub play: Message,
     pub capture: Message,
+    pub parts: Parts,
+    pub play_words: [u64; 68],
+    pub capture_words: [u64; 68],
 }
 
 #[repr(C)]
@@ -146,7 +149,8 @@ pub struct WriteAnswer {
     pub card: Card,
 }
 
-fn no_message() -> Message
+// No message in work.
+pub fn no_message() -> Message
     ensures { λ r. ⌜ r ≡ noMessage ⌝ }
 {
     Message {
@@ -305,13 +309,15 @@ fn card_of(parts: Parts, ram_len: usize) -> Card
     Card {
         ram_len: ram_len,
         registers: Registers::power_on(),
-        parts: parts,
         queues: [Counters {
             taken: 0,
             completed: 0,
         }; 4],
         play: no_message(),
         capture: no_message(),
+        parts: parts,
+        play_words: [0; 68],
+        capture_words: [0; 68],
     }
 }
 
