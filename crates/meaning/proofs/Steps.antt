@@ -69,8 +69,8 @@ affected-rest : (e : Effect) (c : Card) → length (c .queues) ≡ 4 → queueNa
     → deviceOf (affected e c)
     ≡ record {
       rest = affectedRest e (restOf c);
-      play = cond (clearsQueue rules.output e) rules.emptyQueue (queueOf (countersAt c 2) (c .play));
-      capture = cond (clearsQueue rules.input e) rules.emptyQueue (queueOf (countersAt c 3) (c .capture));
+      play = cond (clearsQueue rules.output e) rules.emptyQueue (queueOf (c .«play_words») (countersAt c 2) (c .play));
+      capture = cond (clearsQueue rules.input e) rules.emptyQueue (queueOf (c .«capture_words») (countersAt c 3) (c .capture));
     }
 unfolding deviceOf restOf resetCard basedCard
 affected-rest Nothing c four h = refl

@@ -17,15 +17,16 @@ use Rattle.rules.specs.Control as control
 use Rattle.rules.specs.Counters.{countersOf}
 use Rattle.rules.specs.Device as rules
 
--- the message in work as it was taken
-abbrev pub takingIn : Message → rules.Taking
-takingIn m = record { head = m .head .0; request = rangesOf (m .request); reply = rangesOf (m .reply); form = rules.wellFormed }
+-- the message in work as it was taken, its ranges in the words of its chain
+abbrev pub takingIn : List ℕ → Message → rules.Taking
+takingIn ws m =
+    record { head = m .head .0; request = rangesOf ws (m .request); reply = rangesOf ws (m .reply); form = rules.wellFormed }
 
-abbrev pub messageOf : Message → Option rules.Message
-messageOf m = cond (eqb (m .count) 0) none (some (record { taking = takingIn m; done = m .done }))
+abbrev pub messageOf : List ℕ → Message → Option rules.Message
+messageOf ws m = cond (eqb (m .count) 0) none (some (record { taking = takingIn ws m; done = m .done }))
 
-abbrev pub queueOf : Counters → Message → rules.Queue
-queueOf c m = record { taken = c .taken; completed = c .completed; work = messageOf m }
+abbrev pub queueOf : List ℕ → Counters → Message → rules.Queue
+queueOf ws c m = record { taken = c .taken; completed = c .completed; work = messageOf ws m }
 
 -- the counters of a queue
 abbrev pub countersAt : Card → ℕ → Counters
@@ -56,7 +57,11 @@ restOf c =
 -- the whole card
 unfoldable pub deviceOf : Card → rules.Device rules.Queue
 deviceOf c =
-    record { rest = restOf c; play = queueOf (countersAt c 2) (c .play); capture = queueOf (countersAt c 3) (c .capture) }
+    record {
+      rest = restOf c;
+      play = queueOf (c .«play_words») (countersAt c 2) (c .play);
+      capture = queueOf (c .«capture_words») (countersAt c 3) (c .capture);
+    }
 
 -- ---- entries of the card
 
