@@ -12,7 +12,7 @@ use Rattle.chain.specs.declared.Fault.{Fault}
 use Rattle.counts.specs.declared.PageNumber.{PageNumber}
 use Rattle.registers.specs.Map.{sizeOf}
 use Rattle.ring.specs.Rules.{baseOf, postOf, completedOf}
-use Rattle.ranges.proofs.Laws.{putAt-take, sound-none}
+use Rattle.ranges.proofs.Laws.{putAt-take, rangesOf-none, sound-none}
 use Rattle.message.specs.Message.{answeredOf, answeredLength, FitTaken}
 use Rattle.message.specs.declared.Form.the-variants.{Unwalked}
 use Rattle.counts.specs.declared.DescriptorNumber.{DescriptorNumber}
@@ -55,17 +55,18 @@ completed-answer rules.input m page completed head reply code latency recorded =
     rw (putAt-take 8 m (drop (total reply - 8) (places reply)) (statusBytes code latency) (omega arith))
 
 -- a chain without ranges, that can't be walked
-pub no-ranges-fit : (len : ℕ) (f : Fault) (head : DescriptorNumber) → FitTaken len (record { form = Unwalked f; head = head; request = noRanges; reply = noRanges })
+pub no-ranges-fit : (len : ℕ) (ws : List ℕ) (f : Fault) (head : DescriptorNumber)
+    → FitTaken len ws (record { form = Unwalked f; head = head; request = noRanges; reply = noRanges })
 unfolding allInside
-no-ranges-fit len f head =
+no-ranges-fit len ws f head =
     record {
-      request = sound-none;
-      reply = sound-none;
+      request = sound-none ws;
+      reply = sound-none ws;
       few = omega arith;
       short-request = omega arith;
       short-reply = omega arith;
-      request-inside = λ e. refl;
-      reply-inside = λ e. refl;
+      request-inside = λ e. rw (rangesOf-none ws);
+      reply-inside = λ e. rw (rangesOf-none ws);
     }
 
 -- only where both tests hold is a message well-formed

@@ -41,19 +41,20 @@ abbrev pub statusIn : Status → Option ℕ
 statusIn Nothing = none
 statusIn (Code c) = some c
 
-abbrev pub takingIn : Taken → rules.Taking
-takingIn t = record { head = t .head .0; request = rangesOf (t .request); reply = rangesOf (t .reply); form = formIn (t .form) }
+-- a chain that was taken, its ranges in the words of its list
+abbrev pub takingIn : List ℕ → Taken → rules.Taking
+takingIn ws t = record { head = t .head .0; request = rangesOf ws (t .request); reply = rangesOf ws (t .reply); form = formIn (t .form) }
 
 -- what holds of a chain that was taken: its sides are sound and bounded as the walk left them, and inside memory where it is
 -- well-formed
-pub record FitTaken (len : ℕ) (t : Taken) : Type 0 where
-  pub request : Sound (t .request)
-  pub reply : Sound (t .reply)
+pub record FitTaken (len : ℕ) (ws : List ℕ) (t : Taken) : Type 0 where
+  pub request : Sound ws (t .request)
+  pub reply : Sound ws (t .reply)
   pub few : t .request .count + t .reply .count ≤ 34
   pub short-request : t .request .bytes ≤ 1048576
   pub short-reply : t .reply .bytes ≤ 1048576
-  pub request-inside : t .form ≡ WellFormed → allInside len (rangesOf (t .request)) ≡ true
-  pub reply-inside : t .form ≡ WellFormed → allInside len (rangesOf (t .reply)) ≡ true
+  pub request-inside : t .form ≡ WellFormed → allInside len (rangesOf ws (t .request)) ≡ true
+  pub reply-inside : t .form ≡ WellFormed → allInside len (rangesOf ws (t .reply)) ≡ true
 
 -- the length of a used entry whose status is written
 abbrev pub answeredLength : rules.Direction → ℕ → ℕ

@@ -88,11 +88,11 @@ fn stream_number(d: Direction) -> u32
 }
 
 // The request's first four bytes, zeros where it has fewer.
-fn stream_id(m: &[u8], request: Ranges) -> u32
-    ensures { λ r. ⌜ r ≡ idOf (now (m .entry)) (rangesOf request) ⌝ }
+fn stream_id(m: &[u8], list: &[u64], request: Ranges) -> u32
+    ensures { λ r. ⌜ r ≡ idOf (now (m .entry)) (rangesOf (now (list .entry)) request) ⌝ }
 {
     let mut bytes = [0u8; 4];
-    ranges::gather(m, request, 0, &mut bytes, 0, 4);
+    ranges::gather(m, list, request, 0, &mut bytes, 0, 4);
     memory::number32(&bytes, 0)
 }
 
@@ -120,20 +120,21 @@ fn is_sized(d: Direction, request: u32, reply: u32) -> bool
 }
 
 // The form of a chain that was walked whole.
-fn form_of(m: &[u8], d: Direction, request: Ranges, reply: Ranges) -> Form
-    requires { ⌜ Sound request × Sound reply ⌝ }
-    ensures { λ r. ⌜ formIn r ≡ formOf (directionOf d) (now (m .entry)) (rangesOf request) (rangesOf reply) ⌝ }
+fn form_of(m: &[u8], list: &[u64], d: Direction, request: Ranges, reply: Ranges) -> Form
+    requires { ⌜ Sound (now list) request × Sound (now list) reply ⌝ }
+    ensures { λ r. ⌜ formIn r
+        ≡ formOf (directionOf d) (now (m .entry)) (rangesOf (now (list .entry)) request) (rangesOf (now (list .entry)) reply) ⌝ }
 {
-    if !ranges::all_inside(m.len(), reply) {
+    if !ranges::all_inside(m.len(), list, reply) {
         return Form::Silent;
     }
     if reply.bytes < 8 {
         return Form::Silent;
     }
-    if !ranges::all_inside(m.len(), request) {
+    if !ranges::all_inside(m.len(), list, request) {
         return Form::Refused;
     }
-    if stream_id(m, request) != stream_number(d) {
+    if stream_id(m, list, request) != stream_number(d) {
         return Form::Refused;
     }
     if is_sized(d, request.bytes, reply.bytes) {
@@ -142,13 +143,21 @@ fn form_of(m: &[u8], d: Direction, request: Ranges, reply: Ranges) -> Form
     Form::Refused
 }
 
-// The chain at `head`, judged as memory shows it now.
-pub fn take_chain(m: &[u8], q: Virtqueue, head: DescriptorNumber) -> Taken
-    ensures { λ r. ⌜ (takingIn r ≡ takingOf (virtqueueIn q) (now (m .entry)) (head .0))
-        × FitTaken (length (now (m .entry))) r ⌝ }
+// The chain at `head`, its ranges put into the list, judged as memory shows it now.
+pub fn take_chain(m: &[u8], list: &mut [u64], q: Virtqueue, head: DescriptorNumber) -> Taken
+    requires { ⌜ 68 ≤ length (now list) ⌝ }
+    ensures { λ r. ⌜ (takingIn (now (list .exit)) r ≡ takingOf (virtqueueIn q) (now (m .entry)) (head .0))
+        × FitTaken (length (now (m .entry))) (now (list .exit)) r ⌝ }
 {
     let direction = q.direction;
-    let walked = chain::walk(m, q.page.address(), queue_size(direction), head, q.indirect);
+    let walked = chain::walk(
+        m,
+        list,
+        q.page.address(),
+        queue_size(direction),
+        head,
+        q.indirect,
+    );
     let end = walked.end;
     if let chain::End::Faulted(fault) = end {
         return Taken {
@@ -162,7 +171,7 @@ pub fn take_chain(m: &[u8], q: Virtqueue, head: DescriptorNumber) -> Taken
     let request = chain.request;
     let reply = chain.reply;
     Taken {
-        form: form_of(m, direction, request, reply),
+        form: form_of(m, list, direction, request, reply),
         head: head,
         request: request,
         reply: reply,
@@ -193,6 +202,7 @@ fn used_length(d: Direction, recorded: u32) -> u32
 // A chain answered: its status in the last eight bytes of the reply, then the used entry.
 pub fn answer(
     m: &mut [u8],
+    list: &[u64],
     q: Virtqueue,
     completed: u16,
     head: DescriptorNumber,
@@ -200,9 +210,10 @@ pub fn answer(
     status: Status,
     recorded: u32,
 ) -> Posted
-    requires { ⌜ Sound reply × (recorded ≤ 1048576) ⌝ }
+    requires { ⌜ Sound (now list) reply × (recorded ≤ 1048576) ⌝ }
     ensures { λ r. ⌜ completion (now (m .exit)) r
-        ≡ answeredOf (directionOf (q .direction)) (now (m .entry)) (q .page) completed (head .0) (rangesOf reply) (statusIn status) (q .latency) recorded ⌝ }
+        ≡ answeredOf (directionOf (q .direction)) (now (m .entry)) (q .page) completed (head .0)
+        (rangesOf (now (list .entry)) reply) (statusIn status) (q .latency) recorded ⌝ }
 {
     let direction = q.direction;
     let size = queue_size(direction);
@@ -219,6 +230,7 @@ pub fn answer(
                 completed,
                 head,
                 len,
+                list,
                 reply,
                 offset,
                 &bytes,

@@ -47,11 +47,13 @@ same-length-2 c = search needs
 
 returns-2 : tie.Need-returns-2
 returns-2 c =
-    let s = c .before .before .before .before .before .before .before .before .before .before .before .before .before in
+    let back6 = c .before .before .before .before .before .before in
+    let back12 = back6 .before .before .before .before .before .before in
+    let s = back12 .before .before in
     let a = s .args in
-    rw (c .before .before .before .before .before .before .before .before .before .status .given .1) (c .before .before .complete .ensures
-    ∙ rw (c .before .before .before .before .before .before .before .before .before .before .before .queue-size .ensures, c .before .before .before .before .before .used-length .ensures, c .before .before .before .before .before .before .last-eight .ensures, c .before .before .before .before .before .before .before .status-bytes .ensures, s .pre .0 .sum)
-    (completed-answer (directionOf (a .q .direction)) (a .m .now) (a .q .page) (a .completed) (a .head) (rangesOf (a .reply)) _ (a .q .latency) (a .recorded)))
+    rw (back6 .before .before .before .status .given .1) (c .before .before .complete .ensures
+    ∙ rw (back6 .before .before .before .before .before .queue-size .ensures, c .before .before .before .before .before .used-length .ensures, c .before .before .before .before .before .before .last-eight .ensures, back6 .before .status-bytes .ensures, s .pre .0)
+    (completed-answer (directionOf (a .q .direction)) (a .m .now) (a .q .page) (a .completed) (a .head) (rangesOf (a .list .now) (a .reply)) _ (a .q .latency) (a .recorded)))
 
 pub answer-spec : {M : Type 1} → statement M
 answer-spec =

@@ -16,8 +16,8 @@ returns c = rw (sym (c .before .all-inside .ensures) ∙ not-true _ (c .if1 .tak
 returns-2 : tie.Need-returns-2
 unfolding formOf
 returns-2 c =
-    let p = c .before .before .before .before .before .pre in
-    rw (sym (c .before .before .before .all-inside .ensures) ∙ not-false _ (c .before .before .if1 .left), ← (p .1 .sum), lt-leb _ _ (c .if2 .taken))
+    let p = c .before .before .before .before .before .before .pre in
+    rw (sym (c .before .before .before .all-inside .ensures) ∙ not-false _ (c .before .before .if1 .left), ← (p .1), lt-leb _ _ (c .if2 .taken))
 
 all-inside-requires-2 : tie.Need-all-inside-requires-2
 all-inside-requires-2 c κs = search needs
@@ -25,10 +25,11 @@ all-inside-requires-2 c κs = search needs
 returns-3 : tie.Need-returns-3
 unfolding formOf
 returns-3 c =
-    let p = c .before .before .before .before .before .before .before .pre in
+    let back6 = c .before .before .before .before .before .before in
+    let p = back6 .before .before .pre in
     rw (
       sym (c .before .before .before .before .before .all-inside .ensures) ∙ not-false _ (c .before .before .before .before .if1 .left),
-      ← (p .1 .sum),
+      ← (p .1),
       le-leb _ _ (c .before .before .if2 .left),
       sym (c .before .all-inside2 .ensures) ∙ not-true _ (c .if3 .taken),
     )
@@ -42,10 +43,11 @@ stream-number-requires c κs = search needs
 returns-4 : tie.Need-returns-4
 unfolding formOf
 returns-4 c =
-    let p = c .before .before .before .before .before .before .before .before .before .before .pre in
+    let back6 = c .before .before .before .before .before .before in
+    let p = back6 .before .before .before .before .before .pre in
     rw (
-      sym (c .before .before .before .before .before .before .before .before .all-inside .ensures) ∙ not-false _ (c .before .before .before .before .before .before .before .if1 .left),
-      ← (p .1 .sum),
+      sym (back6 .before .before .all-inside .ensures) ∙ not-false _ (back6 .before .if1 .left),
+      ← (p .1),
       le-leb _ _ (c .before .before .before .before .before .if2 .left),
       sym (c .before .before .before .before .all-inside2 .ensures) ∙ not-false _ (c .before .before .before .if3 .left),
       ← (c .before .before .stream-id .ensures),
@@ -59,32 +61,36 @@ is-sized-requires c κs = search needs
 returns-5 : tie.Need-returns-5
 unfolding formOf
 returns-5 c =
-    let p = c .before .before .before .before .before .before .before .before .before .before .before .before .pre in
+    let back6 = c .before .before .before .before .before .before in
+    let back12 = back6 .before .before .before .before .before .before in
+    let p = back12 .before .pre in
     rw (
-      sym (c .before .before .before .before .before .before .before .before .before .before .all-inside .ensures) ∙ not-false _ (c .before .before .before .before .before .before .before .before .before .if1 .left),
-      ← (p .1 .sum),
-      le-leb _ _ (c .before .before .before .before .before .before .before .if2 .left),
+      sym (back6 .before .before .before .before .all-inside .ensures) ∙ not-false _ (back6 .before .before .before .if1 .left),
+      ← (p .1),
+      le-leb _ _ (back6 .before .if2 .left),
       sym (c .before .before .before .before .before .before .all-inside2 .ensures) ∙ not-false _ (c .before .before .before .before .before .if3 .left),
       ← (c .before .before .before .before .stream-id .ensures),
       ← (c .before .before .before .stream-number .ensures),
       eq-eqb _ _ (c .before .before .if4 .left),
-      ← (p .0 .sum),
+      ← (p .0),
       sym (c .before .is-sized .ensures) ∙ c .if5 .taken,
     )
 
 returns-6 : tie.Need-returns-6
 unfolding formOf
 returns-6 c =
-    let p = c .before .before .before .before .before .before .before .before .before .before .before .before .pre in
+    let back6 = c .before .before .before .before .before .before in
+    let back12 = back6 .before .before .before .before .before .before in
+    let p = back12 .before .pre in
     rw (
-      sym (c .before .before .before .before .before .before .before .before .before .before .all-inside .ensures) ∙ not-false _ (c .before .before .before .before .before .before .before .before .before .if1 .left),
-      ← (p .1 .sum),
-      le-leb _ _ (c .before .before .before .before .before .before .before .if2 .left),
+      sym (back6 .before .before .before .before .all-inside .ensures) ∙ not-false _ (back6 .before .before .before .if1 .left),
+      ← (p .1),
+      le-leb _ _ (back6 .before .if2 .left),
       sym (c .before .before .before .before .before .before .all-inside2 .ensures) ∙ not-false _ (c .before .before .before .before .before .if3 .left),
       ← (c .before .before .before .before .stream-id .ensures),
       ← (c .before .before .before .stream-number .ensures),
       eq-eqb _ _ (c .before .before .if4 .left),
-      ← (p .0 .sum),
+      ← (p .0),
       sym (c .before .is-sized .ensures) ∙ c .if5 .left,
     )
 

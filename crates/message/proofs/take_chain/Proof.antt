@@ -2,7 +2,7 @@
 use mathlib.Core.Path.{_≡_, _∙_, sym, ap}
 use borrow.Author.Needs.{needs}
 use Rattle.chain.specs.Walk.{walkOf, faulted, whole, outcomeOf}
-use Rattle.ranges.specs.Ranges.{rangesOf}
+use Rattle.ranges.specs.Ranges.{rangesOf, rangesIn}
 use Rattle.ring.specs.Rules.{baseOf}
 use Rattle.rules.specs.Device as rules
 use Rattle.message.specs.Message.{directionOf, virtqueueIn, formIn}
@@ -22,8 +22,8 @@ walk-requires c κs = search needs
 -- the walk's outcome, of the queue as the guest laid it out
 walked :
     (c : tie.After-walk)
-    → let a = c .before .before .before .before .args in
-    outcomeOf (c .walk .result) ≡ walkOf (a .m .now) (baseOf (a .q .page)) (rules.queueSize (virtqueueIn (a .q))) (a .head .0) (a .q .indirect)
+    → let a = c .before .before .before .before .before .before .args in
+    outcomeOf (c .walk .last .1 .0) (c .walk .result) ≡ walkOf (a .m .now) (baseOf (a .q .page)) (rules.queueSize (virtqueueIn (a .q))) (a .head .0) (a .q .indirect)
 walked c = rw (c .before .before .address .ensures, c .before .queue-size .ensures) at (c .walk .ensures .outcome)
 
 enum-known-end : tie.Need-enum-known-end
@@ -39,29 +39,34 @@ none-requires-2 : tie.Need-none-requires-2
 none-requires-2 c κs = search needs
 
 returns : tie.Need-returns
+unfolding rangesIn
 returns c =
-    let w = c .before .before .before .before .before in
-    let a = w .before .before .before .before .args in
+    let back6 = c .before .before .before .before .before .before in
+    let w = back6 .before in
+    let a = w .before .before .before .before .before .before .args in
     let fault = c .before .before .before .end .given .0 .0 in (
       rw (c .none2 .ensures, c .before .none .ensures)
           (taken-by (virtqueueIn (a .q)) (a .m .now) (a .head .0) (faulted fault) (sym (rw (c .before .before .before .end .given .1)) ∙ walked w)),
-      rw (c .none2 .ensures, c .before .none .ensures) (no-ranges-fit _ _ _),
+      rw (c .none2 .ensures, c .before .none .ensures) (no-ranges-fit _ _ _ _),
     )
 
 form-of-requires : tie.Need-form-of-requires
-form-of-requires c κs = let w = c .before .before .before .before .before .walk in (w .ensures .sound .request, w .ensures .sound .reply)
+form-of-requires c κs =
+    let back6 = c .before .before .before .before .before .before in
+    let w = back6 .before .before .walk in (w .ensures .sound .request, w .ensures .sound .reply)
 
 returns-2 : tie.Need-returns-2
 returns-2 c =
-    let p = c .before .before .before .before .before .before in
+    let back6 = c .before .before .before .before .before .before in
+    let p = back6 .before .before .before in
     let w = p .walk in
-    let a = p .before .before .before .before .args in
+    let a = p .before .before .before .before .before .before .args in
     let d = directionOf (a .q .direction) in
-    let request = rangesOf (w .result .chain .request) in
-    let reply = rangesOf (w .result .chain .reply) in (
+    let request = rangesOf (w .last .1 .0) (w .result .chain .request) in
+    let reply = rangesOf (w .last .1 .0) (w .result .chain .reply) in (
       rw (c .form-of .ensures)
           (taken-by (virtqueueIn (a .q)) (a .m .now) (a .head .0) (whole request reply)
-          (sym (rw (c .before .before .before .before .enum-told .given .1)) ∙ walked p)),
+          (sym (rw (c .before .before .before .before .before .enum-told .given .1)) ∙ walked p)),
       record {
         request = w .ensures .sound .request;
         reply = w .ensures .sound .reply;
@@ -73,6 +78,12 @@ returns-2 c =
       },
     )
 
+same-length : tie.Need-same-length
+same-length c = search needs
+
+same-length-2 : tie.Need-same-length-2
+same-length-2 c = search needs
+
 pub take-chain-spec : {M : Type 1} → statement M
 take-chain-spec =
     tie.close
@@ -83,7 +94,9 @@ take-chain-spec =
     enum-known-end
     none-requires
     none-requires-2
+    same-length
     returns
     enum-told
     form-of-requires
+    same-length-2
     returns-2)
