@@ -13,6 +13,7 @@ use Rattle.ranges.specs.Ranges.{Sound, rangesOf, total, places, bytesAt, putAt}
 use Rattle.ranges.proofs.Laws.{length-places, take-min}
 use Rattle.card.specs.Fit.{FitMessage}
 use Rattle.card.specs.declared.Message.{Message}
+use Rattle.card.proofs.Keeps.{no-message-fit}
 use Rattle.rules.specs.Counters.{countersOf, isNone}
 use Rattle.rules.specs.Device as rules
 use Rattle.rules.specs.Transfer.{Run, worked, moved, payloadOf, takingOf, statusOf, completed, settled, entered, next, givenUp, isNil, isWell}
@@ -67,17 +68,17 @@ reaches n bytes framing done h = omega arith
 reaches-past : (n bytes framing done : ℕ) → n ≤ bytes - framing - done → n ≤ bytes - done
 reaches-past n bytes framing done h = omega arith
 
-module _ (q : Virtqueue) (m host : List ℕ) (f : Flow) (n : ℕ) (busy : Busy f) (inside : f .moved ≤ length host) where
+module _ (q : Virtqueue) (ws m host : List ℕ) (f : Flow) (n : ℕ) (busy : Busy f) (inside : f .moved ≤ length host) where
   -- handing on, in the rules' terms
-  pub handed-on : Sound (f .message .request) → n ≡ min (length host - f .moved) (f .message .request .bytes - 4 - f .message .done)
-      → runOf (advancedBy n f) m (sets host (f .moved) (bytesAt m (take n (drop (4 + f .message .done) (places (rangesOf (f .message .request)))))))
-      ≡ moved (countersOf rules.output) (virtqueueAs rules.output q) (runOf f m host)
+  pub handed-on : Sound ws (f .message .request) → n ≡ min (length host - f .moved) (f .message .request .bytes - 4 - f .message .done)
+      → runOf ws (advancedBy n f) m (sets host (f .moved) (bytesAt m (take n (drop (4 + f .message .done) (places (rangesOf ws (f .message .request)))))))
+      ≡ moved (countersOf rules.output) (virtqueueAs rules.output q) (runOf ws f m host)
   unfolding runOf moved payloadOf
   handed-on s e =
-      let P = places (rangesOf (f .message .request)) in
+      let P = places (rangesOf ws (f .message .request)) in
       let done = f .message .done in
       let xs = take n (drop (4 + done) P) in
-      let long : length P ≡ f .message .request .bytes = length-places (rangesOf (f .message .request)) ∙ sym (s .sum) in
+      let long : length P ≡ f .message .request .bytes = length-places (rangesOf ws (f .message .request)) ∙ sym s in
       let k : min (length host - f .moved) (length P - (4 + done)) ≡ n = omega arith in
       let same : take (length host - f .moved) (drop done (drop 4 P)) ≡ xs =
       rw (drop-drop, take-least (length host - f .moved) (drop (4 + done) P), length-drop, k) in
@@ -92,18 +93,18 @@ module _ (q : Virtqueue) (m host : List ℕ) (f : Flow) (n : ℕ) (busy : Busy f
       rw (busy, same, size, a, b, c)
 
   -- filling, in the rules' terms
-  pub filled : Sound (f .message .reply) → n ≡ min (length host - f .moved) (f .message .reply .bytes - 8 - f .message .done)
-      → runOf (advancedBy n f) (putAt m (take n (drop (f .message .done) (places (rangesOf (f .message .reply))))) (drop (f .moved) host)) host
-      ≡ moved (countersOf rules.input) (virtqueueAs rules.input q) (runOf f m host)
+  pub filled : Sound ws (f .message .reply) → n ≡ min (length host - f .moved) (f .message .reply .bytes - 8 - f .message .done)
+      → runOf ws (advancedBy n f) (putAt m (take n (drop (f .message .done) (places (rangesOf ws (f .message .reply))))) (drop (f .moved) host)) host
+      ≡ moved (countersOf rules.input) (virtqueueAs rules.input q) (runOf ws f m host)
   unfolding runOf moved payloadOf
   filled s e =
-      let P = places (rangesOf (f .message .reply)) in
+      let P = places (rangesOf ws (f .message .reply)) in
       let done = f .message .done in
       let xs = take n (drop done P) in
-      let long : length P ≡ f .message .reply .bytes = length-places (rangesOf (f .message .reply)) ∙ sym (s .sum) in
-      let t : total (rangesOf (f .message .reply)) ≡ f .message .reply .bytes = sym (s .sum) in
+      let long : length P ≡ f .message .reply .bytes = length-places (rangesOf ws (f .message .reply)) ∙ sym s in
+      let t : total (rangesOf ws (f .message .reply)) ≡ f .message .reply .bytes = sym s in
       let k : min (f .message .reply .bytes - 8 - done) (length host - f .moved) ≡ n = omega arith in
-      let same : take (length host - f .moved) (drop done (take (total (rangesOf (f .message .reply)) - 8) P)) ≡ xs =
+      let same : take (length host - f .moved) (drop done (take (total (rangesOf ws (f .message .reply)) - 8) P)) ≡ xs =
       rw (t, drop-take, ← (take-min (f .message .reply .bytes - 8 - done) (length host - f .moved) (drop done P)), k) in
       let few : n ≤ f .message .reply .bytes - 8 - done = at-most n _ _ e in
       let size : length xs ≡ n = rw (length-take, length-drop, long) (min-eq-left (reaches-past n (f .message .reply .bytes) 8 done few)) in
@@ -119,9 +120,9 @@ stays-short done bytes framing n h k l = omega arith
 stays-inside : (moved room n b : ℕ) → moved ≤ room → n ≡ min (room - moved) b → moved + n ≤ room
 stays-inside moved room n b h e = omega arith
 
-pub advanced-fit : (len room : ℕ) (f : Flow) (n bytes framing : ℕ) → FitFlow len room f → bytes ≤ 1048576
-    → n ≡ min (room - f .moved) (bytes - framing - f .message .done) → FitFlow len room (advancedBy n f)
-advanced-fit len room f n bytes framing t b e =
+pub advanced-fit : (len room : ℕ) (ws : List ℕ) (f : Flow) (n bytes framing : ℕ) → Busy f → FitFlow len room ws f → bytes ≤ 1048576
+    → n ≡ min (room - f .moved) (bytes - framing - f .message .done) → FitFlow len room ws (advancedBy n f)
+advanced-fit len room ws f n bytes framing busy t b e =
     let g = t .message in
     let h = stays-short (f .message .done) bytes framing n (g .moved) b (at-most n _ _ e) in
     let k = stays-inside (f .moved) room n _ (t .inside) e in
@@ -129,6 +130,7 @@ advanced-fit len room f n bytes framing t b e =
       message =
           record {
             one = g .one;
+            idle = λ z. absurd (omega (arith, busy, z));
             request = g .request;
             reply = g .reply;
             few = g .few;
@@ -144,34 +146,29 @@ advanced-fit len room f n bytes framing t b e =
 -- ---- a completion
 
 -- the message's count gone, with the counters and the interrupt of a completion
-pub ended-run : (v : rules.Virtqueue) (e : rules.Ending) (code : ℕ) (m host : List ℕ) (f : Flow) → Busy f
+pub ended-run : (v : rules.Virtqueue) (e : rules.Ending) (code : ℕ) (ws m host : List ℕ) (f : Flow) → Busy f
     → some code ≡ statusOf (v .direction) e rules.wellFormed
-    → runOf (endedBy (answeredOf (v .direction) m (v .page) (f .counters .completed) (f .message .head .0) (rangesOf (f .message .reply)) (some code) (v .latency) (f .message .done)) f)
-    (answeredOf (v .direction) m (v .page) (f .counters .completed) (f .message .head .0) (rangesOf (f .message .reply)) (some code) (v .latency) (f .message .done) .memory) host
-    ≡ completed (countersOf (v .direction)) v e (runOf f m host)
+    → runOf ws (endedBy (answeredOf (v .direction) m (v .page) (f .counters .completed) (f .message .head .0) (rangesOf ws (f .message .reply)) (some code) (v .latency) (f .message .done)) f)
+    (answeredOf (v .direction) m (v .page) (f .counters .completed) (f .message .head .0) (rangesOf ws (f .message .reply)) (some code) (v .latency) (f .message .done) .memory) host
+    ≡ completed (countersOf (v .direction)) v e (runOf ws f m host)
 unfolding runOf completed answeredOf
-ended-run v e code m host f busy s = rw (busy, ← s)
+ended-run v e code ws m host f busy s = rw (busy, ← s)
 
-pub ended-fit : (len : ℕ) (c : Completion) (f : Flow) → FitMessage len (f .message) → FitMessage len (endedBy c f .message)
-ended-fit len c f g =
-    record {
-      one = omega arith;
-      request = g .request;
-      reply = g .reply;
-      few = g .few;
-      short-request = g .short-request;
-      short-reply = g .short-reply;
-      moved = g .moved;
-      request-inside = g .request-inside;
-      reply-inside = g .reply-inside;
-    }
+-- without a message in work the words mean nothing
+module _ (ws ws′ : List ℕ) where
+  pub idle-run : (f : Flow) (m host : List ℕ) → f .message .count ≡ 0 → runOf ws f m host ≡ runOf ws′ f m host
+  unfolding runOf
+  idle-run f m host h = rw h
+
+  pub idle-fit : (len : ℕ) (message : Message) → message .count ≡ 0 → FitMessage len ws message → FitMessage len ws′ message
+  idle-fit len message h g = rw (g .idle h) (no-message-fit len ws′)
 
 -- what waits of a message in work
-pub left-length : (d : rules.Direction) (message : Message) → Sound (message .request) → Sound (message .reply)
-    → length (drop (message .done) (payloadOf d (takingIn message))) ≡ payloadBytes d message - message .done
+pub left-length : (d : rules.Direction) (ws : List ℕ) (message : Message) → Sound ws (message .request) → Sound ws (message .reply)
+    → length (drop (message .done) (payloadOf d (takingIn ws message))) ≡ payloadBytes d message - message .done
 unfolding payloadOf
-left-length rules.output message s t = rw (length-drop, length-drop, length-places, ← (s .sum))
-left-length rules.input message s t = rw (length-drop, length-take, length-places, ← (t .sum)) (omega arith)
+left-length rules.output ws message s t = rw (length-drop, length-drop, length-places, ← s)
+left-length rules.input ws message s t = rw (length-drop, length-take, length-places, ← t) (omega arith)
 
 nil-of : (l : List ℕ) → length l ≡ 0 → isNil l ≡ true
 nil-of [] h = refl
@@ -185,35 +182,37 @@ pub some-left : (l : List ℕ) → isNil l ≡ false → 0 < length l
 some-left [] h = absurd (true≢false h)
 some-left (x ∷ l) h = omega arith
 
-module _ (v : rules.Virtqueue) (m host : List ℕ) (f : Flow) (busy : Busy f) (g : FitMessage (length m) (f .message)) where
+module _ (v : rules.Virtqueue) (ws m host : List ℕ) (f : Flow) (busy : Busy f) (g : FitMessage (length m) ws (f .message)) where
   pub settled-now : payloadBytes (v .direction) (f .message) - f .message .done ≡ 0
-      → settled (countersOf (v .direction)) v (runOf f m host) ≡ completed (countersOf (v .direction)) v rules.finished (runOf f m host)
+      → settled (countersOf (v .direction)) v (runOf ws f m host) ≡ completed (countersOf (v .direction)) v rules.finished (runOf ws f m host)
   unfolding runOf
-  settled-now h = rw (busy, nil-of (drop (f .message .done) (payloadOf (v .direction) (takingIn (f .message)))) (left-length (v .direction) (f .message) (g .request) (g .reply) ∙ h))
+  settled-now h = rw (busy, nil-of (drop (f .message .done) (payloadOf (v .direction) (takingIn ws (f .message)))) (left-length (v .direction) ws (f .message) (g .request) (g .reply) ∙ h))
 
-  pub settled-later : 0 < payloadBytes (v .direction) (f .message) - f .message .done → settled (countersOf (v .direction)) v (runOf f m host) ≡ runOf f m host
+  pub settled-later : 0 < payloadBytes (v .direction) (f .message) - f .message .done → settled (countersOf (v .direction)) v (runOf ws f m host) ≡ runOf ws f m host
   unfolding runOf
-  settled-later h = rw (busy, not-nil (drop (f .message .done) (payloadOf (v .direction) (takingIn (f .message)))) (rw (left-length (v .direction) (f .message) (g .request) (g .reply)) h))
+  settled-later h = rw (busy, not-nil (drop (f .message .done) (payloadOf (v .direction) (takingIn ws (f .message)))) (rw (left-length (v .direction) ws (f .message) (g .request) (g .reply)) h))
 
 -- an ill-formed chain
-pub refused-run : (v : rules.Virtqueue) (t : rules.Taking) (status : Option ℕ) (m host : List ℕ) (f : Flow)
+pub refused-run : (v : rules.Virtqueue) (t : rules.Taking) (status : Option ℕ) (ws m host : List ℕ) (f : Flow)
     → f .message .count ≡ 0 → status ≡ statusOf (v .direction) rules.illFormed (t .form)
-    → runOf (refusedBy (answeredOf (v .direction) m (v .page) (f .counters .completed) (t .head) (t .reply) status (v .latency) 0) f)
+    → runOf ws (refusedBy (answeredOf (v .direction) m (v .page) (f .counters .completed) (t .head) (t .reply) status (v .latency) 0) f)
     (answeredOf (v .direction) m (v .page) (f .counters .completed) (t .head) (t .reply) status (v .latency) 0 .memory) host
-    ≡ refusedIn v t (runOf f m host)
+    ≡ refusedIn v t (runOf ws f m host)
 unfolding runOf completed answeredOf
-refused-run v t status m host f free s = rw (free, s)
+refused-run v t status ws m host f free s = rw (free, s)
 
 -- a well-formed message begun
-pub begun-run : (v : rules.Virtqueue) (t : Taken) (m host : List ℕ) (f : Flow) → t .form ≡ WellFormed
-    → runOf (begunWith t f) m host ≡ entered (countersOf (v .direction)) v (message.takingIn t) (runOf f m host)
+pub begun-run : (v : rules.Virtqueue) (t : Taken) (ws m host : List ℕ) (f : Flow) → t .form ≡ WellFormed
+    → runOf ws (begunWith t f) m host ≡ entered (countersOf (v .direction)) v (message.takingIn ws t) (runOf ws f m host)
 unfolding runOf entered
-begun-run v t m host f w = rw w
+begun-run v t ws m host f w = rw w
 
-pub begun-fit : (len : ℕ) (t : Taken) (f : Flow) → t .form ≡ WellFormed → FitTaken len t → FitMessage len (begunWith t f .message)
-begun-fit len t f w g =
+pub begun-fit : (len : ℕ) (ws : List ℕ) (t : Taken) (f : Flow) → t .form ≡ WellFormed → FitTaken len ws t
+    → FitMessage len ws (begunWith t f .message)
+begun-fit len ws t f w g =
     record {
       one = omega arith;
+      idle = λ z. absurd (omega (arith, z));
       request = g .request;
       reply = g .reply;
       few = g .few;
@@ -230,50 +229,51 @@ refused-entered : (v : rules.Virtqueue) (t : rules.Taking) (r : Run rules.Queue)
 unfolding entered
 refused-entered v t r w = rw w
 
-pub refused-steps : (v : rules.Virtqueue) (t : rules.Taking) (m : List ℕ) (f : Flow) (m′ : List ℕ) (r : Flow) → isWell (t .form) ≡ false
-    → Steps (refusedIn v t) m f m′ r → Steps (entered (countersOf (v .direction)) v t) m f m′ r
-refused-steps v t m f m′ r w s =
+pub refused-steps : (v : rules.Virtqueue) (t : rules.Taking) (ws m : List ℕ) (f : Flow) (ws′ m′ : List ℕ) (r : Flow)
+    → isWell (t .form) ≡ false
+    → Steps (refusedIn v t) ws m f ws′ m′ r → Steps (entered (countersOf (v .direction)) v t) ws m f ws′ m′ r
+refused-steps v t ws m f ws′ m′ r w s =
     record { run = λ host. s .run host ∙ sym (refused-entered v t _ w); message = s .message; moved = s .moved; long = s .long }
 
 -- the next entry by its head
-module _ (v : rules.Virtqueue) (m host : List ℕ) (f : Flow) where
+module _ (v : rules.Virtqueue) (ws m host : List ℕ) (f : Flow) where
   pub next-taken : (n : DescriptorNumber) → headOf m (v .page) (rules.queueSize v) (f .counters .taken) ≡ Head.At n
-      → next (countersOf (v .direction)) v (runOf f m host)
-      ≡ entered (countersOf (v .direction)) v (takingOf v m (n .0)) (runOf f m host)
+      → next (countersOf (v .direction)) v (runOf ws f m host)
+      ≡ entered (countersOf (v .direction)) v (takingOf v m (n .0)) (runOf ws f m host)
   unfolding next runOf
   next-taken n h = rw h
 
   pub next-stopped : (cause : Cause) → headOf m (v .page) (rules.queueSize v) (f .counters .taken) ≡ Head.Broken cause
-      → next (countersOf (v .direction)) v (runOf f m host) ≡ runOf (stoppedFlow cause f) m host
+      → next (countersOf (v .direction)) v (runOf ws f m host) ≡ runOf ws (stoppedFlow cause f) m host
   unfolding next runOf
   next-stopped cause h = rw h
 
 -- a Release of the message in work
-module _ (v : rules.Virtqueue) (m host : List ℕ) (f : Flow) where
-  pub given-none : f .message .count ≡ 0 → givenUp (countersOf (v .direction)) v (runOf f m host) ≡ runOf f m host
+module _ (v : rules.Virtqueue) (ws m host : List ℕ) (f : Flow) where
+  pub given-none : f .message .count ≡ 0 → givenUp (countersOf (v .direction)) v (runOf ws f m host) ≡ runOf ws f m host
   unfolding runOf
   given-none h = rw h
 
   pub given-one : f .message .count ≡ 1
-      → givenUp (countersOf (v .direction)) v (runOf f m host) ≡ completed (countersOf (v .direction)) v rules.released (runOf f m host)
+      → givenUp (countersOf (v .direction)) v (runOf ws f m host) ≡ completed (countersOf (v .direction)) v rules.released (runOf ws f m host)
   unfolding runOf
   given-one h = rw h
 
 -- work by what there is: no room, no message, or both
-module _ (v : rules.Virtqueue) (m host : List ℕ) (f : Flow) where
-  pub worked-full : length host ≤ f .moved → worked (countersOf (v .direction)) v (runOf f m host) ≡ runOf f m host
+module _ (v : rules.Virtqueue) (ws m host : List ℕ) (f : Flow) where
+  pub worked-full : length host ≤ f .moved → worked (countersOf (v .direction)) v (runOf ws f m host) ≡ runOf ws f m host
   unfolding runOf
   worked-full h = let z : length host - f .moved ≡ 0 = omega arith in rw z
 
-  pub worked-idle : f .message .count ≡ 0 → worked (countersOf (v .direction)) v (runOf f m host) ≡ runOf f m host
+  pub worked-idle : f .message .count ≡ 0 → worked (countersOf (v .direction)) v (runOf ws f m host) ≡ runOf ws f m host
   unfolding runOf
   worked-idle h = by (ltb 0 (length host - f .moved)) where
-    by : (b : Bool) → cond (b && not (isNone (messageOf (f .message)))) (settled (countersOf (v .direction)) v (moved (countersOf (v .direction)) v (runOf f m host))) (runOf f m host) ≡ runOf f m host
+    by : (b : Bool) → cond (b && not (isNone (messageOf ws (f .message)))) (settled (countersOf (v .direction)) v (moved (countersOf (v .direction)) v (runOf ws f m host))) (runOf ws f m host) ≡ runOf ws f m host
     by true = rw h
     by false = refl
 
   pub worked-busy : f .moved < length host → f .message .count ≡ 1
-      → worked (countersOf (v .direction)) v (runOf f m host) ≡ settled (countersOf (v .direction)) v (moved (countersOf (v .direction)) v (runOf f m host))
+      → worked (countersOf (v .direction)) v (runOf ws f m host) ≡ settled (countersOf (v .direction)) v (moved (countersOf (v .direction)) v (runOf ws f m host))
   unfolding runOf
   worked-busy h b = rw (lt-ltb 0 (length host - f .moved) (omega arith), b)
 
@@ -282,5 +282,6 @@ pub one-left : (n : ℕ) → n ≤ 1 → (n ≡ 0 → ⊥) → n ≡ 1
 one-left n h k = omega arith
 
 -- a flow after a step beside the host
-pub fit-beside : (len room moved : ℕ) (r : Flow) → FitMessage len (r .message) → r .moved ≡ moved → moved ≤ room → FitFlow len room r
-fit-beside len room moved r g e h = record { message = g; inside = rw e h }
+pub fit-beside : (len room moved : ℕ) (ws : List ℕ) (r : Flow) → FitMessage len ws (r .message) → r .moved ≡ moved → moved ≤ room
+    → FitFlow len room ws r
+fit-beside len room moved ws r g e h = record { message = g; inside = rw e h }

@@ -7,6 +7,7 @@ use lib.ListN.{length, take, drop}
 use Rattle.ring.specs.Rules.{Completion}
 use Rattle.ring.specs.declared.Cause.{Cause}
 use Rattle.ring.specs.declared.Stop.{Stop}
+use Rattle.card.specs.Card.{noMessage}
 use Rattle.card.specs.Fit.{FitMessage}
 use Rattle.card.specs.declared.Counters.{Counters}
 use Rattle.card.specs.declared.Message.{Message}
@@ -30,12 +31,13 @@ abbrev pub payloadBytes : rules.Direction → Message → ℕ
 payloadBytes rules.output m = m .request .bytes - 4
 payloadBytes rules.input m = m .reply .bytes - 8
 
--- ---- a call's progress: memory and the host buffer as they are now; the first `moved` of the host's bytes are done
+-- ---- a call's progress: the words of the queue's chain, memory and the host buffer as they are now; the first `moved` of the
+-- host's bytes are done
 
-unfoldable pub runOf : Flow → List ℕ → List ℕ → Run rules.Queue
-runOf f m host =
+unfoldable pub runOf : List ℕ → Flow → List ℕ → List ℕ → Run rules.Queue
+runOf ws f m host =
     record {
-      queue = queueOf (f .counters) (f .message);
+      queue = queueOf ws (f .counters) (f .message);
       mem = m;
       bytes = take (f .moved) host;
       host = drop (f .moved) host;
@@ -50,8 +52,8 @@ Busy f = f .message .count ≡ 1
 
 -- what holds of a flow between two steps, over a memory of `len` bytes and a host buffer of `room`: the message is fit, no
 -- more was moved than the host has
-pub record FitFlow (len room : ℕ) (f : Flow) : Type 0 where
-  pub message : FitMessage len (f .message)
+pub record FitFlow (len room : ℕ) (ws : List ℕ) (f : Flow) : Type 0 where
+  pub message : FitMessage len ws (f .message)
   pub inside : f .moved ≤ room
 
 -- a flow that begins
@@ -81,8 +83,7 @@ abbrev pub endedBy : Completion → Flow → Flow
 endedBy c f =
     record {
       counters = record { taken = f .counters .taken; completed = c .completed };
-      message =
-          record { count = 0; head = f .message .head; done = f .message .done; request = f .message .request; reply = f .message .reply };
+      message = noMessage;
       moved = f .moved;
       stop = f .stop;
       signal = f .signal || c .interrupt;
@@ -115,24 +116,26 @@ refusedBy c f =
       signal = f .signal || c .interrupt;
     }
 
--- ---- what a step of the code does, for any host buffer: the rules' step, the message fit, the host as it was
+-- ---- what a step of the code does, for any host buffer: the rules' step, the message fit, the host as it was. The words of the
+-- chain, memory and the flow before, then after.
 
-pub record Steps (step : Run rules.Queue → Run rules.Queue) (m : List ℕ) (f : Flow) (m′ : List ℕ) (r : Flow) : Type 0 where
-  pub run : (host : List ℕ) → runOf r m′ host ≡ step (runOf f m host)
-  pub message : FitMessage (length m) (r .message)
+pub record Steps (step : Run rules.Queue → Run rules.Queue) (ws m : List ℕ) (f : Flow) (ws′ m′ : List ℕ) (r : Flow) : Type 0 where
+  pub run : (host : List ℕ) → runOf ws′ r m′ host ≡ step (runOf ws f m host)
+  pub message : FitMessage (length m) ws′ (r .message)
   pub moved : r .moved ≡ f .moved
   pub long : length m′ ≡ length m
 
 -- the same where the host's buffer takes part
-pub record StepsOn (step : Run rules.Queue → Run rules.Queue) (m host : List ℕ) (f : Flow) (m′ host′ : List ℕ) (r : Flow) : Type 0 where
-  pub run : runOf r m′ host′ ≡ step (runOf f m host)
-  pub fit : FitFlow (length m) (length host) r
+pub record StepsOn (step : Run rules.Queue → Run rules.Queue) (ws m host : List ℕ) (f : Flow) (ws′ m′ host′ : List ℕ) (r : Flow)
+    : Type 0 where
+  pub run : runOf ws′ r m′ host′ ≡ step (runOf ws f m host)
+  pub fit : FitFlow (length m) (length host) ws′ r
   pub long : length m′ ≡ length m
   pub host-long : length host′ ≡ length host
 
 -- a message in work completed: no message is in work after it
-pub record Ends (v : rules.Virtqueue) (e : rules.Ending) (m : List ℕ) (f : Flow) (m′ : List ℕ) (r : Flow) : Type 0 where
-  pub steps : Steps (completed (countersOf (v .direction)) v e) m f m′ r
+pub record Ends (v : rules.Virtqueue) (e : rules.Ending) (ws m : List ℕ) (f : Flow) (m′ : List ℕ) (r : Flow) : Type 0 where
+  pub steps : Steps (completed (countersOf (v .direction)) v e) ws m f ws m′ r
   pub free : r .message .count ≡ 0
 
 -- an ill-formed chain taken and completed

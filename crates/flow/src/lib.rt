@@ -75,32 +75,32 @@ fn beyond(bytes: u32, framing: u32, done: u32) -> usize
 }
 
 // The message in work handed on, as far as the host has room.
-fn hand_on(m: &[u8], host: &mut [u8], q: Virtqueue, f: Flow) -> Flow
-    requires { ⌜ Busy f × FitFlow (length (now m)) (length (now host)) f ⌝ }
-    ensures { λ r. ⌜ (runOf r (now (m .entry)) (now (host .exit))
-        ≡ moved (countersOf output) (virtqueueAs output q) (runOf f (now (m .entry)) (now (host .entry))))
-        × Busy r × FitFlow (length (now (m .entry))) (length (now (host .entry))) r ⌝ }
+fn hand_on(m: &[u8], list: &[u64], host: &mut [u8], q: Virtqueue, f: Flow) -> Flow
+    requires { ⌜ Busy f × FitFlow (length (now m)) (length (now host)) (now list) f ⌝ }
+    ensures { λ r. ⌜ (runOf (now (list .entry)) r (now (m .entry)) (now (host .exit))
+        ≡ moved (countersOf output) (virtqueueAs output q) (runOf (now (list .entry)) f (now (m .entry)) (now (host .entry))))
+        × Busy r × FitFlow (length (now (m .entry))) (length (now (host .entry))) (now (list .entry)) r ⌝ }
 {
     let message = f.message;
     let request = message.request;
     let at = f.moved;
     let n = least(host.len() - at, waiting(Direction::Output, message));
-    ranges::gather(m, request, 4 + message.done as usize, host, at, n);
+    ranges::gather(m, list, request, 4 + message.done as usize, host, at, n);
     advanced(f, n)
 }
 
 // The message in work filled, as far as the host has bytes.
-fn fill(m: &mut [u8], host: &[u8], q: Virtqueue, f: Flow) -> Flow
-    requires { ⌜ Busy f × FitFlow (length (now m)) (length (now host)) f ⌝ }
-    ensures { λ r. ⌜ (runOf r (now (m .exit)) (now (host .entry))
-        ≡ moved (countersOf input) (virtqueueAs input q) (runOf f (now (m .entry)) (now (host .entry))))
-        × Busy r × FitFlow (length (now (m .entry))) (length (now (host .entry))) r ⌝ }
+fn fill(m: &mut [u8], list: &[u64], host: &[u8], q: Virtqueue, f: Flow) -> Flow
+    requires { ⌜ Busy f × FitFlow (length (now m)) (length (now host)) (now list) f ⌝ }
+    ensures { λ r. ⌜ (runOf (now (list .entry)) r (now (m .exit)) (now (host .entry))
+        ≡ moved (countersOf input) (virtqueueAs input q) (runOf (now (list .entry)) f (now (m .entry)) (now (host .entry))))
+        × Busy r × FitFlow (length (now (m .entry))) (length (now (host .entry))) (now (list .entry)) r ⌝ }
 {
     let message = f.message;
     let reply = message.reply;
     let at = f.moved;
     let n = least(host.len() - at, waiting(Direction::Input, message));
-    ranges::scatter(m, reply, message.done as usize, host, at, n);
+    ranges::scatter(m, list, reply, message.done as usize, host, at, n);
     advanced(f, n)
 }
 
@@ -140,17 +140,18 @@ fn status_of(d: Direction, ending: Ending) -> u32
 }
 
 // The message in work completed.
-fn end_message(m: &mut [u8], q: Virtqueue, f: Flow, ending: Ending) -> Flow
-    requires { ⌜ Busy f × FitMessage (length (now m)) (f .message) ⌝ }
-    ensures { λ r. ⌜ Ends (virtqueueIn q) (endingOf ending) (now (m .entry)) f (now (m .exit)) r ⌝ }
+fn end_message(m: &mut [u8], list: &[u64], q: Virtqueue, f: Flow, ending: Ending) -> Flow
+    requires { ⌜ Busy f × FitMessage (length (now m)) (now list) (f .message) ⌝ }
+    ensures { λ r. ⌜ Ends (virtqueueIn q) (endingOf ending) (now (list .entry)) (now (m .entry)) f (now (m .exit)) r ⌝ }
 {
     let direction = q.direction;
-    let mut message = f.message;
+    let message = f.message;
     let mut counters = f.counters;
     let code = status_of(direction, ending);
     let reply = message.reply;
     let posted = message::answer(
         m,
+        list,
         q,
         counters.completed,
         message.head,
@@ -159,11 +160,11 @@ fn end_message(m: &mut [u8], q: Virtqueue, f: Flow, ending: Ending) -> Flow
         message.done,
     );
     counters.completed = posted.completed;
-    message.count = 0;
+    let none = card::no_message();
     let stop = f.stop;
     Flow {
         counters: counters,
-        message: message,
+        message: none,
         moved: f.moved,
         stop: stop,
         signal: either(f.signal, posted.interrupt),
@@ -171,30 +172,31 @@ fn end_message(m: &mut [u8], q: Virtqueue, f: Flow, ending: Ending) -> Flow
 }
 
 // The message in work completed where nothing of its payload waits.
-fn settle(m: &mut [u8], q: Virtqueue, f: Flow) -> Flow
-    requires { ⌜ Busy f × FitMessage (length (now m)) (f .message) ⌝ }
+fn settle(m: &mut [u8], list: &[u64], q: Virtqueue, f: Flow) -> Flow
+    requires { ⌜ Busy f × FitMessage (length (now m)) (now list) (f .message) ⌝ }
     ensures { λ r. ⌜ Steps (settled (countersOf (directionOf (q .direction))) (virtqueueIn q))
-        (now (m .entry)) f (now (m .exit)) r ⌝ }
+        (now (list .entry)) (now (m .entry)) f (now (list .entry)) (now (m .exit)) r ⌝ }
 {
     let message = f.message;
     let direction = q.direction;
     if 0 < waiting(direction, message) {
         return f;
     }
-    end_message(m, q, f, Ending::Finished)
+    end_message(m, list, q, f, Ending::Finished)
 }
 
 // An ill-formed chain completed as soon as it is taken.
-fn refuse(m: &mut [u8], q: Virtqueue, f: Flow, taken: Taken, status: Status) -> Flow
-    requires { ⌜ FitTaken (length (now m)) taken × FitMessage (length (now m)) (f .message)
+fn refuse(m: &mut [u8], list: &[u64], q: Virtqueue, f: Flow, taken: Taken, status: Status) -> Flow
+    requires { ⌜ FitTaken (length (now m)) (now list) taken × FitMessage (length (now m)) (now list) (f .message)
         × (statusIn status ≡ statusOf (directionOf (q .direction)) illFormed (formIn (taken .form))) ⌝ }
     ensures { λ r. ⌜ (f .message .count ≡ 0
-        → Steps (refusedIn (virtqueueIn q) (takingIn taken)) (now (m .entry)) f (now (m .exit)) r) ⌝ }
+        → Steps (refusedIn (virtqueueIn q) (takingIn (now (list .entry)) taken))
+        (now (list .entry)) (now (m .entry)) f (now (list .entry)) (now (m .exit)) r) ⌝ }
 {
     let mut counters = f.counters;
     let message = f.message;
     let reply = taken.reply;
-    let posted = message::answer(m, q, counters.completed, taken.head, reply, status, 0);
+    let posted = message::answer(m, list, q, counters.completed, taken.head, reply, status, 0);
     counters.taken = std::num::wrapping_add_u16(counters.taken, 1);
     counters.completed = posted.completed;
     let stop = f.stop;
@@ -208,17 +210,18 @@ fn refuse(m: &mut [u8], q: Virtqueue, f: Flow, taken: Taken, status: Status) -> 
 }
 
 // An entry that was taken: a well-formed message is in work, an ill-formed one completed at once.
-fn enter(m: &mut [u8], q: Virtqueue, f: Flow, taken: Taken) -> Flow
-    requires { ⌜ (f .message .count ≡ 0) × FitTaken (length (now m)) taken × FitMessage (length (now m)) (f .message) ⌝ }
-    ensures { λ r. ⌜ Steps (entered (countersOf (directionOf (q .direction))) (virtqueueIn q) (takingIn taken))
-        (now (m .entry)) f (now (m .exit)) r ⌝ }
+fn enter(m: &mut [u8], list: &[u64], q: Virtqueue, f: Flow, taken: Taken) -> Flow
+    requires { ⌜ (f .message .count ≡ 0) × FitTaken (length (now m)) (now list) taken
+        × FitMessage (length (now m)) (now list) (f .message) ⌝ }
+    ensures { λ r. ⌜ Steps (entered (countersOf (directionOf (q .direction))) (virtqueueIn q) (takingIn (now (list .entry)) taken))
+        (now (list .entry)) (now (m .entry)) f (now (list .entry)) (now (m .exit)) r ⌝ }
 {
     let form = taken.form;
     match form {
         Form::WellFormed => begin(f, taken),
-        Form::Refused => refuse(m, q, f, taken, Status::Code(message::IO_ERR)),
-        Form::Silent => refuse(m, q, f, taken, Status::Nothing),
-        Form::Unwalked(_) => refuse(m, q, f, taken, Status::Nothing),
+        Form::Refused => refuse(m, list, q, f, taken, Status::Code(message::IO_ERR)),
+        Form::Silent => refuse(m, list, q, f, taken, Status::Nothing),
+        Form::Unwalked(_) => refuse(m, list, q, f, taken, Status::Nothing),
     }
 }
 
@@ -262,11 +265,11 @@ fn halt(f: Flow, cause: Cause) -> Flow
     }
 }
 
-// The next new entry; a bad head is not taken, and stops the flow.
-pub fn meet(m: &mut [u8], q: Virtqueue, f: Flow) -> Flow
-    requires { ⌜ (f .message .count ≡ 0) × FitMessage (length (now m)) (f .message) ⌝ }
+// The next new entry, its ranges put into the list; a bad head is not taken, and stops the flow.
+pub fn meet(m: &mut [u8], list: &mut [u64], q: Virtqueue, f: Flow) -> Flow
+    requires { ⌜ (68 ≤ length (now list)) × (f .message .count ≡ 0) × FitMessage (length (now m)) (now list) (f .message) ⌝ }
     ensures { λ r. ⌜ Steps (next (countersOf (directionOf (q .direction))) (virtqueueIn q))
-        (now (m .entry)) f (now (m .exit)) r ⌝ }
+        (now (list .entry)) (now (m .entry)) f (now (list .exit)) (now (m .exit)) r ⌝ }
 {
     let direction = q.direction;
     let counters = f.counters;
@@ -274,29 +277,29 @@ pub fn meet(m: &mut [u8], q: Virtqueue, f: Flow) -> Flow
     match ring::next_head(m, q.page, size, counters.taken) {
         ring::Head::Broken(cause) => halt(f, cause),
         ring::Head::At(number) => {
-            let taken = message::take_chain(m, q, number);
-            enter(m, q, f, taken)
+            let taken = message::take_chain(m, list, q, number);
+            enter(m, list, q, f, taken)
         }
     }
 }
 
 // A Release ends the message in work.
-pub fn give_up(m: &mut [u8], q: Virtqueue, f: Flow) -> Flow
-    requires { ⌜ FitMessage (length (now m)) (f .message) ⌝ }
+pub fn give_up(m: &mut [u8], list: &[u64], q: Virtqueue, f: Flow) -> Flow
+    requires { ⌜ FitMessage (length (now m)) (now list) (f .message) ⌝ }
     ensures { λ r. ⌜ Steps (givenUp (countersOf (directionOf (q .direction))) (virtqueueIn q))
-        (now (m .entry)) f (now (m .exit)) r ⌝ }
+        (now (list .entry)) (now (m .entry)) f (now (list .entry)) (now (m .exit)) r ⌝ }
 {
     if f.message.count == 0 {
         return f;
     }
-    end_message(m, q, f, Ending::Released)
+    end_message(m, list, q, f, Ending::Released)
 }
 
 // While the host has room the message in work is handed on.
-pub fn work_play(m: &mut [u8], host: &mut [u8], q: Virtqueue, f: Flow) -> Flow
-    requires { ⌜ (q .direction ≡ Direction.Output) × FitFlow (length (now m)) (length (now host)) f ⌝ }
+pub fn work_play(m: &mut [u8], list: &[u64], host: &mut [u8], q: Virtqueue, f: Flow) -> Flow
+    requires { ⌜ (q .direction ≡ Direction.Output) × FitFlow (length (now m)) (length (now host)) (now list) f ⌝ }
     ensures { λ r. ⌜ StepsOn (worked (countersOf output) (virtqueueAs output q))
-        (now (m .entry)) (now (host .entry)) f (now (m .exit)) (now (host .exit)) r ⌝ }
+        (now (list .entry)) (now (m .entry)) (now (host .entry)) f (now (list .entry)) (now (m .exit)) (now (host .exit)) r ⌝ }
 {
     if host.len() <= f.moved {
         return f;
@@ -304,15 +307,15 @@ pub fn work_play(m: &mut [u8], host: &mut [u8], q: Virtqueue, f: Flow) -> Flow
     if f.message.count == 0 {
         return f;
     }
-    let handed = hand_on(m, host, q, f);
-    settle(m, q, handed)
+    let handed = hand_on(m, list, host, q, f);
+    settle(m, list, q, handed)
 }
 
 // While the host has bytes the message in work is filled.
-pub fn work_capture(m: &mut [u8], host: &[u8], q: Virtqueue, f: Flow) -> Flow
-    requires { ⌜ (q .direction ≡ Direction.Input) × FitFlow (length (now m)) (length (now host)) f ⌝ }
+pub fn work_capture(m: &mut [u8], list: &[u64], host: &[u8], q: Virtqueue, f: Flow) -> Flow
+    requires { ⌜ (q .direction ≡ Direction.Input) × FitFlow (length (now m)) (length (now host)) (now list) f ⌝ }
     ensures { λ r. ⌜ StepsOn (worked (countersOf input) (virtqueueAs input q))
-        (now (m .entry)) (now (host .entry)) f (now (m .exit)) (now (host .entry)) r ⌝ }
+        (now (list .entry)) (now (m .entry)) (now (host .entry)) f (now (list .entry)) (now (m .exit)) (now (host .entry)) r ⌝ }
 {
     if host.len() <= f.moved {
         return f;
@@ -320,6 +323,6 @@ pub fn work_capture(m: &mut [u8], host: &[u8], q: Virtqueue, f: Flow) -> Flow
     if f.message.count == 0 {
         return f;
     }
-    let filled = fill(m, host, q, f);
-    settle(m, q, filled)
+    let filled = fill(m, list, host, q, f);
+    settle(m, list, q, filled)
 }

@@ -5,8 +5,9 @@ use mathlib.Core.Option.{some}
 use Rattle.message.specs.Message.{virtqueueIn, directionOf, answeredOf}
 use Rattle.ranges.specs.Ranges.{rangesOf}
 use Rattle.ring.specs.Rules.{Completion, completion}
+use Rattle.card.proofs.Keeps.{no-message-fit}
 use Rattle.flow.specs.Flow.{endingOf}
-use Rattle.flow.proofs.Laws.{ended-run, ended-fit}
+use Rattle.flow.proofs.Laws.{ended-run}
 use Rattle.flow.proofs.end_message.Statement.{statement}
 use Rattle.flow.proofs.end_message.Tie as tie
 
@@ -24,27 +25,38 @@ same-length c = search needs
 
 returns : tie.Need-returns
 returns c =
-    let s = c .before .before .before .before .before .before .before .before .before .before in
+    let back6 = c .before .before .before .before .before .before in
+    let s = back6 .before .before .before .before .before .before in
     let a = s .args in
     let f = a .f in
-    let code = c .before .before .before .before .before .before .status-of .result in
+    let code = back6 .before .status-of .result in
     let k : Completion =
-    answeredOf (directionOf (a .q .direction)) (a .m .now) (a .q .page) (f .counters .completed) (f .message .head .0) (rangesOf (f .message .reply)) (some code) (a .q .latency) (f .message .done) in
-    let e : completion (c .before .before .before .answer .last .0) (c .before .before .before .answer .result) ≡ k = c .before .before .before .answer .ensures in
-    let em : c .before .before .before .answer .last .0 ≡ k .memory = ap (λ (x : Completion). x .memory) e in
-    let ec : c .before .before .before .answer .result .completed ≡ k .completed = ap (λ (x : Completion). x .completed) e in
-    let ei : c .before .before .before .answer .result .interrupt ≡ k .interrupt = ap (λ (x : Completion). x .interrupt) e in
+    answeredOf (directionOf (a .q .direction)) (a .m .now) (a .q .page) (f .counters .completed) (f .message .head .0) (rangesOf (a .list .now) (f .message .reply)) (some code) (a .q .latency) (f .message .done) in
+    let e : completion (c .before .before .before .before .answer .last .0) (c .before .before .before .before .answer .result) ≡ k = c .before .before .before .before .answer .ensures in
+    let em : c .before .before .before .before .answer .last .0 ≡ k .memory = ap (λ (x : Completion). x .memory) e in
+    let ec : c .before .before .before .before .answer .result .completed ≡ k .completed = ap (λ (x : Completion). x .completed) e in
+    let ei : c .before .before .before .before .answer .result .interrupt ≡ k .interrupt = ap (λ (x : Completion). x .interrupt) e in
     record {
       steps = record {
-        run = λ host. rw (c .either .ensures, em, ec, ei)
-            (ended-run (virtqueueIn (a .q)) (endingOf (a .ending)) code (a .m .now) host f (s .pre .0) (c .before .before .before .before .before .before .status-of .ensures));
-        message = ended-fit _ k f (s .pre .1);
+        run = λ host. rw (c .either .ensures, c .before .no-message .ensures, em, ec, ei)
+            (ended-run (virtqueueIn (a .q)) (endingOf (a .ending)) code (a .list .now) (a .m .now) host f (s .pre .0) (back6 .before .status-of .ensures));
+        message = rw (c .before .no-message .ensures) (no-message-fit _ _);
         moved = refl;
-        long = c .before .before .before .answer .kept .0;
+        long = c .before .before .before .before .answer .kept .0;
       };
-      free = refl;
+      free = rw (c .before .no-message .ensures);
     }
+
+no-message-requires : tie.Need-no-message-requires
+no-message-requires c κs = search needs
 
 pub end-message-spec : {M : Type 1} → statement M
 end-message-spec =
-    tie.close (tie.spec status-of-requires answer-requires either-requires same-length returns)
+    tie.close
+    (tie.spec
+    status-of-requires
+    answer-requires
+    no-message-requires
+    either-requires
+    same-length
+    returns)

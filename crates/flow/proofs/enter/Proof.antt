@@ -17,30 +17,30 @@ enum-told-2 c = search needs
 
 refuse-requires : tie.Need-refuse-requires
 refuse-requires c κs =
-    let s = c .before .before .before .before in (s .pre .1, s .pre .2, rw (c .before .enum-told2 .given .1))
+    let s = c .before .before .before .before .before in (s .pre .1, s .pre .2, rw (c .before .enum-told2 .given .1))
 
 enum-told-3 : tie.Need-enum-told-3
 enum-told-3 c = search needs
 
 refuse-requires-2 : tie.Need-refuse-requires-2
 refuse-requires-2 c κs =
-    let s = c .before .before .before .before in (s .pre .1, s .pre .2, rw (c .before .enum-told3 .given .1))
+    let s = c .before .before .before .before .before in (s .pre .1, s .pre .2, rw (c .before .enum-told3 .given .1))
 
 enum-told-4 : tie.Need-enum-told-4
 enum-told-4 c = search needs
 
 refuse-requires-3 : tie.Need-refuse-requires-3
 refuse-requires-3 c κs =
-    let s = c .before .before .before .before in (s .pre .1, s .pre .2, rw (c .before .enum-told4 .given .1))
+    let s = c .before .before .before .before .before in (s .pre .1, s .pre .2, rw (c .before .enum-told4 .given .1))
 
 returns : tie.Need-returns
 returns c =
-    let s = c .before .before .before .before in
+    let s = c .before .before .before .before .before in
     let a = s .args in
     let w = c .before .enum-told .given .1 in
     record {
-      run = λ host. rw (c .begin .ensures) (begun-run (virtqueueIn (a .q)) (a .taken) (a .m .now) host (a .f) w);
-      message = rw (c .begin .ensures) (begun-fit _ (a .taken) (a .f) w (s .pre .1));
+      run = λ host. rw (c .begin .ensures) (begun-run (virtqueueIn (a .q)) (a .taken) (a .list .now) (a .m .now) host (a .f) w);
+      message = rw (c .begin .ensures) (begun-fit _ _ (a .taken) (a .f) w (s .pre .1));
       moved = rw (c .begin .ensures);
       long = refl;
     }
@@ -50,8 +50,9 @@ same-length c = search needs
 
 returns-2 : tie.Need-returns-2
 returns-2 c =
-    let s = c .before .before .before .before .before .before .before in
-    refused-steps (virtqueueIn (s .args .q)) (takingIn (s .args .taken)) _ _ _ _
+    let back6 = c .before .before .before .before .before .before in
+    let s = back6 .before .before in
+    refused-steps (virtqueueIn (s .args .q)) (takingIn (s .args .list .now) (s .args .taken)) _ _ _ _ _ _
     (rw (c .before .before .before .before .enum-told2 .given .1)) (c .before .before .refuse .ensures (s .pre .0))
 
 same-length-2 : tie.Need-same-length-2
@@ -59,8 +60,9 @@ same-length-2 c = search needs
 
 returns-3 : tie.Need-returns-3
 returns-3 c =
-    let s = c .before .before .before .before .before .before .before in
-    refused-steps (virtqueueIn (s .args .q)) (takingIn (s .args .taken)) _ _ _ _
+    let back6 = c .before .before .before .before .before .before in
+    let s = back6 .before .before in
+    refused-steps (virtqueueIn (s .args .q)) (takingIn (s .args .list .now) (s .args .taken)) _ _ _ _ _ _
     (rw (c .before .before .before .before .enum-told3 .given .1)) (c .before .before .refuse2 .ensures (s .pre .0))
 
 same-length-3 : tie.Need-same-length-3
@@ -68,8 +70,9 @@ same-length-3 c = search needs
 
 returns-4 : tie.Need-returns-4
 returns-4 c =
-    let s = c .before .before .before .before .before .before .before in
-    refused-steps (virtqueueIn (s .args .q)) (takingIn (s .args .taken)) _ _ _ _
+    let back6 = c .before .before .before .before .before .before in
+    let s = back6 .before .before in
+    refused-steps (virtqueueIn (s .args .q)) (takingIn (s .args .list .now) (s .args .taken)) _ _ _ _ _ _
     (rw (c .before .before .before .before .enum-told4 .given .1)) (c .before .before .refuse3 .ensures (s .pre .0))
 
 pub enter-spec : {M : Type 1} → statement M

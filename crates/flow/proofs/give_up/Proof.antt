@@ -9,29 +9,30 @@ use Rattle.flow.proofs.give_up.Tie as tie
 
 returns : tie.Need-returns
 returns c =
-    let s = c .before .before .before in
+    let s = c .before .before .before .before in
     let a = s .args in
     record {
-      run = λ host. sym (given-none (virtqueueIn (a .q)) (a .m .now) host (a .f) (c .if1 .taken));
+      run = λ host. sym (given-none (virtqueueIn (a .q)) (a .list .now) (a .m .now) host (a .f) (c .if1 .taken));
       message = s .pre;
       moved = refl;
       long = refl;
     }
 
 end-message-requires : tie.Need-end-message-requires
-end-message-requires c κs = (omega arith, c .before .before .before .before .pre)
+end-message-requires c κs = (omega arith, c .before .before .before .before .before .pre)
 
 same-length : tie.Need-same-length
 same-length c = search needs
 
 returns-2 : tie.Need-returns-2
 returns-2 c =
-    let s = c .before .before .before .before .before .before .before in
+    let back6 = c .before .before .before .before .before .before in
+    let s = back6 .before .before in
     let a = s .args in
     let t = c .before .before .end-message .ensures .steps in
     let busy : a .f .message .count ≡ 1 = omega (arith, s .pre .one) in
     record {
-      run = λ host. t .run host ∙ sym (given-one (virtqueueIn (a .q)) (a .m .now) host (a .f) busy);
+      run = λ host. t .run host ∙ sym (given-one (virtqueueIn (a .q)) (a .list .now) (a .m .now) host (a .f) busy);
       message = t .message;
       moved = t .moved;
       long = t .long;

@@ -1,17 +1,19 @@
 -- The head decides: a bad one stops the flow, at a good one the chain is taken and entered.
-use mathlib.Core.Path.{_≡_, _∙_, sym, refl}
+use mathlib.Core.Path.{_≡_, _∙_, sym, refl, ap}
 use borrow.Author.Needs.{needs}
 use Rattle.message.specs.Message.{virtqueueIn, directionOf}
 use Rattle.ring.specs.Rules.{headOf}
 use Rattle.registers.specs.Map.{sizeOf}
+use Rattle.rules.specs.Counters.{countersOf}
 use Rattle.rules.specs.Device as rules
-use Rattle.flow.proofs.Laws.{next-taken, next-stopped}
+use Rattle.rules.specs.Transfer.{entered, takingOf}
+use Rattle.flow.proofs.Laws.{next-taken, next-stopped, idle-run, idle-fit}
 use Rattle.flow.proofs.meet.Statement.{statement}
 use Rattle.flow.proofs.meet.Tie as tie
 
 -- the head that the code reads is the rules'
 head-found : (c : tie.After-next-head)
-    → let a = c .before .before .before .before .before .args in
+    → let a = c .before .before .before .before .before .before .args in
     c .next-head .result
     ≡ headOf (a .m .now) (a .q .page) (sizeOf (rules.queueNumber (directionOf (a .q .direction)))) (a .f .counters .taken)
 head-found c = rw (← (c .before .before .queue-size .ensures)) (c .next-head .ensures)
@@ -36,8 +38,10 @@ take-chain-requires c κs = search needs
 
 enter-requires : tie.Need-enter-requires
 enter-requires c κs =
-    let s = c .before .before .before .before .before .before .before .before .before .before .before in
-    (s .pre .0, c .before .take-chain .ensures .1, s .pre .1)
+    let back6 = c .before .before .before .before .before .before in
+    let back12 = back6 .before .before .before .before .before .before in
+    let s = back12 .before .before .before .before in
+    (s .pre .1, c .before .before .before .before .take-chain .ensures .1, idle-fit _ _ _ (s .args .f .message) (s .pre .1) (s .pre .2))
 
 same-length : tie.Need-same-length
 same-length c = search needs
@@ -45,13 +49,13 @@ same-length c = search needs
 returns : tie.Need-returns
 returns c =
     let n = c .before .before .before .before in
-    let s = n .before .before .before .before .before in
+    let s = n .before .before .before .before .before .before in
     let a = s .args in
     let h = sym (head-found n) ∙ c .before .before .cause .given .1 in
     rw (c .halt .ensures)
     (record {
-      run = λ host. sym (next-stopped (virtqueueIn (a .q)) (a .m .now) host (a .f) _ h);
-      message = s .pre .1;
+      run = λ host. sym (next-stopped (virtqueueIn (a .q)) (a .list .now) (a .m .now) host (a .f) _ h);
+      message = s .pre .2;
       moved = refl;
       long = refl;
     })
@@ -61,18 +65,26 @@ same-length-2 c = search needs
 
 returns-2 : tie.Need-returns-2
 returns-2 c =
+    let back6 = c .before .before .before .before .before .before in
+    let back12 = back6 .before .before .before .before .before .before in
+    let back18 = back12 .before .before .before .before .before .before in
     let e = c .before .before in
-    let k = e .before .before .before .before .before in
+    let k = e .before .before .before .before .before .before .before .before .before in
     let n = k .before .before in
-    let a = n .before .before .before .before .before .args in
+    let a = n .before .before .before .before .before .before .args in
     let h = sym (head-found n) ∙ k .number .given .1 in
-    let t = rw (e .before .before .take-chain .ensures .0) at (e .enter .ensures) in
+    let t = rw (e .before .before .before .before .before .take-chain .ensures .0) at (e .enter .ensures) in
+    let v = virtqueueIn (a .q) in
+    let step = entered (countersOf (v .direction)) v (takingOf v (a .m .now) (k .number .given .0 .0 .0)) in
     record {
-      run = λ host. t .run host ∙ sym (next-taken (virtqueueIn (a .q)) (a .m .now) host (a .f) _ h);
+      run = λ host. t .run host ∙ ap step (idle-run _ _ (a .f) (a .m .now) host (back18 .before .pre .1)) ∙ sym (next-taken (virtqueueIn (a .q)) (a .list .now) (a .m .now) host (a .f) _ h);
       message = t .message;
       moved = t .moved;
       long = t .long;
     }
+
+same-length-3 : tie.Need-same-length-3
+same-length-3 c = search needs
 
 pub meet-spec : {M : Type 1} → statement M
 meet-spec =
@@ -88,4 +100,5 @@ meet-spec =
     same-length
     returns
     same-length-2
+    same-length-3
     returns-2)

@@ -9,10 +9,10 @@ use Rattle.flow.proofs.work_capture.Tie as tie
 
 returns : tie.Need-returns
 returns c =
-    let s = c .before .before .before .before in
+    let s = c .before .before .before .before .before in
     let a = s .args in
     record {
-      run = sym (worked-full (virtqueueAs rules.input (a .q)) (a .m .now) (a .host .now) (a .f) (c .if1 .taken));
+      run = sym (worked-full (virtqueueAs rules.input (a .q)) (a .list .now) (a .m .now) (a .host .now) (a .f) (c .if1 .taken));
       fit = s .pre .1;
       long = refl;
       host-long = refl;
@@ -20,10 +20,11 @@ returns c =
 
 returns-2 : tie.Need-returns-2
 returns-2 c =
-    let s = c .before .before .before .before .before .before in
+    let back6 = c .before .before .before .before .before .before in
+    let s = back6 .before in
     let a = s .args in
     record {
-      run = sym (worked-idle (virtqueueAs rules.input (a .q)) (a .m .now) (a .host .now) (a .f) (c .if2 .taken));
+      run = sym (worked-idle (virtqueueAs rules.input (a .q)) (a .list .now) (a .m .now) (a .host .now) (a .f) (c .if2 .taken));
       fit = s .pre .1;
       long = refl;
       host-long = refl;
@@ -40,15 +41,17 @@ same-length c = search needs
 
 returns-3 : tie.Need-returns-3
 returns-3 c =
-    let s = c .before .before .before .before .before .before .before .before .before .before .before .before .before .before in
+    let back6 = c .before .before .before .before .before .before in
+    let back12 = back6 .before .before .before .before .before .before in
+    let s = back12 .before .before .before in
     let a = s .args in
     let h = c .before .before .before .before .before .before .fill in
     let t = c .before .before .settle .ensures in
-    let busy = one-left (a .f .message .count) (s .pre .1 .message .one) (c .before .before .before .before .before .before .before .before .if2 .left) in
-    let w = worked-busy (virtqueueAs rules.input (a .q)) (a .m .now) (a .host .now) (a .f) (c .before .before .before .before .before .before .before .before .before .before .if1 .left) busy in
+    let busy = one-left (a .f .message .count) (s .pre .1 .message .one) (back6 .before .before .if2 .left) in
+    let w = worked-busy (virtqueueAs rules.input (a .q)) (a .list .now) (a .m .now) (a .host .now) (a .f) (back6 .before .before .before .before .if1 .left) busy in
     record {
       run = rw (w, ← (h .ensures .0)) (rw (s .pre .0) at (t .run (a .host .now)));
-      fit = fit-beside _ _ _ (c .before .before .settle .result) (rw (h .kept .0) at (t .message)) (t .moved) (h .ensures .2 .inside);
+      fit = fit-beside _ _ _ _ (c .before .before .settle .result) (rw (h .kept .0) at (t .message)) (t .moved) (h .ensures .2 .inside);
       long = t .long ∙ h .kept .0;
       host-long = refl;
     }

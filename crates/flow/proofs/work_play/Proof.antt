@@ -9,10 +9,10 @@ use Rattle.flow.proofs.work_play.Tie as tie
 
 returns : tie.Need-returns
 returns c =
-    let s = c .before .before .before .before in
+    let s = c .before .before .before .before .before in
     let a = s .args in
     record {
-      run = sym (worked-full (virtqueueAs rules.output (a .q)) (a .m .now) (a .host .now) (a .f) (c .if1 .taken));
+      run = sym (worked-full (virtqueueAs rules.output (a .q)) (a .list .now) (a .m .now) (a .host .now) (a .f) (c .if1 .taken));
       fit = s .pre .1;
       long = refl;
       host-long = refl;
@@ -20,10 +20,11 @@ returns c =
 
 returns-2 : tie.Need-returns-2
 returns-2 c =
-    let s = c .before .before .before .before .before .before in
+    let back6 = c .before .before .before .before .before .before in
+    let s = back6 .before in
     let a = s .args in
     record {
-      run = sym (worked-idle (virtqueueAs rules.output (a .q)) (a .m .now) (a .host .now) (a .f) (c .if2 .taken));
+      run = sym (worked-idle (virtqueueAs rules.output (a .q)) (a .list .now) (a .m .now) (a .host .now) (a .f) (c .if2 .taken));
       fit = s .pre .1;
       long = refl;
       host-long = refl;
@@ -43,17 +44,19 @@ same-length-2 c = search needs
 
 returns-3 : tie.Need-returns-3
 returns-3 c =
-    let s = c .before .before .before .before .before .before .before .before .before .before .before .before .before .before .before in
+    let back6 = c .before .before .before .before .before .before in
+    let back12 = back6 .before .before .before .before .before .before in
+    let s = back12 .before .before .before .before in
     let a = s .args in
     let h = c .before .before .before .before .before .before .hand-on in
     let t = c .before .before .settle .ensures in
-    let busy = one-left (a .f .message .count) (s .pre .1 .message .one) (c .before .before .before .before .before .before .before .before .before .if2 .left) in
-    let w = worked-busy (virtqueueAs rules.output (a .q)) (a .m .now) (a .host .now) (a .f) (c .before .before .before .before .before .before .before .before .before .before .before .if1 .left) busy in
+    let busy = one-left (a .f .message .count) (s .pre .1 .message .one) (back6 .before .before .before .if2 .left) in
+    let w = worked-busy (virtqueueAs rules.output (a .q)) (a .list .now) (a .m .now) (a .host .now) (a .f) (back6 .before .before .before .before .before .if1 .left) busy in
     record {
-      run = rw (w, ← (h .ensures .0)) (rw (s .pre .0) at (t .run (h .last .1 .0)));
-      fit = fit-beside _ _ _ (c .before .before .settle .result) (t .message) (t .moved) (h .ensures .2 .inside);
+      run = rw (w, ← (h .ensures .0)) (rw (s .pre .0) at (t .run (h .last .1 .1 .0)));
+      fit = fit-beside _ _ _ _ (c .before .before .settle .result) (t .message) (t .moved) (h .ensures .2 .inside);
       long = t .long;
-      host-long = h .kept .1 .0;
+      host-long = h .kept .1 .1 .0;
     }
 
 pub work-play-spec : {M : Type 1} → statement M
