@@ -31,15 +31,15 @@ room-test a b = by (ltb b a) refl where
   by true h = rw (h, lt-ltb 0 (a - b) (omega (arith, ltb-true b a h)))
   by false h = rw (h, le-ltb 0 (a - b) (omega (arith, ltb-false b a h)))
 
-module _ (v : rules.Virtqueue) (m host : List ℕ) (f : Flow) where
-  pub goes-on : transferMore (countersOf (v .direction)) v (runOf f m host) ≡ goesOn f (length host)
+module _ (v : rules.Virtqueue) (ws m host : List ℕ) (f : Flow) where
+  pub goes-on : transferMore (countersOf (v .direction)) v (runOf ws f m host) ≡ goesOn f (length host)
   unfolding runOf
-  goes-on = rw (room-test (length host) (f .moved), none-when (eqb (f .message .count) 0) (record { taking = takingIn (f .message); done = f .message .done }))
+  goes-on = rw (room-test (length host) (f .moved), none-when (eqb (f .message .count) 0) (record { taking = takingIn ws (f .message); done = f .message .done }))
 
-module _ (v : rules.Virtqueue) (m host : List ℕ) (f : Flow) where
-  pub release-goes-on : releaseMore (countersOf (v .direction)) v (runOf f m host) ≡ releaseGoesOn f
+module _ (v : rules.Virtqueue) (ws m host : List ℕ) (f : Flow) where
+  pub release-goes-on : releaseMore (countersOf (v .direction)) v (runOf ws f m host) ≡ releaseGoesOn f
   unfolding runOf
-  release-goes-on = rw (none-when (eqb (f .message .count) 0) (record { taking = takingIn (f .message); done = f .message .done }))
+  release-goes-on = rw (none-when (eqb (f .message .count) 0) (record { taking = takingIn ws (f .message); done = f .message .done }))
 
 pub release-goes-idle : (f : Flow) → releaseGoesOn f ≡ true → f .message .count ≡ 0
 release-goes-idle f h = eqb-true (f .message .count) 0 (and-eq-true-iff (going (f .stop)) (eqb (f .message .count) 0) .0 h .1)
@@ -47,5 +47,6 @@ release-goes-idle f h = eqb-true (f .message .count) 0 (and-eq-true-iff (going (
 pub goes-idle : (f : Flow) (room : ℕ) → goesOn f room ≡ true → f .message .count ≡ 0
 goes-idle f room h = eqb-true (f .message .count) 0 (and-eq-true-iff (going (f .stop) && ltb (f .moved) room) (eqb (f .message .count) 0) .0 h .1)
 
-pub fresh-fit : (len room : ℕ) (c : Counters) (message : Message) → FitMessage len message → FitFlow len room (freshFlow c message)
-fresh-fit len room c message g = record { message = g; inside = omega arith }
+pub fresh-fit : (len room : ℕ) (ws : List ℕ) (c : Counters) (message : Message) → FitMessage len ws message
+    → FitFlow len room ws (freshFlow c message)
+fresh-fit len room ws c message g = record { message = g; inside = omega arith }

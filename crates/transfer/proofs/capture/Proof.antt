@@ -11,13 +11,14 @@ begun-flow-requires : tie.Need-begun-flow-requires
 begun-flow-requires c κs = search needs
 
 work-capture-requires : tie.Need-work-capture-requires
-work-capture-requires c κs = let s = c .before .before .before .before in (s .pre .0, rw (c .begun-flow .ensures) (fresh-fit _ _ _ _ (s .pre .1)))
+work-capture-requires c κs = let s = c .before .before .before .before .before .before in (s .pre .0, rw (c .begun-flow .ensures) (fresh-fit _ _ _ _ _ (s .pre .1)))
 
 capture-rest-requires : tie.Need-capture-rest-requires
 capture-rest-requires c κs =
-    let s = c .before .before .before .before .before .before .before .before in
-    let w = c .before .before .before .work-capture .ensures in
-    (s .pre .0, rw (w .long) (w .fit))
+    let back6 = c .before .before .before .before .before .before in
+    let s = back6 .before .before .before .before .before in
+    let w = c .before .before .before .before .work-capture .ensures in
+    (s .pre .0, rw (w .long) (w .fit), s .pre .2)
 
 same-length : tie.Need-same-length
 same-length c = search needs
@@ -25,8 +26,9 @@ same-length c = search needs
 returns : tie.Need-returns
 unfolding transferRun
 returns c =
-    let w = rw (c .before .before .before .before .before .before .before .begun-flow .ensures) at (c .before .before .before .before .before .before .work-capture .ensures) in
-    let t = c .before .before .capture-rest .ensures in
+    let back6 = c .before .before .before .before .before .before in
+    let w = rw (back6 .before .before .before .before .begun-flow .ensures) at (back6 .before .before .before .work-capture .ensures) in
+    let t = c .before .before .before .before .capture-rest .ensures in
     record {
       run = t .run ∙ rw (w .run, loop-whiles);
       fit = rw (w .long) at (t .fit);
@@ -34,7 +36,16 @@ returns c =
       host-long = t .host-long ∙ w .host-long;
     }
 
+same-length-2 : tie.Need-same-length-2
+same-length-2 c = search needs
+
 pub capture-spec : {M : Type 1} → statement M
 capture-spec =
     tie.close
-    (tie.spec begun-flow-requires work-capture-requires capture-rest-requires same-length returns)
+    (tie.spec
+    begun-flow-requires
+    work-capture-requires
+    capture-rest-requires
+    same-length
+    same-length-2
+    returns)

@@ -14,17 +14,17 @@ use Rattle.transfer.proofs.capture_rest.Statement.{statement}
 use Rattle.transfer.proofs.capture_rest.Tie as tie
 
 abbrev Inv-loop : tie.InvT-loop
-Inv-loop m₀ host q new g₀ left₀ m g left =
-    (restRun (virtqueueAs rules.input q) left (runOf g m host) ≡ restRun (virtqueueAs rules.input q) new (runOf g₀ m₀ host))
-    × FitFlow (length m₀) (length host) g
+Inv-loop m₀ list₀ host q new g₀ left₀ m list g left =
+    (restRun (virtqueueAs rules.input q) left (runOf list g m host) ≡ restRun (virtqueueAs rules.input q) new (runOf list₀ g₀ m₀ host))
+    × FitFlow (length m₀) (length host) list g
     × (length m ≡ length m₀)
-    × (length host ≡ length host)
+    × (length list ≡ length list₀)
 
 abbrev μ-loop : tie.MeasureT-loop
-μ-loop m₀ host q new g₀ left₀ m g left = left
+μ-loop m₀ list₀ host q new g₀ left₀ m list g left = left
 
 loop-holds : tie.Need-loop-holds Inv-loop μ-loop
-loop-holds c = (refl, c .before .before .pre .1, refl, refl)
+loop-holds c = (refl, c .before .before .before .pre .1, refl, refl)
 
 transfer-more-requires : tie.Need-transfer-more-requires Inv-loop μ-loop
 transfer-more-requires c κs = omega arith
@@ -34,23 +34,26 @@ same-length c = omega arith
 
 returns : tie.Need-returns Inv-loop μ-loop
 returns c =
-    let a = c .before .before .before .before .before .before .args in
+    let back6 = c .before .before .before .before .before .before in
+    let a = back6 .before .args in
     let l = c .before .before .before .loop in
     record {
-      run = sym (rest-stop (virtqueueAs rules.input (a .q)) (l .m) (a .host .now) (l .g) (l .left) (sym (c .before .transfer-more .ensures) ∙ not-true _ (c .if1 .taken))) ∙ l .inv .0;
+      run = sym (rest-stop (virtqueueAs rules.input (a .q)) (l .list) (l .m) (a .host .now) (l .g) (l .left) (sym (c .before .transfer-more .ensures) ∙ not-true _ (c .if1 .taken))) ∙ l .inv .0;
       fit = l .inv .1;
       long = l .inv .2;
-      host-long = l .inv .3;
+      host-long = refl;
     }
 
 capture-turn-requires : tie.Need-capture-turn-requires Inv-loop μ-loop
 capture-turn-requires c κs =
-    let s = c .before .before .before .before .before .before .before in
-    let l = c .before .before .before .before .loop in
+    let back6 = c .before .before .before .before .before .before in
+    let s = back6 .before .before .before in
+    let l = c .before .before .before .before .before .loop in
     let a = s .args in (
       s .pre .0,
-      goes-idle (l .g) (length (a .host .now)) (sym (c .before .before .transfer-more .ensures) ∙ not-false _ (c .before .if1 .left)),
+      goes-idle (l .g) (length (a .host .now)) (sym (c .before .before .before .transfer-more .ensures) ∙ not-false _ (c .before .before .if1 .left)),
       rw (l .inv .2) (l .inv .1),
+      rw (l .inv .3) (s .pre .2),
     )
 
 sub-left : tie.Need-sub-left Inv-loop μ-loop
@@ -61,19 +64,21 @@ loop-less c = omega arith
 
 loop-again : tie.Need-loop-again Inv-loop μ-loop
 loop-again c =
-    let s = c .before .before .before .before .before .before .before .before .before .before in
+    let back6 = c .before .before .before .before .before .before in
+    let back12 = back6 .before .before .before .before .before .before in
+    let s = back12 .before .before in
     let a = s .args in
-    let l = c .before .before .before .before .before .before .before .loop in
-    let t = c .before .before .capture-turn .ensures in (
+    let l = back6 .before .before .before .before .loop in
+    let t = c .before .before .before .before .capture-turn .ensures in (
       rw (
         t .run,
-        ← (rest-more (virtqueueAs rules.input (a .q)) (l .m) (a .host .now) (l .g) (l .left) (l .left - 1) (omega (arith, c .before .before .before .before .before .before .loop-test .taken))
-            (sym (c .before .before .before .before .before .transfer-more .ensures) ∙ not-false _ (c .before .before .before .before .if1 .left))),
+        ← (rest-more (virtqueueAs rules.input (a .q)) (l .list) (l .m) (a .host .now) (l .g) (l .left) (l .left - 1) (omega (arith, back6 .before .before .before .loop-test .taken))
+            (sym (back6 .before .before .transfer-more .ensures) ∙ not-false _ (back6 .before .if1 .left))),
       )
           (l .inv .0),
       rw (l .inv .2) at (t .fit),
       t .long ∙ l .inv .2,
-      t .host-long ∙ l .inv .3,
+      c .before .before .before .before .capture-turn .kept .1 .0 ∙ l .inv .3,
     )
 
 same-length-2 : tie.Need-same-length-2 Inv-loop μ-loop
@@ -81,14 +86,20 @@ same-length-2 c = omega arith
 
 returns-2 : tie.Need-returns-2 Inv-loop μ-loop
 returns-2 c =
-    let a = c .before .before .before .before .args in
+    let a = c .before .before .before .before .before .args in
     let l = c .before .loop in
     record {
-      run = sym (rest-none (virtqueueAs rules.input (a .q)) (l .m) (a .host .now) (l .g) (l .left) (omega arith)) ∙ l .inv .0;
+      run = sym (rest-none (virtqueueAs rules.input (a .q)) (l .list) (l .m) (a .host .now) (l .g) (l .left) (omega arith)) ∙ l .inv .0;
       fit = l .inv .1;
       long = l .inv .2;
-      host-long = l .inv .3;
+      host-long = refl;
     }
+
+same-length-3 : tie.Need-same-length-3 Inv-loop μ-loop
+same-length-3 c = omega arith
+
+same-length-4 : tie.Need-same-length-4 Inv-loop μ-loop
+same-length-4 c = omega arith
 
 pub capture-rest-spec : {M : Type 1} → statement M
 capture-rest-spec =
@@ -99,10 +110,12 @@ capture-rest-spec =
     loop-holds
     transfer-more-requires
     same-length
+    same-length-2
     returns
     capture-turn-requires
     sub-left
     loop-less
     loop-again
-    same-length-2
+    same-length-3
+    same-length-4
     returns-2)

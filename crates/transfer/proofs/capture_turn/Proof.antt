@@ -10,18 +10,21 @@ meet-requires c κs = search needs
 
 work-capture-requires : tie.Need-work-capture-requires
 work-capture-requires c κs =
-    let s = c .before .before .before .before .before .before .before in
-    let n = c .before .before .before .meet .ensures in
-    (s .pre .0, fit-beside _ _ _ (c .before .before .before .meet .result) (rw (n .long) (n .message)) (n .moved) (s .pre .2 .inside))
+    let back6 = c .before .before .before .before .before .before in
+    let s = back6 .before .before .before .before .before .before in
+    let n = c .before .before .before .before .before .before .meet .ensures in
+    (s .pre .0, fit-beside _ _ _ _ (c .before .before .before .before .before .before .meet .result) (rw (n .long) (n .message)) (n .moved) (s .pre .2 .inside))
 
 same-length : tie.Need-same-length
 same-length c = search needs
 
 returns : tie.Need-returns
 returns c =
-    let s = c .before .before .before .before .before .before .before .before .before .before in
+    let back6 = c .before .before .before .before .before .before in
+    let back12 = back6 .before .before .before .before .before .before in
+    let s = back12 .before .before .before in
     let a = s .args in
-    let n = c .before .before .before .before .before .before .meet .ensures in
+    let n = back6 .before .before .before .meet .ensures in
     let w = c .before .before .work-capture .ensures in
     record {
       run = w .run ∙ rw (rw (s .pre .0) at (n .run (a .host .now)));
@@ -30,5 +33,15 @@ returns c =
       host-long = w .host-long;
     }
 
+same-length-2 : tie.Need-same-length-2
+same-length-2 c = search needs
+
 pub capture-turn-spec : {M : Type 1} → statement M
-capture-turn-spec = tie.close (tie.spec meet-requires work-capture-requires same-length returns)
+capture-turn-spec =
+    tie.close
+    (tie.spec
+    meet-requires
+    work-capture-requires
+    same-length
+    same-length-2
+    returns)

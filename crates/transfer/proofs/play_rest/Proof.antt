@@ -14,17 +14,18 @@ use Rattle.transfer.proofs.play_rest.Statement.{statement}
 use Rattle.transfer.proofs.play_rest.Tie as tie
 
 abbrev Inv-loop : tie.InvT-loop
-Inv-loop m₀ host₀ q new g₀ left₀ m host g left =
-    (restRun (virtqueueAs rules.output q) left (runOf g m host) ≡ restRun (virtqueueAs rules.output q) new (runOf g₀ m₀ host₀))
-    × FitFlow (length m₀) (length host₀) g
+Inv-loop m₀ list₀ host₀ q new g₀ left₀ m list host g left =
+    (restRun (virtqueueAs rules.output q) left (runOf list g m host) ≡ restRun (virtqueueAs rules.output q) new (runOf list₀ g₀ m₀ host₀))
+    × FitFlow (length m₀) (length host₀) list g
     × (length m ≡ length m₀)
     × (length host ≡ length host₀)
+    × (length list ≡ length list₀)
 
 abbrev μ-loop : tie.MeasureT-loop
-μ-loop m₀ host₀ q new g₀ left₀ m host g left = left
+μ-loop m₀ list₀ host₀ q new g₀ left₀ m list host g left = left
 
 loop-holds : tie.Need-loop-holds Inv-loop μ-loop
-loop-holds c = (refl, c .before .before .pre .1, refl, refl)
+loop-holds c = (refl, c .before .before .before .pre .1, refl, refl, refl)
 
 transfer-more-requires : tie.Need-transfer-more-requires Inv-loop μ-loop
 transfer-more-requires c κs = omega arith
@@ -37,10 +38,11 @@ same-length-2 c = omega arith
 
 returns : tie.Need-returns Inv-loop μ-loop
 returns c =
-    let a = c .before .before .before .before .before .before .args in
+    let back6 = c .before .before .before .before .before .before in
+    let a = back6 .before .args in
     let l = c .before .before .before .loop in
     record {
-      run = sym (rest-stop (virtqueueAs rules.output (a .q)) (l .m) (l .host) (l .g) (l .left) (sym (c .before .transfer-more .ensures) ∙ not-true _ (c .if1 .taken))) ∙ l .inv .0;
+      run = sym (rest-stop (virtqueueAs rules.output (a .q)) (l .list) (l .m) (l .host) (l .g) (l .left) (sym (c .before .transfer-more .ensures) ∙ not-true _ (c .if1 .taken))) ∙ l .inv .0;
       fit = l .inv .1;
       long = l .inv .2;
       host-long = l .inv .3;
@@ -48,12 +50,14 @@ returns c =
 
 play-turn-requires : tie.Need-play-turn-requires Inv-loop μ-loop
 play-turn-requires c κs =
-    let s = c .before .before .before .before .before .before .before .before in
-    let l = c .before .before .before .before .before .loop in
+    let back6 = c .before .before .before .before .before .before in
+    let s = back6 .before .before .before .before in
+    let l = c .before .before .before .before .before .before .loop in
     let a = s .args in (
       s .pre .0,
-      goes-idle (l .g) (length (l .host)) (sym (c .before .before .before .transfer-more .ensures) ∙ not-false _ (c .before .before .if1 .left)),
+      goes-idle (l .g) (length (l .host)) (sym (c .before .before .before .before .transfer-more .ensures) ∙ not-false _ (c .before .before .before .if1 .left)),
       rw (l .inv .2, l .inv .3) (l .inv .1),
+      rw (l .inv .4) (s .pre .2),
     )
 
 sub-left : tie.Need-sub-left Inv-loop μ-loop
@@ -64,19 +68,22 @@ loop-less c = omega arith
 
 loop-again : tie.Need-loop-again Inv-loop μ-loop
 loop-again c =
-    let s = c .before .before .before .before .before .before .before .before .before .before .before .before .before in
+    let back6 = c .before .before .before .before .before .before in
+    let back12 = back6 .before .before .before .before .before .before in
+    let s = back12 .before .before .before .before .before in
     let a = s .args in
-    let l = c .before .before .before .before .before .before .before .before .before .before .loop in
-    let t = c .before .before .before .before .play-turn .ensures in (
+    let l = back12 .before .loop in
+    let t = c .before .before .before .before .before .before .play-turn .ensures in (
       rw (
         t .run,
-        ← (rest-more (virtqueueAs rules.output (a .q)) (l .m) (l .host) (l .g) (l .left) (l .left - 1) (omega (arith, c .before .before .before .before .before .before .before .before .before .loop-test .taken))
-            (sym (c .before .before .before .before .before .before .before .before .transfer-more .ensures) ∙ not-false _ (c .before .before .before .before .before .before .before .if1 .left))),
+        ← (rest-more (virtqueueAs rules.output (a .q)) (l .list) (l .m) (l .host) (l .g) (l .left) (l .left - 1) (omega (arith, back6 .before .before .before .before .before .before .loop-test .taken))
+            (sym (back6 .before .before .before .before .before .transfer-more .ensures) ∙ not-false _ (back6 .before .before .before .before .if1 .left))),
       )
           (l .inv .0),
       rw (l .inv .2, l .inv .3) at (t .fit),
       t .long ∙ l .inv .2,
       t .host-long ∙ l .inv .3,
+      c .before .before .before .before .before .before .play-turn .kept .1 .0 ∙ l .inv .4,
     )
 
 same-length-3 : tie.Need-same-length-3 Inv-loop μ-loop
@@ -87,14 +94,20 @@ same-length-4 c = omega arith
 
 returns-2 : tie.Need-returns-2 Inv-loop μ-loop
 returns-2 c =
-    let a = c .before .before .before .before .args in
+    let a = c .before .before .before .before .before .args in
     let l = c .before .loop in
     record {
-      run = sym (rest-none (virtqueueAs rules.output (a .q)) (l .m) (l .host) (l .g) (l .left) (omega arith)) ∙ l .inv .0;
+      run = sym (rest-none (virtqueueAs rules.output (a .q)) (l .list) (l .m) (l .host) (l .g) (l .left) (omega arith)) ∙ l .inv .0;
       fit = l .inv .1;
       long = l .inv .2;
       host-long = l .inv .3;
     }
+
+same-length-5 : tie.Need-same-length-5 Inv-loop μ-loop
+same-length-5 c = omega arith
+
+same-length-6 : tie.Need-same-length-6 Inv-loop μ-loop
+same-length-6 c = omega arith
 
 pub play-rest-spec : {M : Type 1} → statement M
 play-rest-spec =
@@ -106,11 +119,13 @@ play-rest-spec =
     transfer-more-requires
     same-length
     same-length-2
+    same-length-3
     returns
     play-turn-requires
     sub-left
     loop-less
     loop-again
-    same-length-3
     same-length-4
+    same-length-5
+    same-length-6
     returns-2)

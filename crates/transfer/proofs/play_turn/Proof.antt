@@ -10,9 +10,11 @@ meet-requires c κs = search needs
 
 work-play-requires : tie.Need-work-play-requires
 work-play-requires c κs =
-    let s = c .before .before .before .before .before .before .before .before in
-    let n = c .before .before .before .before .meet .ensures in
-    (s .pre .0, fit-beside _ _ _ (c .before .before .before .before .meet .result) (rw (n .long) (n .message)) (n .moved) (s .pre .2 .inside))
+    let back6 = c .before .before .before .before .before .before in
+    let back12 = back6 .before .before .before .before .before .before in
+    let s = back12 .before in
+    let n = back6 .before .meet .ensures in
+    (s .pre .0, fit-beside _ _ _ _ (back6 .before .meet .result) (rw (n .long) (n .message)) (n .moved) (s .pre .2 .inside))
 
 same-length : tie.Need-same-length
 same-length c = search needs
@@ -22,9 +24,11 @@ same-length-2 c = search needs
 
 returns : tie.Need-returns
 returns c =
-    let s = c .before .before .before .before .before .before .before .before .before .before .before .before .before in
+    let back6 = c .before .before .before .before .before .before in
+    let back12 = back6 .before .before .before .before .before .before in
+    let s = back12 .before .before .before .before .before .before in
     let a = s .args in
-    let n = c .before .before .before .before .before .before .before .before .before .meet .ensures in
+    let n = back6 .before .before .before .before .before .before .meet .ensures in
     let w = c .before .before .before .before .work-play .ensures in
     record {
       run = w .run ∙ rw (rw (s .pre .0) at (n .run (a .host .now)));
@@ -33,6 +37,16 @@ returns c =
       host-long = w .host-long;
     }
 
+same-length-3 : tie.Need-same-length-3
+same-length-3 c = search needs
+
 pub play-turn-spec : {M : Type 1} → statement M
 play-turn-spec =
-    tie.close (tie.spec meet-requires work-play-requires same-length same-length-2 returns)
+    tie.close
+    (tie.spec
+    meet-requires
+    work-play-requires
+    same-length
+    same-length-2
+    same-length-3
+    returns)

@@ -10,10 +10,12 @@ begun-flow-requires : tie.Need-begun-flow-requires
 begun-flow-requires c κs = search needs
 
 give-up-requires : tie.Need-give-up-requires
-give-up-requires c κs = rw (c .begun-flow .ensures) (c .before .before .before .pre)
+give-up-requires c κs = rw (c .begun-flow .ensures) (c .before .before .before .before .before .pre .0)
 
 release-rest-requires : tie.Need-release-rest-requires
-release-rest-requires c κs = let w = c .before .before .before .give-up .ensures in rw (w .long) (w .message)
+release-rest-requires c κs =
+    let back6 = c .before .before .before .before .before .before in
+    let w = c .before .before .before .before .give-up .ensures in (rw (w .long) (w .message), back6 .before .before .before .before .pre .1)
 
 same-length : tie.Need-same-length
 same-length c = search needs
@@ -21,8 +23,9 @@ same-length c = search needs
 returns : tie.Need-returns
 unfolding releaseRun
 returns c =
-    let w = rw (c .before .before .before .before .before .before .before .begun-flow .ensures) at (c .before .before .before .before .before .before .give-up .ensures) in
-    let t = c .before .before .release-rest .ensures in
+    let back6 = c .before .before .before .before .before .before in
+    let w = rw (back6 .before .before .before .before .begun-flow .ensures) at (back6 .before .before .before .give-up .ensures) in
+    let t = c .before .before .before .before .release-rest .ensures in
     record {
       run = λ host. t .run host ∙ rw (w .run host, loop-whiles);
       message = rw (w .long) at (t .message);
@@ -30,7 +33,16 @@ returns c =
       long = t .long ∙ w .long;
     }
 
+same-length-2 : tie.Need-same-length-2
+same-length-2 c = search needs
+
 pub release-spec : {M : Type 1} → statement M
 release-spec =
     tie.close
-    (tie.spec begun-flow-requires give-up-requires release-rest-requires same-length returns)
+    (tie.spec
+    begun-flow-requires
+    give-up-requires
+    release-rest-requires
+    same-length
+    same-length-2
+    returns)

@@ -15,18 +15,19 @@ use Rattle.transfer.proofs.release_rest.Statement.{statement}
 use Rattle.transfer.proofs.release_rest.Tie as tie
 
 abbrev Inv-loop : tie.InvT-loop
-Inv-loop m₀ q new g₀ left₀ m g left =
-    ((host : List ℕ) → releaseRest (virtqueueIn q) left (runOf g m host)
-    ≡ releaseRest (virtqueueIn q) new (runOf g₀ m₀ host))
-    × FitMessage (length m₀) (g .message)
+Inv-loop m₀ list₀ q new g₀ left₀ m list g left =
+    ((host : List ℕ) → releaseRest (virtqueueIn q) left (runOf list g m host)
+    ≡ releaseRest (virtqueueIn q) new (runOf list₀ g₀ m₀ host))
+    × FitMessage (length m₀) list (g .message)
     × (length m ≡ length m₀)
     × (g .moved ≡ g₀ .moved)
+    × (length list ≡ length list₀)
 
 abbrev μ-loop : tie.MeasureT-loop
-μ-loop m₀ q new g₀ left₀ m g left = left
+μ-loop m₀ list₀ q new g₀ left₀ m list g left = left
 
 loop-holds : tie.Need-loop-holds Inv-loop μ-loop
-loop-holds c = (λ host. refl, c .before .pre, refl, refl)
+loop-holds c = (λ host. refl, c .before .before .pre .0, refl, refl, refl)
 
 release-more-requires : tie.Need-release-more-requires Inv-loop μ-loop
 release-more-requires c κs = omega arith
@@ -36,10 +37,10 @@ same-length c = omega arith
 
 returns : tie.Need-returns Inv-loop μ-loop
 returns c =
-    let a = c .before .before .before .before .before .args in
+    let a = c .before .before .before .before .before .before .args in
     let l = c .before .before .before .loop in
     record {
-      run = λ host. sym (release-stop (virtqueueIn (a .q)) (l .m) host (l .g) (l .left) (sym (c .before .release-more .ensures) ∙ not-true _ (c .if1 .taken))) ∙ l .inv .0 host;
+      run = λ host. sym (release-stop (virtqueueIn (a .q)) (l .list) (l .m) host (l .g) (l .left) (sym (c .before .release-more .ensures) ∙ not-true _ (c .if1 .taken))) ∙ l .inv .0 host;
       message = l .inv .1;
       moved = l .inv .3;
       long = l .inv .2;
@@ -47,8 +48,9 @@ returns c =
 
 release-turn-requires : tie.Need-release-turn-requires Inv-loop μ-loop
 release-turn-requires c κs =
-    let l = c .before .before .before .before .loop in
-    (release-goes-idle (l .g) (sym (c .before .before .release-more .ensures) ∙ not-false _ (c .before .if1 .left)), rw (l .inv .2) (l .inv .1))
+    let back6 = c .before .before .before .before .before .before in
+    let l = c .before .before .before .before .before .loop in
+    (release-goes-idle (l .g) (sym (c .before .before .before .release-more .ensures) ∙ not-false _ (c .before .before .if1 .left)), rw (l .inv .2) (l .inv .1), rw (l .inv .4) (back6 .before .before .pre .1))
 
 sub-left : tie.Need-sub-left Inv-loop μ-loop
 sub-left c = omega arith
@@ -58,18 +60,21 @@ loop-less c = omega arith
 
 loop-again : tie.Need-loop-again Inv-loop μ-loop
 loop-again c =
-    let a = c .before .before .before .before .before .before .before .before .before .args in
-    let l = c .before .before .before .before .before .before .before .loop in
-    let t = c .before .before .release-turn .ensures in (
+    let back6 = c .before .before .before .before .before .before in
+    let back12 = back6 .before .before .before .before .before .before in
+    let a = back12 .before .args in
+    let l = back6 .before .before .before .before .loop in
+    let t = c .before .before .before .before .release-turn .ensures in (
       λ host. rw (
         t .run host,
-        ← (release-more (virtqueueIn (a .q)) (l .m) host (l .g) (l .left) (l .left - 1) (omega (arith, c .before .before .before .before .before .before .loop-test .taken))
-            (sym (c .before .before .before .before .before .release-more .ensures) ∙ not-false _ (c .before .before .before .before .if1 .left))),
+        ← (release-more (virtqueueIn (a .q)) (l .list) (l .m) host (l .g) (l .left) (l .left - 1) (omega (arith, back6 .before .before .before .loop-test .taken))
+            (sym (back6 .before .before .release-more .ensures) ∙ not-false _ (back6 .before .if1 .left))),
       )
           (l .inv .0 host),
       rw (l .inv .2) at (t .message),
       t .long ∙ l .inv .2,
       t .moved ∙ l .inv .3,
+      c .before .before .before .before .release-turn .kept .1 .0 ∙ l .inv .4,
     )
 
 same-length-2 : tie.Need-same-length-2 Inv-loop μ-loop
@@ -77,14 +82,20 @@ same-length-2 c = omega arith
 
 returns-2 : tie.Need-returns-2 Inv-loop μ-loop
 returns-2 c =
-    let a = c .before .before .before .args in
+    let a = c .before .before .before .before .args in
     let l = c .before .loop in
     record {
-      run = λ host. sym (release-none (virtqueueIn (a .q)) (l .m) host (l .g) (l .left) (omega arith)) ∙ l .inv .0 host;
+      run = λ host. sym (release-none (virtqueueIn (a .q)) (l .list) (l .m) host (l .g) (l .left) (omega arith)) ∙ l .inv .0 host;
       message = l .inv .1;
       moved = l .inv .3;
       long = l .inv .2;
     }
+
+same-length-3 : tie.Need-same-length-3 Inv-loop μ-loop
+same-length-3 c = omega arith
+
+same-length-4 : tie.Need-same-length-4 Inv-loop μ-loop
+same-length-4 c = omega arith
 
 pub release-rest-spec : {M : Type 1} → statement M
 release-rest-spec =
@@ -95,10 +106,12 @@ release-rest-spec =
     loop-holds
     release-more-requires
     same-length
+    same-length-2
     returns
     release-turn-requires
     sub-left
     loop-less
     loop-again
-    same-length-2
+    same-length-3
+    same-length-4
     returns-2)

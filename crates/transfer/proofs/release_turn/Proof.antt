@@ -8,14 +8,15 @@ meet-requires : tie.Need-meet-requires
 meet-requires c κs = search needs
 
 give-up-requires : tie.Need-give-up-requires
-give-up-requires c κs = rw (c .before .before .before .meet .ensures .long) (c .before .before .before .meet .ensures .message)
+give-up-requires c κs = rw (c .before .before .before .before .before .before .meet .ensures .long) (c .before .before .before .before .before .before .meet .ensures .message)
 
 same-length : tie.Need-same-length
 same-length c = search needs
 
 returns : tie.Need-returns
 returns c =
-    let n = c .before .before .before .before .before .before .meet .ensures in
+    let back6 = c .before .before .before .before .before .before in
+    let n = back6 .before .before .before .meet .ensures in
     let g = c .before .before .give-up .ensures in
     record {
       run = λ host. g .run host ∙ rw (n .run host);
@@ -24,5 +25,15 @@ returns c =
       long = g .long ∙ n .long;
     }
 
+same-length-2 : tie.Need-same-length-2
+same-length-2 c = search needs
+
 pub release-turn-spec : {M : Type 1} → statement M
-release-turn-spec = tie.close (tie.spec meet-requires give-up-requires same-length returns)
+release-turn-spec =
+    tie.close
+    (tie.spec
+    meet-requires
+    give-up-requires
+    same-length
+    same-length-2
+    returns)
