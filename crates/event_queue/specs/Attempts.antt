@@ -37,8 +37,9 @@ sentIn r a m = record { result = resultIn r a m; left = a .left }
 abbrev pub triedIn : Rest → Attempt → List ℕ → Tried
 triedIn r a m = cond (a .ended) (Ended (resultIn r a m)) (Further (resultIn r a m))
 
-abbrev pub roomIn : Room → Option (List Range)
-roomIn r = cond (r .fits) (some (rangesOf (r .reply))) none
+-- what a chain offers, over the words that the chain's ranges stand in
+abbrev pub roomIn : List ℕ → Room → Option (List Range)
+roomIn ws r = cond (r .fits) (some (rangesOf ws (r .reply))) none
 
 -- a chain of the event queue completed with these bytes in its reply
 unfoldable pub postingOf : List ℕ → PageNumber → ℕ → ℕ → List Range → List ℕ → Completion

@@ -4,6 +4,8 @@ ghost use mathlib.Core.Path.{_≡_};
 ghost use mathlib.Core.Bool.{cond, true};
 ghost use mathlib.Core.List.{[]};
 ghost use mathlib.Core.Option.{none, some};
+ghost use Prim.Native.Nat.{_≤_};
+ghost use lib.ListN.{length};
 ghost use Rattle.chain.specs.Walk.{whole, walkOf};
 ghost use Rattle.ranges.specs.Ranges.{rangesOf, Sound};
 ghost use Rattle.registers.specs.Fit.{FitRegisters};
@@ -49,17 +51,18 @@ fn queue_size() -> u16
 }
 
 // Whether an event fits into a chain that was walked whole.
-fn has_room(m: &[u8], request: Ranges, reply: Ranges) -> bool
-    requires { ⌜ Sound request × Sound reply ⌝ }
-    ensures { λ r. ⌜ cond r (some (rangesOf reply)) none ≡ eventRoom (now (m .entry)) (whole (rangesOf request) (rangesOf reply)) ⌝ }
+fn has_room(m: &[u8], list: &[u64], request: Ranges, reply: Ranges) -> bool
+    requires { ⌜ Sound (now list) request × Sound (now list) reply ⌝ }
+    ensures { λ r. ⌜ cond r (some (rangesOf (now (list .entry)) reply)) none
+        ≡ eventRoom (now (m .entry)) (whole (rangesOf (now (list .entry)) request) (rangesOf (now (list .entry)) reply)) ⌝ }
 {
     if request.bytes != 0 {
         return false;
     }
-    if !ranges::all_inside(m.len(), request) {
+    if !ranges::all_inside(m.len(), list, request) {
         return false;
     }
-    if !ranges::all_inside(m.len(), reply) {
+    if !ranges::all_inside(m.len(), list, reply) {
         return false;
     }
     if reply.bytes < 8 {
@@ -68,13 +71,20 @@ fn has_room(m: &[u8], request: Ranges, reply: Ranges) -> bool
     true
 }
 
-// The room of the chain at `head`.
-fn room_at(m: &[u8], page: PageNumber, head: DescriptorNumber, indirect: bool) -> Room
-    ensures { λ r. ⌜ roomIn r
+// The room of the chain at `head`, whose ranges are put into the list.
+fn room_at(
+    m: &[u8],
+    list: &mut [u64],
+    page: PageNumber,
+    head: DescriptorNumber,
+    indirect: bool,
+) -> Room
+    requires { ⌜ 68 ≤ length (now list) ⌝ }
+    ensures { λ r. ⌜ roomIn (now (list .exit)) r
         ≡ eventRoom (now (m .entry)) (walkOf (now (m .entry)) (baseOf page) (sizeOf eventQueue) (head .0) indirect) ⌝ }
 {
     let size = queue_size();
-    let walked = chain::walk(m, page.address(), size, head, indirect);
+    let walked = chain::walk(m, list, page.address(), size, head, indirect);
     let end = walked.end;
     let chain::End::Whole = end else {
         return Room {
@@ -86,7 +96,7 @@ fn room_at(m: &[u8], page: PageNumber, head: DescriptorNumber, indirect: bool) -
     let request = chain.request;
     let reply = chain.reply;
     Room {
-        fits: has_room(m, request, reply),
+        fits: has_room(m, list, request, reply),
         reply: reply,
     }
 }
@@ -104,6 +114,7 @@ fn event_bytes(code: u32, data: u32) -> [u8; 8]
 // The event in the first bytes of the reply, then the used entry.
 fn deliver(
     m: &mut [u8],
+    list: &[u64],
     page: PageNumber,
     completed: u16,
     head: DescriptorNumber,
@@ -112,11 +123,11 @@ fn deliver(
     data: u32,
 ) -> Posted
     ensures { λ r. ⌜ completion (now (m .exit)) r
-        ≡ postingOf (now (m .entry)) page completed (head .0) (rangesOf reply) (eventBytes code «data») ⌝ }
+        ≡ postingOf (now (m .entry)) page completed (head .0) (rangesOf (now (list .entry)) reply) (eventBytes code «data») ⌝ }
 {
     let bytes = event_bytes(code, data);
     let size = queue_size();
-    ring::complete(m, page, size, completed, head, 8, reply, 0, &bytes, 8)
+    ring::complete(m, page, size, completed, head, 8, list, reply, 0, &bytes, 8)
 }
 
 // A chain that has no room, completed with length 0.
@@ -206,9 +217,19 @@ fn try_entry(
         ring::Head::Broken(cause) => halted(left, registers, counters, cause),
         ring::Head::At(head) => {
             let indirect = registers.features / registers::HOST_FEATURES % 2 == 1;
-            let room = room_at(m, page, head, indirect);
+            let mut words = [0u64; 68];
+            let room = room_at(m, &mut words, page, head, indirect);
             if room.fits {
-                let posted = deliver(m, page, counters.completed, head, room.reply, code, data);
+                let posted = deliver(
+                    m,
+                    &words,
+                    page,
+                    counters.completed,
+                    head,
+                    room.reply,
+                    code,
+                    data,
+                );
                 return counted(true, left, registers, counters, posted);
             }
             let posted = pass_over(m, page, counters.completed, head);

@@ -21,7 +21,8 @@ same-length c = search needs
 
 returns : tie.Need-returns
 returns c =
-    let a = c .before .before .before .before .before .before .before .before .args in
+    let back6 = c .before .before .before .before .before .before in
+    let a = back6 .before .before .before .args in
     rw (c .before .before .complete .ensures, c .before .before .before .before .before .queue-size .ensures, c .before .before .before .before .before .before .event-bytes .ensures)
     (delivered (a .m .now) (a .page) (a .completed) (a .head) _ _ _)
 

@@ -6,22 +6,23 @@ use Rattle.event_queue.proofs.has_room.Statement.{statement}
 use Rattle.event_queue.proofs.has_room.Tie as tie
 
 returns : tie.Need-returns
-returns c = rw (← (c .before .before .before .pre .0 .sum), ne-eqb _ _ (c .if1 .taken))
+returns c = rw (← (c .before .before .before .before .pre .0), ne-eqb _ _ (c .if1 .taken))
 
 all-inside-requires : tie.Need-all-inside-requires
 all-inside-requires c κs = search needs
 
 returns-2 : tie.Need-returns-2
 returns-2 c =
-    rw (← (c .before .before .before .before .before .pre .0 .sum), eq-eqb _ _ (c .before .before .if1 .left), sym (c .before .all-inside .ensures) ∙ not-true _ (c .if2 .taken))
+    rw (← (c .before .before .before .before .before .before .pre .0), eq-eqb _ _ (c .before .before .if1 .left), sym (c .before .all-inside .ensures) ∙ not-true _ (c .if2 .taken))
 
 all-inside-requires-2 : tie.Need-all-inside-requires-2
 all-inside-requires-2 c κs = search needs
 
 returns-3 : tie.Need-returns-3
 returns-3 c =
+    let back6 = c .before .before .before .before .before .before in
     rw (
-      ← (c .before .before .before .before .before .before .before .pre .0 .sum),
+      ← (back6 .before .before .pre .0),
       eq-eqb _ _ (c .before .before .before .before .if1 .left),
       sym (c .before .before .before .all-inside .ensures) ∙ not-false _ (c .before .before .if2 .left),
       sym (c .before .all-inside2 .ensures) ∙ not-true _ (c .if3 .taken),
@@ -29,25 +30,27 @@ returns-3 c =
 
 returns-4 : tie.Need-returns-4
 returns-4 c =
-    let p = c .before .before .before .before .before .before .before .before .before .pre in
+    let back6 = c .before .before .before .before .before .before in
+    let p = back6 .before .before .before .before .pre in
     rw (
-      ← (p .0 .sum),
+      ← (p .0),
       eq-eqb _ _ (c .before .before .before .before .before .before .if1 .left),
       sym (c .before .before .before .before .before .all-inside .ensures) ∙ not-false _ (c .before .before .before .before .if2 .left),
       sym (c .before .before .before .all-inside2 .ensures) ∙ not-false _ (c .before .before .if3 .left),
-      ← (p .1 .sum),
+      ← (p .1),
       lt-leb _ _ (c .if4 .taken),
     )
 
 returns-5 : tie.Need-returns-5
 returns-5 c =
-    let p = c .before .before .before .before .before .before .before .before .before .pre in
+    let back6 = c .before .before .before .before .before .before in
+    let p = back6 .before .before .before .before .pre in
     rw (
-      ← (p .0 .sum),
+      ← (p .0),
       eq-eqb _ _ (c .before .before .before .before .before .before .if1 .left),
       sym (c .before .before .before .before .before .all-inside .ensures) ∙ not-false _ (c .before .before .before .before .if2 .left),
       sym (c .before .before .before .all-inside2 .ensures) ∙ not-false _ (c .before .before .if3 .left),
-      ← (p .1 .sum),
+      ← (p .1),
       le-leb _ _ (c .if4 .left),
     )
 

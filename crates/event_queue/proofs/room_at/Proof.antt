@@ -9,9 +9,9 @@ use Rattle.event_queue.proofs.room_at.Statement.{statement}
 use Rattle.event_queue.proofs.room_at.Tie as tie
 
 walked : (c : tie.After-walk)
-    → let a = c .before .before .before .before .args in
-    outcomeOf (c .walk .result) ≡ walkOf (a .m .now) (baseOf (a .page)) (sizeOf eventQueue) (a .head .0) (a .indirect)
-walked c = rw (c .before .address .ensures, c .before .before .queue-size .ensures) at (c .walk .ensures .outcome)
+    → let a = c .before .before .before .before .before .before .args in
+    outcomeOf (c .walk .last .1 .0) (c .walk .result) ≡ walkOf (a .m .now) (baseOf (a .page)) (sizeOf eventQueue) (a .head .0) (a .indirect)
+walked c = rw (c .before .address .ensures, c .before .before .before .queue-size .ensures) at (c .walk .ensures .outcome)
 
 queue-size-requires : tie.Need-queue-size-requires
 queue-size-requires c κs = search needs
@@ -32,13 +32,23 @@ none-requires : tie.Need-none-requires
 none-requires c κs = search needs
 
 returns : tie.Need-returns
-returns c = rw (← (walked (c .before .before .before)), c .before .enum-told2 .given .1)
+returns c = rw (← (walked (c .before .before .before .before .before)), c .before .enum-told2 .given .1)
 
 has-room-requires : tie.Need-has-room-requires
-has-room-requires c κs = let w = c .before .before .before .before .before .walk in (w .ensures .sound .request, w .ensures .sound .reply)
+has-room-requires c κs =
+    let back6 = c .before .before .before .before .before .before in
+    let w = back6 .before .before .walk in (w .ensures .sound .request, w .ensures .sound .reply)
 
 returns-2 : tie.Need-returns-2
-returns-2 c = rw (← (walked (c .before .before .before .before .before .before)), c .before .before .before .before .enum-told .given .1) (c .has-room .ensures)
+returns-2 c =
+    let back6 = c .before .before .before .before .before .before in
+    rw (← (walked (back6 .before .before .before)), c .before .before .before .before .before .enum-told .given .1) (c .has-room .ensures)
+
+same-length : tie.Need-same-length
+same-length c = search needs
+
+same-length-2 : tie.Need-same-length-2
+same-length-2 c = search needs
 
 pub room-at-spec : {M : Type 1} → statement M
 room-at-spec =
@@ -50,6 +60,8 @@ room-at-spec =
     enum-told
     enum-told-2
     none-requires
+    same-length
     returns
     has-room-requires
+    same-length-2
     returns-2)

@@ -17,12 +17,12 @@ head-found : (c : tie.After-next-head)
 head-found c = c .next-head .ensures ∙ rw (c .before .before .queue-size .ensures)
 
 abbrev looked : tie.After-room-at → tie.After-next-head
-looked c = c .before .before .before .before .before
+looked c = c .before .before .before .before .before .before
 
 head-at : (c : tie.After-room-at)
     → let a = start (looked c) .args in
-    nextHead (a .code) (a .«data») (a .left) (a .t3) (a .counters) (a .m .now) ≡ Head.At (c .before .before .before .head .given .0 .0)
-head-at c = sym (head-found (looked c)) ∙ c .before .before .before .head .given .1
+    nextHead (a .code) (a .«data») (a .left) (a .t3) (a .counters) (a .m .now) ≡ Head.At (c .before .before .before .before .head .given .0 .0)
+head-at c = sym (head-found (looked c)) ∙ c .before .before .before .before .head .given .1
 
 element-copy-out-page : tie.Need-element-copy-out-page
 element-copy-out-page c = search needs
@@ -56,13 +56,14 @@ same-length c = search needs
 
 returns : tie.Need-returns
 returns c =
-    let k = c .before .before .before .before .before .before in
+    let back6 = c .before .before .before .before .before .before in
+    let k = back6 .before .before in
     let a = start (looked k) .args in
     let d = c .before .before .before .deliver in
-    let room = rw (c .before .before .before .before .before .if1 .taken) at (k .room-at .ensures) in
+    let room = rw (c .before .before .before .before .before .before .if1 .taken) at (k .room-at .ensures) in
     rw (c .counted .ensures .0) (
       tried-delivered (a .code) (a .«data») (a .left) (a .t3) (a .counters) (a .m .now) _ (d .result) (d .last .0)
-          (rangesOf (k .room-at .result .reply)) (head-at k, room) (d .ensures),
+          (rangesOf (k .room-at .last .1 .0) (k .room-at .result .reply)) (head-at k, room) (d .ensures),
       rw (c .counted .ensures .0) at (c .counted .ensures .1),
       refl,
     )
@@ -91,7 +92,8 @@ same-length-3 c = search needs
 
 returns-3 : tie.Need-returns-3
 returns-3 c =
-    let k = c .before .before .before .before .before .before in
+    let back6 = c .before .before .before .before .before .before in
+    let k = back6 .before in
     let a = start (looked k) .args in
     let d = c .before .before .before .pass-over in
     let room = rw (c .before .before .before .before .before .if1 .left) at (k .room-at .ensures) in
@@ -100,6 +102,12 @@ returns-3 c =
       rw (c .counted2 .ensures .0) at (c .counted2 .ensures .1),
       refl,
     )
+
+slice-aggregate-room-at : tie.Need-slice-aggregate-room-at
+slice-aggregate-room-at c = search needs
+
+slice-aggregate-deliver : tie.Need-slice-aggregate-deliver
+slice-aggregate-deliver c = search needs
 
 pub try-entry-spec : {M : Type 1} → statement M
 try-entry-spec =
@@ -111,7 +119,9 @@ try-entry-spec =
     enum-known-cause
     halted-requires
     enum-known-head
+    slice-aggregate-room-at
     room-at-requires
+    slice-aggregate-deliver
     deliver-requires
     counted-requires
     same-length
