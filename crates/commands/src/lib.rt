@@ -194,6 +194,7 @@ fn params_in(request: &[u8]) -> Params
 // SET_PARAMS of well-formed parameters: the stream `i` takes what it offers.
 fn set_offered(
     m: &mut [u8],
+    list: &[u64],
     parts: Parts,
     pending: Pending,
     i: usize,
@@ -201,28 +202,29 @@ fn set_offered(
     p: Params,
 ) -> Served
     requires { ⌜ FitParts parts × (i < parts .«stream_count») × (state ≤ 5) ⌝ }
-    ensures { λ r. ⌜ Serves pending parts (setBy (partsOf parts) i state p (judgedOffer (streamIn (partsOf parts) i .info) p))
+    ensures { λ r. ⌜ Serves (now (list .entry)) pending parts
+        (setBy (partsOf parts) i state p (judgedOffer (streamIn (partsOf parts) i .info) p))
         r (now (m .entry)) (now (m .exit)) ⌝ }
 {
     let stream = parts.streams[i];
     let info = stream.info;
     let Check::Passed = is_buffer_offered(p) else {
-        return reply::answer(m, parts, pending, rules::NOT_SUPP);
+        return reply::answer(m, list, parts, pending, rules::NOT_SUPP);
     };
     let Check::Passed = are_features_offered(info, p) else {
-        return reply::answer(m, parts, pending, rules::NOT_SUPP);
+        return reply::answer(m, list, parts, pending, rules::NOT_SUPP);
     };
     let Check::Passed = are_channels_offered(info, p) else {
-        return reply::answer(m, parts, pending, rules::NOT_SUPP);
+        return reply::answer(m, list, parts, pending, rules::NOT_SUPP);
     };
     let Check::Passed = is_format_offered(info, p) else {
-        return reply::answer(m, parts, pending, rules::NOT_SUPP);
+        return reply::answer(m, list, parts, pending, rules::NOT_SUPP);
     };
     let Check::Passed = is_rate_offered(info, p) else {
-        return reply::answer(m, parts, pending, rules::NOT_SUPP);
+        return reply::answer(m, list, parts, pending, rules::NOT_SUPP);
     };
     let Check::Passed = is_framed(p) else {
-        return reply::answer(m, parts, pending, rules::BAD_MSG);
+        return reply::answer(m, list, parts, pending, rules::BAD_MSG);
     };
     let set = Stream {
         info: info,
@@ -230,12 +232,13 @@ fn set_offered(
         params: p,
         backlog: stream.backlog,
     };
-    reply::answer(m, parts.with_stream(i, set), pending, rules::OK)
+    reply::answer(m, list, parts.with_stream(i, set), pending, rules::OK)
 }
 
 // SET_PARAMS of the stream `i`.
 fn set_params(
     m: &mut [u8],
+    list: &[u64],
     parts: Parts,
     pending: Pending,
     i: usize,
@@ -243,25 +246,33 @@ fn set_params(
     request: &[u8],
 ) -> Served
     requires { ⌜ FitParts parts × (i < parts .«stream_count») × (state ≤ 5) ⌝ }
-    ensures { λ r. ⌜ Serves pending parts (setParams (partsOf parts) i state (now (request .entry))) r (now (m .entry)) (now (m .exit)) ⌝ }
+    ensures { λ r. ⌜ Serves (now (list .entry)) pending parts (setParams (partsOf parts) i state (now (request .entry)))
+        r (now (m .entry)) (now (m .exit)) ⌝ }
 {
     let p = params_in(request);
     let Check::Passed = is_unpadded(memory::number8(request, 23)) else {
-        return reply::answer(m, parts, pending, rules::BAD_MSG);
+        return reply::answer(m, list, parts, pending, rules::BAD_MSG);
     };
     let Check::Passed = is_sized(p) else {
-        return reply::answer(m, parts, pending, rules::BAD_MSG);
+        return reply::answer(m, list, parts, pending, rules::BAD_MSG);
     };
     let Check::Passed = is_periodic(p) else {
-        return reply::answer(m, parts, pending, rules::BAD_MSG);
+        return reply::answer(m, list, parts, pending, rules::BAD_MSG);
     };
-    set_offered(m, parts, pending, i, state, p)
+    set_offered(m, list, parts, pending, i, state, p)
 }
 
 // PREPARE, START, STOP: the stream `i` goes to `state`.
-fn move_stream(m: &mut [u8], parts: Parts, pending: Pending, i: usize, state: u8) -> Served
+fn move_stream(
+    m: &mut [u8],
+    list: &[u64],
+    parts: Parts,
+    pending: Pending,
+    i: usize,
+    state: u8,
+) -> Served
     requires { ⌜ FitParts parts × (i < parts .«stream_count») × (state ≤ 5) ⌝ }
-    ensures { λ r. ⌜ Serves pending parts (moves (partsOf parts) i state) r (now (m .entry)) (now (m .exit)) ⌝ }
+    ensures { λ r. ⌜ Serves (now (list .entry)) pending parts (moves (partsOf parts) i state) r (now (m .entry)) (now (m .exit)) ⌝ }
 {
     let stream = parts.streams[i];
     let info = stream.info;
@@ -272,12 +283,13 @@ fn move_stream(m: &mut [u8], parts: Parts, pending: Pending, i: usize, state: u8
         params: params,
         backlog: stream.backlog,
     };
-    reply::answer(m, parts.with_stream(i, moved), pending, rules::OK)
+    reply::answer(m, list, parts.with_stream(i, moved), pending, rules::OK)
 }
 
 // A lawful command of the stream `i`, and the state that it leads to. Of a RELEASE nothing is done yet.
 fn obey(
     m: &mut [u8],
+    list: &[u64],
     parts: Parts,
     pending: Pending,
     command: Command,
@@ -286,14 +298,14 @@ fn obey(
     request: &[u8],
 ) -> Served
     requires { ⌜ FitParts parts × (i < parts .«stream_count») × (state ≤ 5) ⌝ }
-    ensures { λ r. ⌜ Serves pending parts (obeyed (partsOf parts) command i state (now (request .entry)))
+    ensures { λ r. ⌜ Serves (now (list .entry)) pending parts (obeyed (partsOf parts) command i state (now (request .entry)))
         r (now (m .entry)) (now (m .exit)) ⌝ }
 {
     match command {
-        Command::SetParams => set_params(m, parts, pending, i, state, request),
-        Command::Prepare => move_stream(m, parts, pending, i, state),
-        Command::Start => move_stream(m, parts, pending, i, state),
-        Command::Stop => move_stream(m, parts, pending, i, state),
+        Command::SetParams => set_params(m, list, parts, pending, i, state, request),
+        Command::Prepare => move_stream(m, list, parts, pending, i, state),
+        Command::Start => move_stream(m, list, parts, pending, i, state),
+        Command::Stop => move_stream(m, list, parts, pending, i, state),
         Command::Release => Served {
             parts: parts,
             kind: Kind::Release(i as u32),
@@ -304,20 +316,22 @@ fn obey(
 // A PCM command.
 pub fn command(
     m: &mut [u8],
+    list: &[u64],
     parts: Parts,
     pending: Pending,
     asked: Command,
     request: &[u8],
 ) -> Served
     requires { ⌜ FitParts parts ⌝ }
-    ensures { λ r. ⌜ Serves pending parts (commanded (partsOf parts) asked (now (request .entry))) r (now (m .entry)) (now (m .exit)) ⌝ }
+    ensures { λ r. ⌜ Serves (now (list .entry)) pending parts (commanded (partsOf parts) asked (now (request .entry)))
+        r (now (m .entry)) (now (m .exit)) ⌝ }
 {
     let Found::There(i) = requests::find(memory::number32(request, 4), parts.stream_count) else {
-        return reply::answer(m, parts, pending, rules::BAD_MSG);
+        return reply::answer(m, list, parts, pending, rules::BAD_MSG);
     };
     let stream = parts.streams[i];
     let Transition::To(state) = lifecycle(asked, stream.state) else {
-        return reply::answer(m, parts, pending, rules::BAD_MSG);
+        return reply::answer(m, list, parts, pending, rules::BAD_MSG);
     };
-    obey(m, parts, pending, asked, i, state, request)
+    obey(m, list, parts, pending, asked, i, state, request)
 }

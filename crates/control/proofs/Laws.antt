@@ -87,5 +87,5 @@ module _ (p : rules.Parts) (xs ys : List ℕ) (h : (n at : ℕ) → at + n ≤ 2
   answers-agree Remap room = rw (h 4 4 (omega arith), h 4 8 (omega arith), h 4 12 (omega arith))
   answers-agree (Pcm c) room = rw (h 4 4 (omega arith), led-agree c (rules.word ys 1) (transition c (rules.streamIn p (rules.word ys 1) .state)))
 
-pub length-request : (m : List ℕ) (r : Ranges) → Sound r → length (bytesAt m (places (rangesOf r))) ≡ r .bytes
-length-request m r s = rw (length-map, length-places) (sym (s .sum))
+pub length-request : (m ws : List ℕ) (r : Ranges) → Sound ws r → length (bytesAt m (places (rangesOf ws r))) ≡ r .bytes
+length-request m ws r s = rw (length-map, length-places) (sym s)

@@ -73,6 +73,7 @@ fn is_laid_out(asked: Asked, len: u32) -> Check
 // A request that has the length of its layout.
 fn act(
     m: &mut [u8],
+    list: &[u64],
     parts: Parts,
     pending: Pending,
     asked: Asked,
@@ -80,32 +81,33 @@ fn act(
     room: u32,
 ) -> Served
     requires { ⌜ FitParts parts ⌝ }
-    ensures { λ r. ⌜ Serves pending parts (answerTo asked (partsOf parts) (now (request .entry)) room) r (now (m .entry)) (now (m .exit)) ⌝ }
+    ensures { λ r. ⌜ Serves (now (list .entry)) pending parts (answerTo asked (partsOf parts) (now (request .entry)) room)
+        r (now (m .entry)) (now (m .exit)) ⌝ }
 {
     match asked {
-        Asked::Information(l) => requests::inform(m, parts, pending, l, request, room),
-        Asked::Remap => requests::remap(m, parts, pending, request),
-        Asked::Pcm(command) => commands::command(m, parts, pending, command, request),
+        Asked::Information(l) => requests::inform(m, list, parts, pending, l, request, room),
+        Asked::Remap => requests::remap(m, list, parts, pending, request),
+        Asked::Pcm(command) => commands::command(m, list, parts, pending, command, request),
     }
 }
 
 // A control request, served. Its bytes are gathered before anything is written.
-pub fn serve(m: &mut [u8], parts: Parts, pending: Pending, request: Ranges) -> Served
-    requires { ⌜ FitParts parts × Sound request ⌝ }
-    ensures { λ r. ⌜ Serves pending parts
-        (served (partsOf parts) (bytesAt (now (m .entry)) (places (rangesOf request))) (pending .reply .bytes))
+pub fn serve(m: &mut [u8], list: &[u64], parts: Parts, pending: Pending, request: Ranges) -> Served
+    requires { ⌜ FitParts parts × Sound (now list) request ⌝ }
+    ensures { λ r. ⌜ Serves (now (list .entry)) pending parts
+        (served (partsOf parts) (bytesAt (now (m .entry)) (places (rangesOf (now (list .entry)) request))) (pending .reply .bytes))
         r (now (m .entry)) (now (m .exit)) ⌝ }
 {
     // no layout is longer
     let mut bytes = [0u8; 24];
-    ranges::gather(m, request, 0, &mut bytes, 0, 24);
+    ranges::gather(m, list, request, 0, &mut bytes, 0, 24);
     let code = memory::number32(&bytes, 0);
     let Decoded::Known(asked) = decode(code) else {
-        return reply::answer(m, parts, pending, rules::NOT_SUPP);
+        return reply::answer(m, list, parts, pending, rules::NOT_SUPP);
     };
     let Check::Passed = is_laid_out(asked, request.bytes) else {
-        return reply::answer(m, parts, pending, rules::BAD_MSG);
+        return reply::answer(m, list, parts, pending, rules::BAD_MSG);
     };
     let reply = pending.reply;
-    act(m, parts, pending, asked, &bytes, reply.bytes)
+    act(m, list, parts, pending, asked, &bytes, reply.bytes)
 }

@@ -143,35 +143,45 @@ fn zeros() -> [u8; 1024]
 }
 
 // `n` zeros, written to a reply from its byte `start` on, 1,024 at a time.
-fn write_zeros(m: &mut [u8], reply: Ranges, start: usize, n: usize)
+fn write_zeros(m: &mut [u8], list: &[u64], reply: Ranges, start: usize, n: usize)
     requires { ⌜ start + n ≤ 4294967295 ⌝ }
-    ensures { λ r. ⌜ now (m .exit) ≡ putAt (now (m .entry)) (drop start (places (rangesOf reply))) (replicate n 0) ⌝ }
+    ensures { λ r. ⌜ now (m .exit) ≡ putAt (now (m .entry)) (drop start (places (rangesOf (now (list .entry)) reply))) (replicate n 0) ⌝ }
 {
     let run = zeros();
     let mut at = start;
     let mut left = n;
     while 0 < left {
         let k = least(left, 1024);
-        ranges::scatter(m, reply, at, &run, 0, k);
+        ranges::scatter(m, list, reply, at, &run, 0, k);
         at += k;
         left -= k;
     }
 }
 
 // An item of `natural` bytes in `size` bytes of a reply, from its byte `at` on: cut, or zeros behind it.
-fn write_item(m: &mut [u8], reply: Ranges, at: usize, item: &[u8], natural: usize, size: usize)
+fn write_item(
+    m: &mut [u8],
+    list: &[u64],
+    reply: Ranges,
+    at: usize,
+    item: &[u8],
+    natural: usize,
+    size: usize,
+)
     requires { ⌜ (at + size ≤ 4294967295) × (natural ≤ length (now item)) ⌝ }
     ensures { λ r. ⌜ now (m .exit)
-        ≡ putAt (now (m .entry)) (drop at (places (rangesOf reply))) (fitted size (take natural (now (item .entry)))) ⌝ }
+        ≡ putAt (now (m .entry)) (drop at (places (rangesOf (now (list .entry)) reply)))
+        (fitted size (take natural (now (item .entry)))) ⌝ }
 {
     let k = least(natural, size);
-    ranges::scatter(m, reply, at, item, 0, k);
-    write_zeros(m, reply, at + k, size - k);
+    ranges::scatter(m, list, reply, at, item, 0, k);
+    write_zeros(m, list, reply, at + k, size - k);
 }
 
 // `count` items from `start` on, `size` bytes apart, written to a reply behind its status; returns where they end.
 pub fn write_items(
     m: &mut [u8],
+    list: &[u64],
     reply: Ranges,
     parts: Parts,
     l: Listing,
@@ -182,7 +192,7 @@ pub fn write_items(
     requires { ⌜ FitParts parts × (start + count ≤ length (itemsOf l (partsOf parts)))
         × (4 + length (joined (take count (drop start (map (fitted size) (itemsOf l (partsOf parts)))))) ≤ 4294967295) ⌝ }
     ensures { λ r. ⌜ (now (m .exit)
-        ≡ putAt (now (m .entry)) (drop 4 (places (rangesOf reply)))
+        ≡ putAt (now (m .entry)) (drop 4 (places (rangesOf (now (list .entry)) reply)))
         (joined (take count (drop start (map (fitted size) (itemsOf l (partsOf parts)))))))
         × (r ≡ 4 + length (joined (take count (drop start (map (fitted size) (itemsOf l (partsOf parts))))))) ⌝ }
 {
@@ -192,7 +202,7 @@ pub fn write_items(
     let mut left = count;
     while 0 < left {
         let bytes = item(parts, l, i);
-        write_item(m, reply, at, &bytes, natural, size);
+        write_item(m, list, reply, at, &bytes, natural, size);
         at += size;
         i += 1;
         left -= 1;

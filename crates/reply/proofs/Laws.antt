@@ -109,33 +109,33 @@ module _ (p : Parts) where
 
 -- ---- what is served
 
-module _ (pending : Pending) (parts : Parts) (r : Served) (before after : List ℕ) where
+module _ (ws : List ℕ) (pending : Pending) (parts : Parts) (r : Served) (before after : List ℕ) where
   -- a completion with parts that stand for the rule's
   pub serves :
       (next : Parts) (rule : rules.Parts) (bytes : List ℕ)
-      → FitParts next → partsOf next ≡ rule → partsWith rule parts ≡ next → outcome after r ≡ completedWith pending next bytes before
-      → Serves pending parts (rules.Reply rule bytes) r before after
+      → FitParts next → partsOf next ≡ rule → partsWith rule parts ≡ next → outcome after r ≡ completedWith ws pending next bytes before
+      → Serves ws pending parts (rules.Reply rule bytes) r before after
   serves next rule bytes f e w o =
       let same : r .parts ≡ next = ap (λ (x : Outcome). x .served .parts) o in
       record { whole = rw w o; stand = rw same e; fit = rw same f }
 
   -- "A refusal keeps state and parameters."
   pub serves-same :
-      (bytes : List ℕ) → FitParts parts → outcome after r ≡ completedWith pending parts bytes before
-      → Serves pending parts (rules.Reply (partsOf parts) bytes) r before after
+      (bytes : List ℕ) → FitParts parts → outcome after r ≡ completedWith ws pending parts bytes before
+      → Serves ws pending parts (rules.Reply (partsOf parts) bytes) r before after
   serves-same bytes f o = serves parts (partsOf parts) bytes f refl (parts-same parts) o
 
   pub serves-jack :
       (i : ℕ) (j : Jack) (bytes : List ℕ) → FitParts parts → i < parts .«jack_count»
-      → outcome after r ≡ completedWith pending (withJackAt i j parts) bytes before
-      → Serves pending parts (rules.Reply (rules.withJack i j (partsOf parts)) bytes) r before after
+      → outcome after r ≡ completedWith ws pending (withJackAt i j parts) bytes before
+      → Serves ws pending parts (rules.Reply (rules.withJack i j (partsOf parts)) bytes) r before after
   serves-jack i j bytes f h o =
       serves (withJackAt i j parts) _ bytes (fit-with-jack parts i j f) (jack-set parts i j h) (jack-with parts i j h) o
 
   pub serves-stream :
       (i : ℕ) (s : Stream) (bytes : List ℕ) → FitParts parts → i < parts .«stream_count» → s .state ≤ 5
-      → outcome after r ≡ completedWith pending (withStreamAt i s parts) bytes before
-      → Serves pending parts (rules.Reply (rules.withStreamIn i s (partsOf parts)) bytes) r before after
+      → outcome after r ≡ completedWith ws pending (withStreamAt i s parts) bytes before
+      → Serves ws pending parts (rules.Reply (rules.withStreamIn i s (partsOf parts)) bytes) r before after
   serves-stream i s bytes f h b o =
       serves (withStreamAt i s parts) _ bytes (fit-with-stream i s b parts f) (stream-set parts i s h) (stream-with parts i s h) o
 

@@ -24,13 +24,13 @@ use Rattle.reply.specs.declared.Served.{Served}
 unfoldable pub closedOf : Pending → ℕ → List ℕ → Completion
 closedOf p len m = postOf m (p .page) (sizeOf controlQueue) (p .completed) (p .head) len
 
--- the addresses of the reply's bytes
-abbrev pub replyPlaces : Pending → List ℕ
-replyPlaces p = places (rangesOf (p .reply))
+-- the addresses of the reply's bytes, its ranges in these words
+abbrev pub replyPlaces : List ℕ → Pending → List ℕ
+replyPlaces ws p = places (rangesOf ws (p .reply))
 
 -- the reply's bytes, then the used entry
-abbrev pub completionOf : Pending → List ℕ → List ℕ → Completion
-completionOf p bytes m = closedOf p (length bytes) (putAt m (replyPlaces p) bytes)
+abbrev pub completionOf : List ℕ → Pending → List ℕ → List ℕ → Completion
+completionOf ws p bytes m = closedOf p (length bytes) (putAt m (replyPlaces ws p) bytes)
 
 -- ---- what a request comes to
 
@@ -46,9 +46,9 @@ abbrev pub postedBy : Completion → Posted
 postedBy k = record { completed = k .completed; interrupt = k .interrupt }
 
 -- these bytes are the reply, these the parts after it
-abbrev pub completedWith : Pending → Parts → List ℕ → List ℕ → Outcome
-completedWith p parts bytes m =
-    let k : Completion = completionOf p bytes m in
+abbrev pub completedWith : List ℕ → Pending → Parts → List ℕ → List ℕ → Outcome
+completedWith ws p parts bytes m =
+    let k : Completion = completionOf ws p bytes m in
     outcome (k .memory) (record { parts = parts; kind = kinds.Completed (postedBy k) })
 
 -- the parts with the rules' jacks and streams; what stands past the counts stays
@@ -64,9 +64,9 @@ partsWith r p =
     }
 
 -- all that a request leaves; "If the queue breaks, the control message stays taken, uncompleted": at a Release nothing is changed yet
-abbrev pub outcomeOf : Pending → Parts → rules.Served → List ℕ → Outcome
-outcomeOf p parts (rules.Reply after bytes) m = completedWith p (partsWith after parts) bytes m
-outcomeOf p parts (rules.Release id) m = outcome m (record { parts = parts; kind = kinds.Release id })
+abbrev pub outcomeOf : List ℕ → Pending → Parts → rules.Served → List ℕ → Outcome
+outcomeOf ws p parts (rules.Reply after bytes) m = completedWith ws p (partsWith after parts) bytes m
+outcomeOf ws p parts (rules.Release id) m = outcome m (record { parts = parts; kind = kinds.Release id })
 
 -- the parts stand for those of the rule
 abbrev pub standFor : rules.Served → Parts → Type 0
@@ -74,7 +74,8 @@ standFor (rules.Reply after bytes) parts = partsOf parts ≡ after
 standFor (rules.Release id) parts = Unit
 
 -- a request is served as a rule has it, over memory before and after
-pub record Serves (pending : Pending) (parts : Parts) (rule : rules.Served) (r : Served) (before after : List ℕ) : Type 0 where
-  pub whole : outcome after r ≡ outcomeOf pending parts rule before
+pub record Serves (ws : List ℕ) (pending : Pending) (parts : Parts) (rule : rules.Served) (r : Served) (before after : List ℕ)
+    : Type 0 where
+  pub whole : outcome after r ≡ outcomeOf ws pending parts rule before
   pub stand : standFor rule (r .parts)
   pub fit : FitParts (r .parts)

@@ -44,28 +44,28 @@ pub fn close(m: &mut [u8], pending: Pending, len: u32) -> Posted
 }
 
 // A status in the first four bytes of a reply.
-pub fn write_status(m: &mut [u8], reply: Ranges, code: u32)
-    ensures { λ r. ⌜ now (m .exit) ≡ putAt (now (m .entry)) (places (rangesOf reply)) (status code) ⌝ }
+pub fn write_status(m: &mut [u8], list: &[u64], reply: Ranges, code: u32)
+    ensures { λ r. ⌜ now (m .exit) ≡ putAt (now (m .entry)) (places (rangesOf (now (list .entry)) reply)) (status code) ⌝ }
 {
     let mut bytes = [0u8; 4];
     memory::set32(&mut bytes, 0, code);
-    ranges::scatter(m, reply, 0, &bytes, 0, 4);
+    ranges::scatter(m, list, reply, 0, &bytes, 0, 4);
 }
 
 // A message completed with a reply of four bytes.
-pub fn complete(m: &mut [u8], pending: Pending, code: u32) -> Posted
-    ensures { λ r. ⌜ completion (now (m .exit)) r ≡ completionOf pending (status code) (now (m .entry)) ⌝ }
+pub fn complete(m: &mut [u8], list: &[u64], pending: Pending, code: u32) -> Posted
+    ensures { λ r. ⌜ completion (now (m .exit)) r ≡ completionOf (now (list .entry)) pending (status code) (now (m .entry)) ⌝ }
 {
     let reply = pending.reply;
-    write_status(m, reply, code);
+    write_status(m, list, reply, code);
     close(m, pending, 4)
 }
 
 // A request answered with a status; these are the parts after it.
-pub fn answer(m: &mut [u8], parts: Parts, pending: Pending, code: u32) -> Served
-    ensures { λ r. ⌜ outcome (now (m .exit)) r ≡ completedWith pending parts (status code) (now (m .entry)) ⌝ }
+pub fn answer(m: &mut [u8], list: &[u64], parts: Parts, pending: Pending, code: u32) -> Served
+    ensures { λ r. ⌜ outcome (now (m .exit)) r ≡ completedWith (now (list .entry)) pending parts (status code) (now (m .entry)) ⌝ }
 {
-    let posted = complete(m, pending, code);
+    let posted = complete(m, list, pending, code);
     Served {
         parts: parts,
         kind: Kind::Completed(posted),

@@ -66,6 +66,7 @@ fn has_four_bits(v: u32) -> Check
 // configuration default.
 fn remap_jack(
     m: &mut [u8],
+    list: &[u64],
     parts: Parts,
     pending: Pending,
     i: usize,
@@ -73,14 +74,15 @@ fn remap_jack(
     sequence: u32,
 ) -> Served
     requires { ⌜ FitParts parts × (i < parts .«jack_count») ⌝ }
-    ensures { λ r. ⌜ Serves pending parts (remapAt (partsOf parts) i association sequence) r (now (m .entry)) (now (m .exit)) ⌝ }
+    ensures { λ r. ⌜ Serves (now (list .entry)) pending parts (remapAt (partsOf parts) i association sequence)
+        r (now (m .entry)) (now (m .exit)) ⌝ }
 {
     let jack = parts.jacks[i];
     let Check::Passed = has_four_bits(association) else {
-        return reply::answer(m, parts, pending, rules::BAD_MSG);
+        return reply::answer(m, list, parts, pending, rules::BAD_MSG);
     };
     let Check::Passed = has_four_bits(sequence) else {
-        return reply::answer(m, parts, pending, rules::BAD_MSG);
+        return reply::answer(m, list, parts, pending, rules::BAD_MSG);
     };
     let info = jack.info;
     let remapped = Jack {
@@ -88,24 +90,25 @@ fn remap_jack(
         defconf: jack.defconf / 256 * 256 + association * 16 + sequence,
         connected: jack.connected,
     };
-    reply::answer(m, parts.with_jack(i, remapped), pending, rules::OK)
+    reply::answer(m, list, parts.with_jack(i, remapped), pending, rules::OK)
 }
 
 // JACK_REMAP.
-pub fn remap(m: &mut [u8], parts: Parts, pending: Pending, request: &[u8]) -> Served
+pub fn remap(m: &mut [u8], list: &[u64], parts: Parts, pending: Pending, request: &[u8]) -> Served
     requires { ⌜ FitParts parts ⌝ }
-    ensures { λ r. ⌜ Serves pending parts (remapOf (partsOf parts) (now (request .entry))) r (now (m .entry)) (now (m .exit)) ⌝ }
+    ensures { λ r. ⌜ Serves (now (list .entry)) pending parts (remapOf (partsOf parts) (now (request .entry)))
+        r (now (m .entry)) (now (m .exit)) ⌝ }
 {
     let Found::There(i) = find(memory::number32(request, 4), parts.jack_count) else {
-        return reply::answer(m, parts, pending, rules::BAD_MSG);
+        return reply::answer(m, list, parts, pending, rules::BAD_MSG);
     };
     let jack = parts.jacks[i];
     let Check::Passed = is_remappable(jack) else {
-        return reply::answer(m, parts, pending, rules::NOT_SUPP);
+        return reply::answer(m, list, parts, pending, rules::NOT_SUPP);
     };
     let association = memory::number32(request, 8);
     let sequence = memory::number32(request, 12);
-    remap_jack(m, parts, pending, i, association, sequence)
+    remap_jack(m, list, parts, pending, i, association, sequence)
 }
 
 // Information: items that are asked for have a size.
@@ -148,8 +151,9 @@ fn is_roomy(count: u32, size: u32, room: u32) -> Check
 }
 
 // The items of a request that passed every step, behind the status.
-fn list(
+fn list_items(
     m: &mut [u8],
+    list: &[u64],
     parts: Parts,
     pending: Pending,
     l: Listing,
@@ -159,13 +163,15 @@ fn list(
 ) -> Served
     requires { ⌜ FitParts parts × (start + count ≤ length (itemsOf l (partsOf parts))) × (4 + count * size ≤ 4294967295) ⌝ }
     ensures { λ r. ⌜ outcome (now (m .exit)) r
-        ≡ completedWith pending parts (status sOk ++ joined (take count (drop start (map (fitted size) (itemsOf l (partsOf parts))))))
+        ≡ completedWith (now (list .entry)) pending parts
+        (status sOk ++ joined (take count (drop start (map (fitted size) (itemsOf l (partsOf parts))))))
         (now (m .entry)) ⌝ }
 {
     let reply = pending.reply;
-    reply::write_status(m, reply, rules::OK);
+    reply::write_status(m, list, reply, rules::OK);
     let len = information::write_items(
         m,
+        list,
         reply,
         parts,
         l,
@@ -183,6 +189,7 @@ fn list(
 // JACK_INFO, PCM_INFO, CHMAP_INFO; `room` is the length of the reply's writable side.
 pub fn inform(
     m: &mut [u8],
+    list: &[u64],
     parts: Parts,
     pending: Pending,
     l: Listing,
@@ -190,19 +197,20 @@ pub fn inform(
     room: u32,
 ) -> Served
     requires { ⌜ FitParts parts ⌝ }
-    ensures { λ r. ⌜ Serves pending parts (informationOf (partsOf parts) l (now (request .entry)) room) r (now (m .entry)) (now (m .exit)) ⌝ }
+    ensures { λ r. ⌜ Serves (now (list .entry)) pending parts (informationOf (partsOf parts) l (now (request .entry)) room)
+        r (now (m .entry)) (now (m .exit)) ⌝ }
 {
     let start = memory::number32(request, 4);
     let count = memory::number32(request, 8);
     let size = memory::number32(request, 12);
     let Check::Passed = is_spaced(count, size) else {
-        return reply::answer(m, parts, pending, rules::BAD_MSG);
+        return reply::answer(m, list, parts, pending, rules::BAD_MSG);
     };
     let Check::Passed = is_listed(parts, l, start, count) else {
-        return reply::answer(m, parts, pending, rules::BAD_MSG);
+        return reply::answer(m, list, parts, pending, rules::BAD_MSG);
     };
     let Check::Passed = is_roomy(count, size, room) else {
-        return reply::answer(m, parts, pending, rules::BAD_MSG);
+        return reply::answer(m, list, parts, pending, rules::BAD_MSG);
     };
-    list(m, parts, pending, l, start, count, size)
+    list_items(m, list, parts, pending, l, start, count, size)
 }

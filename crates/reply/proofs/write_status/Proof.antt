@@ -27,10 +27,10 @@ same-length c = search needs
 returns : tie.Need-returns
 returns c =
     let at-set32 = c .before .before .before .before .before .before in
-    let a = at-set32 .before .before .before .args in
+    let a = at-set32 .before .before .before .before .args in
     c .before .before .scatter .ensures
     ∙ rw (at-set32 .set32 .ensures, status-put (a .code))
-    (putAt-take 4 (a .m .now) (places (rangesOf (a .reply))) (status (a .code)) (omega (arith, length-status (a .code))))
+    (putAt-take 4 (a .m .now) (places (rangesOf (a .list .now) (a .reply))) (status (a .code)) (omega (arith, length-status (a .code))))
 
 pub write-status-spec : {M : Type 1} → statement M
 write-status-spec =
