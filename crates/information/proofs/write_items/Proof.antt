@@ -15,20 +15,20 @@ use Rattle.information.proofs.write_items.Statement.{statement}
 use Rattle.information.proofs.write_items.Tie as tie
 
 abbrev Inv-loop : tie.InvT-loop
-Inv-loop m₀ reply parts l start count size natural at₀ i₀ left₀ m at i left =
+Inv-loop m₀ list reply parts l start count size natural at₀ i₀ left₀ m at i left =
     (length m ≡ length m₀) × (i + left ≤ length (itemsOf l (partsOf parts))) × (natural ≡ naturalSize l) × (natural ≤ 32)
-    × (putAt m (drop at (places (rangesOf reply))) (joined (take left (drop i (map (fitted size) (itemsOf l (partsOf parts))))))
-    ≡ putAt m₀ (drop 4 (places (rangesOf reply))) (joined (take count (drop start (map (fitted size) (itemsOf l (partsOf parts)))))))
+    × (putAt m (drop at (places (rangesOf list reply))) (joined (take left (drop i (map (fitted size) (itemsOf l (partsOf parts))))))
+    ≡ putAt m₀ (drop 4 (places (rangesOf list reply))) (joined (take count (drop start (map (fitted size) (itemsOf l (partsOf parts)))))))
     × (at + length (joined (take left (drop i (map (fitted size) (itemsOf l (partsOf parts))))))
     ≡ 4 + length (joined (take count (drop start (map (fitted size) (itemsOf l (partsOf parts)))))))
 
 abbrev μ-loop : tie.MeasureT-loop
-μ-loop m₀ reply parts l start count size natural at₀ i₀ left₀ m at i left = left
+μ-loop m₀ list reply parts l start count size natural at₀ i₀ left₀ m at i left = left
 
 -- the next item, then the others: their bytes and their lengths
 next : (c : tie.In-loop Inv-loop μ-loop) →
     let at-loop = c .before in
-    let start = at-loop .before .before .before in
+    let start = at-loop .before .before .before .before in
     let l = at-loop .loop in
     let a = start .args in
     let items = itemsOf (a .l) (partsOf (a .parts)) in
@@ -37,7 +37,7 @@ next : (c : tie.In-loop Inv-loop μ-loop) →
     × (l .at + (a .size + length rest) ≡ 4 + length (joined (take (a .count) (drop (a .start) (map (fitted (a .size)) items)))))
 next c =
     let at-loop = c .before in
-    let start = at-loop .before .before .before in
+    let start = at-loop .before .before .before .before in
     let l = at-loop .loop in
     let a = start .args in
     let items = itemsOf (a .l) (partsOf (a .parts)) in
@@ -54,7 +54,7 @@ loop-holds : tie.Need-loop-holds Inv-loop μ-loop
 loop-holds c = (refl, omega arith, c .natural-size .ensures .0, omega arith, refl, refl)
 
 item-requires : tie.Need-item-requires Inv-loop μ-loop
-item-requires c κs = (c .before .before .before .before .pre .0, omega arith)
+item-requires c κs = (c .before .before .before .before .before .pre .0, omega arith)
 
 slice-aggregate-write-item : tie.Need-slice-aggregate-write-item Inv-loop μ-loop
 slice-aggregate-write-item c = omega arith
@@ -64,21 +64,21 @@ write-item-requires c κs =
     let at-item = c .before .before in
     let at-loop-test = at-item .before in
     let at-loop = at-loop-test .before in
-    let start = at-loop .before .before .before in
+    let start = at-loop .before .before .before .before in
     let n = next at-loop-test in
     (omega (arith, n .1, start .pre .2), rw (at-item .item .ensures .1) (omega arith))
 
 add-at : tie.Need-add-at Inv-loop μ-loop
 add-at c =
     let at-loop-test = c .before .before .before .before .before .before in
-    let start = at-loop-test .before .before .before .before in
+    let start = at-loop-test .before .before .before .before .before in
     let n = next at-loop-test in
     omega (arith, n .1, start .pre .2)
 
 add-i : tie.Need-add-i Inv-loop μ-loop
 add-i c =
     let back6 = c .before .before .before .before .before .before in
-    let start = back6 .before .before .before .before in
+    let start = back6 .before .before .before .before .before in
     omega (arith, few-items (start .args .l) (start .args .parts) (start .pre .0))
 
 sub-left : tie.Need-sub-left Inv-loop μ-loop
@@ -94,13 +94,13 @@ loop-again c =
     let at-loop-test = at-item .before in
     let at-loop = at-loop-test .before in
     let at-natural-size = at-loop .before in
-    let start = at-natural-size .before .before in
+    let start = at-natural-size .before .before .before in
     let l = at-loop .loop in
     let a = start .args in
     let items = itemsOf (a .l) (partsOf (a .parts)) in
     let item = fitted (a .size) (getD items (l .i) []) in
     let rest = joined (take (l .left - 1) (drop (l .i + 1) (map (fitted (a .size)) items))) in
-    let ps = places (rangesOf (a .reply)) in
+    let ps = places (rangesOf (a .list .now) (a .reply)) in
     let n = next at-loop-test in
     let e : take (at-natural-size .natural-size .result) (at-item .item .result) ≡ getD items (l .i) [] = rw (l .inv .2)
     (at-item .item .ensures .0) in
@@ -116,11 +116,11 @@ same-length c = omega arith
 returns : tie.Need-returns Inv-loop μ-loop
 returns c =
     let l = c .before .loop in
-    let a = c .before .before .before .before .args in
+    let a = c .before .before .before .before .before .args in
     let items = map (fitted (a .size)) (itemsOf (a .l) (partsOf (a .parts))) in
     let z = joined-none items (l .left) (l .i) (omega arith) in
     let e : l .at + 0 ≡ 4 + length (joined (take (a .count) (drop (a .start) items))) = rw z at (l .inv .5) in
-    (sym (putAt-nil (l .m) (drop (l .at) (places (rangesOf (a .reply))))) ∙ rw z at (l .inv .4), omega arith)
+    (sym (putAt-nil (l .m) (drop (l .at) (places (rangesOf (a .list .now) (a .reply))))) ∙ rw z at (l .inv .4), omega arith)
 
 pub write-items-spec : {M : Type 1} → statement M
 write-items-spec =

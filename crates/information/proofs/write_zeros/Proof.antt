@@ -12,12 +12,12 @@ use Rattle.information.proofs.write_zeros.Statement.{statement}
 use Rattle.information.proofs.write_zeros.Tie as tie
 
 abbrev Inv-loop : tie.InvT-loop
-Inv-loop m₀ reply start n run at₀ left₀ m at left =
+Inv-loop m₀ list reply start n run at₀ left₀ m at left =
     (length m ≡ length m₀) × (at + left ≤ 4294967295)
-    × (putAt m (drop at (places (rangesOf reply))) (replicate left 0) ≡ putAt m₀ (drop start (places (rangesOf reply))) (replicate n 0))
+    × (putAt m (drop at (places (rangesOf list reply))) (replicate left 0) ≡ putAt m₀ (drop start (places (rangesOf list reply))) (replicate n 0))
 
 abbrev μ-loop : tie.MeasureT-loop
-μ-loop m₀ reply start n run at₀ left₀ m at left = left
+μ-loop m₀ list reply start n run at₀ left₀ m at left = left
 
 zeros-requires : tie.Need-zeros-requires Inv-loop μ-loop
 zeros-requires c κs = omega arith
@@ -49,10 +49,10 @@ loop-again c =
     let at-least = at-scatter .before .before .before in
     let at-loop = at-least .before .before in
     let at-zeros = at-loop .before in
-    let start = at-zeros .before .before in
+    let start = at-zeros .before .before .before in
     let l = at-loop .loop in
     let k = at-least .least .result in
-    let ps = places (rangesOf (start .args .reply)) in
+    let ps = places (rangesOf (start .args .list .now) (start .args .reply)) in
     let few : k ≤ l .left = omega (arith, at-least .least .ensures) in
     let w : at-scatter .scatter .last .0 ≡ putAt (l .m) (drop (l .at) ps) (replicate k 0) =
     at-scatter .scatter .ensures
@@ -79,9 +79,9 @@ same-length c = omega arith
 returns : tie.Need-returns Inv-loop μ-loop
 returns c =
     let l = c .before .loop in
-    let a = c .before .before .before .before .args in
+    let a = c .before .before .before .before .before .args in
     let z : l .left ≡ 0 = omega arith in
-    sym (putAt-nil (l .m) (drop (l .at) (places (rangesOf (a .reply))))) ∙ rw z at (l .inv .2)
+    sym (putAt-nil (l .m) (drop (l .at) (places (rangesOf (a .list .now) (a .reply))))) ∙ rw z at (l .inv .2)
 
 pub write-zeros-spec : {M : Type 1} → statement M
 write-zeros-spec =
