@@ -14,8 +14,8 @@ use Rattle.requests.proofs.inform.Statement.{statement}
 use Rattle.requests.proofs.inform.Tie as tie
 
 sized : (c : tie.After-enum-told) →
-    let back6 = c .before .before .before .before .before .before in
-    let start = back6 .before .before in
+    let back7 = c .before .before .before .before .before .before .before in
+    let start = back7 .before .before in
     spaced (word (start .args .request .now) 2) (word (start .args .request .now) 3) ≡ true
 sized c =
     let at-enum-told = c in
@@ -30,20 +30,20 @@ there : (c : tie.After-enum-told3) →
     let back6 = c .before .before .before .before .before .before in
     let at-number322 = back6 .before in
     let at-number32 = at-number322 .before in
-    let start = at-number32 .before .before .before in
+    let start = at-number32 .before .before .before .before in
     listed (start .args .l) (partsOf (start .args .parts)) (at-number32 .number32 .result) (at-number322 .number322 .result) ≡ true
 there c =
     let at-enum-told3 = c in
     let at-is-listed = at-enum-told3 .before .before in
     let at-number322 = at-is-listed .before .before .before .before .before in
     let at-number32 = at-number322 .before in
-    let start = at-number32 .before .before .before in
+    let start = at-number32 .before .before .before .before in
     check-passed (listed (start .args .l) (partsOf (start .args .parts)) (at-number32 .number32 .result) (at-number322 .number322 .result))
     (sym (at-is-listed .is-listed .ensures) ∙ at-enum-told3 .enum-told3 .given .1)
 
 there-asked : (c : tie.After-enum-told3) →
     let back6 = c .before .before .before .before .before .before in
-    let start = back6 .before .before .before .before .before in
+    let start = back6 .before .before .before .before .before .before in
     listed (start .args .l) (partsOf (start .args .parts)) (word (start .args .request .now) 1) (word (start .args .request .now) 2) ≡ true
 there-asked c =
     let back6 = c .before .before .before .before .before .before in
@@ -55,14 +55,14 @@ wide : (c : tie.After-enum-told5) →
     let back6 = c .before .before .before .before .before .before in
     let at-number323 = back6 .before .before .before in
     let at-number322 = at-number323 .before in
-    let start = at-number322 .before .before .before .before in
+    let start = at-number322 .before .before .before .before .before in
     roomy (at-number322 .number322 .result) (at-number323 .number323 .result) (start .args .room) ≡ true
 wide c =
     let at-is-roomy = c .before .before in
     let back8 = at-is-roomy .before .before .before .before .before .before in
     let at-number323 = back8 .before in
     let at-number322 = at-number323 .before in
-    let start = at-number322 .before .before .before .before in
+    let start = at-number322 .before .before .before .before .before in
     check-passed (roomy (at-number322 .number322 .result) (at-number323 .number323 .result) (start .args .room))
     (sym (at-is-roomy .is-roomy .ensures) ∙ c .enum-told5 .given .1)
 
@@ -98,13 +98,13 @@ returns c =
     let at-is-spaced = at-enum-told2 .before .before in
     let at-number323 = at-is-spaced .before in
     let at-number322 = at-number323 .before in
-    let start = at-number322 .before .before .before .before in
+    let start = at-number322 .before .before .before .before .before in
     let a = start .args in
     let unsized : spaced (word (a .request .now) 2) (word (a .request .now) 3) ≡ false =
     rw (← (at-number322 .number322 .ensures), ← (at-number323 .number323 .ensures))
     (check-failed (spaced (at-number322 .number322 .result) (at-number323 .number323 .result))
     (sym (at-is-spaced .is-spaced .ensures) ∙ at-enum-told2 .enum-told2 .given .1)) in
-    rw unsized (serves-same (a .pending) (a .parts) _ _ _ _ (start .pre) (at-answer .answer .ensures))
+    rw unsized (serves-same _ (a .pending) (a .parts) _ _ _ _ (start .pre) (at-answer .answer .ensures))
 
 is-listed-requires : tie.Need-is-listed-requires
 is-listed-requires c κs = search needs
@@ -130,13 +130,13 @@ returns-2 c =
     let at-enum-told = at-is-listed .before in
     let at-number322 = at-enum-told .before .before .before .before in
     let at-number32 = at-number322 .before in
-    let start = at-number32 .before .before .before in
+    let start = at-number32 .before .before .before .before in
     let a = start .args in
     let absent : listed (a .l) (partsOf (a .parts)) (word (a .request .now) 1) (word (a .request .now) 2) ≡ false =
     rw (← (at-number32 .number32 .ensures), ← (at-number322 .number322 .ensures))
     (check-failed (listed (a .l) (partsOf (a .parts)) (at-number32 .number32 .result) (at-number322 .number322 .result))
     (sym (at-is-listed .is-listed .ensures) ∙ at-enum-told4 .enum-told4 .given .1)) in
-    rw (sized at-enum-told, absent) (serves-same (a .pending) (a .parts) _ _ _ _ (start .pre) (at-answer2 .answer2 .ensures))
+    rw (sized at-enum-told, absent) (serves-same _ (a .pending) (a .parts) _ _ _ _ (start .pre) (at-answer2 .answer2 .ensures))
 
 is-roomy-requires : tie.Need-is-roomy-requires
 is-roomy-requires c κs = search needs
@@ -163,23 +163,23 @@ returns-3 c =
     let at-enum-told = at-enum-told3 .before .before .before in
     let at-number323 = at-enum-told .before .before .before in
     let at-number322 = at-number323 .before in
-    let start = at-number322 .before .before .before .before in
+    let start = at-number322 .before .before .before .before .before in
     let a = start .args in
     let narrow : roomy (word (a .request .now) 2) (word (a .request .now) 3) (a .room) ≡ false =
     rw (← (at-number322 .number322 .ensures), ← (at-number323 .number323 .ensures))
     (check-failed (roomy (at-number322 .number322 .result) (at-number323 .number323 .result) (a .room))
     (sym (at-is-roomy .is-roomy .ensures) ∙ at-enum-told6 .enum-told6 .given .1)) in
     rw (sized at-enum-told, there-asked at-enum-told3, narrow)
-    (serves-same (a .pending) (a .parts) _ _ _ _ (start .pre) (at-answer3 .answer3 .ensures))
+    (serves-same _ (a .pending) (a .parts) _ _ _ _ (start .pre) (at-answer3 .answer3 .ensures))
 
-list-requires : tie.Need-list-requires
-list-requires c κs =
+list-items-requires : tie.Need-list-items-requires
+list-items-requires c κs =
     let at-enum-told5 = c .before in
     let at-enum-told3 = at-enum-told5 .before .before .before in
     let at-number323 = at-enum-told3 .before .before .before .before .before .before in
     let at-number322 = at-number323 .before in
     let at-number32 = at-number322 .before in
-    let start = at-number32 .before .before .before in
+    let start = at-number32 .before .before .before .before in
     let there : at-number32 .number32 .result + at-number322 .number322 .result
     ≤ length (itemsOf (start .args .l) (partsOf (start .args .parts))) =
     leb-true _ _ (there at-enum-told3) in
@@ -193,14 +193,14 @@ same-length-4 c = search needs
 returns-4 : tie.Need-returns-4
 unfolding information
 returns-4 c =
-    let at-list = c .before .before in
-    let at-enum-told5 = at-list .before .before in
+    let at-list-items = c .before .before in
+    let at-enum-told5 = at-list-items .before .before in
     let at-enum-told3 = at-enum-told5 .before .before .before in
     let at-enum-told = at-enum-told3 .before .before .before in
     let at-number323 = at-enum-told .before .before .before in
     let at-number322 = at-number323 .before in
     let at-number32 = at-number322 .before in
-    let start = at-number32 .before .before .before in
+    let start = at-number32 .before .before .before .before in
     let a = start .args in
     let enough : roomy (word (a .request .now) 2) (word (a .request .now) 3) (a .room) ≡ true =
     rw (← (at-number322 .number322 .ensures), ← (at-number323 .number323 .ensures)) (wide at-enum-told5) in
@@ -212,7 +212,7 @@ returns-4 c =
       ← (at-number322 .number322 .ensures),
       ← (at-number323 .number323 .ensures),
     )
-    (serves-same (a .pending) (a .parts) _ _ _ _ (start .pre) (at-list .list .ensures))
+    (serves-same _ (a .pending) (a .parts) _ _ _ _ (start .pre) (at-list-items .list-items .ensures))
 
 pub inform-spec : {M : Type 1} → statement M
 inform-spec =
@@ -239,6 +239,6 @@ inform-spec =
     answer-requires-3
     same-length-3
     returns-3
-    list-requires
+    list-items-requires
     same-length-4
     returns-4)

@@ -7,8 +7,8 @@ use Rattle.rules.specs.Control.{itemsOf}
 use Rattle.information.proofs.Laws.{length-items}
 use Rattle.reply.proofs.Laws.{putAt-behind, length-status, completed-outcome}
 use borrow.Author.Needs.{needs}
-use Rattle.requests.proofs.list.Statement.{statement}
-use Rattle.requests.proofs.list.Tie as tie
+use Rattle.requests.proofs.list_items.Statement.{statement}
+use Rattle.requests.proofs.list_items.Tie as tie
 
 write-status-requires : tie.Need-write-status-requires
 write-status-requires c κs = search needs
@@ -16,7 +16,8 @@ write-status-requires c κs = search needs
 write-items-requires : tie.Need-write-items-requires
 write-items-requires c κs =
     let back6 = c .before .before .before .before .before .before in
-    let start = back6 .before in
+    let back7 = back6 .before in
+    let start = back7 .before in
     let a = start .args in
     let n = length-items (a .size) (itemsOf (a .l) (partsOf (a .parts))) (a .count) (a .start) (start .pre .1) in
     (start .pre .0, start .pre .1, rw n (start .pre .2))
@@ -25,7 +26,7 @@ cast-close : tie.Need-cast-close
 cast-close c =
     let at-write-items = c .before .before .before in
     let back9 = at-write-items .before .before .before .before .before .before in
-    let start = back9 .before .before in
+    let start = back9 .before .before .before in
     let a = start .args in
     let n = length-items (a .size) (itemsOf (a .l) (partsOf (a .parts))) (a .count) (a .start) (start .pre .1) in
     omega (arith, at-write-items .write-items .ensures .1, n, start .pre .2)
@@ -46,8 +47,8 @@ returns c =
     (at-close .close .ensures
     ∙ rw (w .ensures .1, w .ensures .0, at-write-status .write-status .ensures, length-append, length-status, putAt-behind, length-status))
 
-pub list-spec : {M : Type 1} → statement M
-list-spec =
+pub list-items-spec : {M : Type 1} → statement M
+list-items-spec =
     tie.close
     (tie.spec
     write-status-requires

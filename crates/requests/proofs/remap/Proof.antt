@@ -16,20 +16,20 @@ use Rattle.requests.proofs.remap.Tie as tie
 -- the jack that was found is the one asked for
 the-jack : (c : tie.After-known-told) →
     let at-i = c .before in
-    let start = at-i .before .before .before .before .before .before in
+    let start = at-i .before .before .before .before .before .before .before in
     at-i .i .given .0 .0 ≡ word (start .args .request .now) 1
 the-jack c =
     let at-i = c .before in
     let at-find = at-i .before .before in
     let at-number32 = at-find .before in
-    let start = at-number32 .before .before .before in
-    found-there (ltb (at-number32 .number32 .result) (start .args .t2 .«jack_count»)) _ _
+    let start = at-number32 .before .before .before .before in
+    found-there (ltb (at-number32 .number32 .result) (start .args .t3 .«jack_count»)) _ _
     (sym (at-find .find .ensures) ∙ at-i .i .given .1) .1 ∙ at-number32 .number32 .ensures
 
 there : (c : tie.After-known-told) →
-    let back6 = c .before .before .before .before .before .before in
-    let start = back6 .before in
-    ltb (word (start .args .request .now) 1) (start .args .t2 .«jack_count») ≡ true
+    let back7 = c .before .before .before .before .before .before .before in
+    let start = back7 .before in
+    ltb (word (start .args .request .now) 1) (start .args .t3 .«jack_count») ≡ true
 there c =
     let at-i = c .before in
     let at-find = at-i .before .before in
@@ -38,8 +38,8 @@ there c =
 
 inside : (c : tie.After-known-told) →
     let at-i = c .before in
-    let start = at-i .before .before .before .before .before .before in
-    at-i .i .given .0 .0 < start .args .t2 .«jack_count»
+    let start = at-i .before .before .before .before .before .before .before in
+    at-i .i .given .0 .0 < start .args .t3 .«jack_count»
 inside c = rw (the-jack c) (ltb-true _ _ (there c))
 
 number32-requires : tie.Need-number32-requires
@@ -66,23 +66,25 @@ returns c =
     let at-enum-told = at-answer .before .before in
     let at-find = at-enum-told .before .before in
     let at-number32 = at-find .before in
-    let start = at-number32 .before .before .before in
+    let start = at-number32 .before .before .before .before in
     let a = start .args in
-    let absent : ltb (word (a .request .now) 1) (a .t2 .«jack_count») ≡ false = rw (← (at-number32 .number32 .ensures))
+    let absent : ltb (word (a .request .now) 1) (a .t3 .«jack_count») ≡ false = rw (← (at-number32 .number32 .ensures))
     (found-absent _ _ (sym (at-find .find .ensures) ∙ at-enum-told .enum-told .given .1)) in
-    rw (remap-absent (a .t2) (start .pre) (a .request .now) absent)
-    (serves-same (a .pending) (a .t2) _ _ _ _ (start .pre) (at-answer .answer .ensures))
+    rw (remap-absent (a .t3) (start .pre) (a .request .now) absent)
+    (serves-same _ (a .pending) (a .t3) _ _ _ _ (start .pre) (at-answer .answer .ensures))
 
 mul-jack : tie.Need-mul-jack
 mul-jack c =
     let back6 = c .before .before .before .before .before .before in
-    let start = back6 .before in
+    let back7 = back6 .before in
+    let start = back7 .before in
     omega (arith, inside c, start .pre .jacks)
 
 element-copy-out-jack : tie.Need-element-copy-out-jack
 element-copy-out-jack c =
     let back6 = c .before .before .before .before .before .before in
-    let start = back6 .before in
+    let back7 = back6 .before in
+    let start = back7 .before in
     omega (arith, inside c, start .pre .jacks)
 
 is-remappable-requires : tie.Need-is-remappable-requires
@@ -106,14 +108,14 @@ returns-2 c =
     let at-enum-told3 = at-answer2 .before .before in
     let at-is-remappable = at-enum-told3 .before .before in
     let at-known-told = at-is-remappable .before .before in
-    let back14 = at-known-told .before .before .before .before .before .before in
-    let start = back14 .before in
+    let back15 = at-known-told .before .before .before .before .before .before .before in
+    let start = back15 .before in
     let a = start .args in
-    let lacking : remappable (getD (a .t2 .jacks) (word (a .request .now) 1) noJack) ≡ false = rw (← (the-jack at-known-told))
-    (check-failed (remappable (getD (a .t2 .jacks) (at-known-told .before .i .given .0 .0) noJack))
+    let lacking : remappable (getD (a .t3 .jacks) (word (a .request .now) 1) noJack) ≡ false = rw (← (the-jack at-known-told))
+    (check-failed (remappable (getD (a .t3 .jacks) (at-known-told .before .i .given .0 .0) noJack))
     (sym (at-is-remappable .is-remappable .ensures) ∙ at-enum-told3 .enum-told3 .given .1)) in
-    rw (remap-refused (a .t2) (start .pre) (a .request .now) (there at-known-told) lacking)
-    (serves-same (a .pending) (a .t2) _ _ _ _ (start .pre) (at-answer2 .answer2 .ensures))
+    rw (remap-refused (a .t3) (start .pre) (a .request .now) (there at-known-told) lacking)
+    (serves-same _ (a .pending) (a .t3) _ _ _ _ (start .pre) (at-answer2 .answer2 .ensures))
 
 number32-requires-2 : tie.Need-number32-requires-2
 number32-requires-2 c κs = search needs
@@ -125,8 +127,8 @@ remap-jack-requires : tie.Need-remap-jack-requires
 remap-jack-requires c κs =
     let back6 = c .before .before .before .before .before .before in
     let at-known-told = back6 .before in
-    let back13 = at-known-told .before .before .before .before .before .before in
-    let start = back13 .before in
+    let back14 = at-known-told .before .before .before .before .before .before .before in
+    let start = back14 .before in
     (start .pre, inside at-known-told)
 
 same-length-3 : tie.Need-same-length-3
@@ -140,14 +142,14 @@ returns-3 c =
     let at-enum-told2 = at-number322 .before in
     let at-is-remappable = at-enum-told2 .before .before in
     let at-known-told = at-is-remappable .before .before in
-    let back16 = at-known-told .before .before .before .before .before .before in
-    let start = back16 .before in
+    let back17 = at-known-told .before .before .before .before .before .before .before in
+    let start = back17 .before in
     let a = start .args in
-    let able : remappable (getD (a .t2 .jacks) (word (a .request .now) 1) noJack) ≡ true = rw (← (the-jack at-known-told))
-    (check-passed (remappable (getD (a .t2 .jacks) (at-known-told .before .i .given .0 .0) noJack))
+    let able : remappable (getD (a .t3 .jacks) (word (a .request .now) 1) noJack) ≡ true = rw (← (the-jack at-known-told))
+    (check-passed (remappable (getD (a .t3 .jacks) (at-known-told .before .i .given .0 .0) noJack))
     (sym (at-is-remappable .is-remappable .ensures) ∙ at-enum-told2 .enum-told2 .given .1)) in
     rw (
-      remap-there (a .t2) (start .pre) (a .request .now) (there at-known-told) able,
+      remap-there (a .t3) (start .pre) (a .request .now) (there at-known-told) able,
       ← (the-jack at-known-told),
       ← (at-number322 .number322 .ensures),
       ← (at-number323 .number323 .ensures),

@@ -11,12 +11,12 @@ use Rattle.requests.proofs.remap_jack.Statement.{statement}
 use Rattle.requests.proofs.remap_jack.Tie as tie
 
 associated : (c : tie.After-enum-told)
-    → let start = c .before .before .before .before .before in
+    → let start = c .before .before .before .before .before .before in
     fourBits (start .args .association) ≡ true
 associated c = check-passed _ (sym (c .before .before .has-four-bits .ensures) ∙ c .enum-told .given .1)
 
 sequenced : (c : tie.After-enum-told3)
-    → let start = c .before .before .before .before .before .before .before .before in
+    → let start = c .before .before .before .before .before .before .before .before .before in
     fourBits (start .args .sequence) ≡ true
 sequenced c = check-passed _ (sym (c .before .before .has-four-bits2 .ensures) ∙ c .enum-told3 .given .1)
 
@@ -46,10 +46,10 @@ returns c =
     let at-answer = c .before .before in
     let at-enum-told2 = at-answer .before .before in
     let at-has-four-bits = at-enum-told2 .before .before in
-    let start = at-has-four-bits .before .before .before in
+    let start = at-has-four-bits .before .before .before .before in
     rw (check-failed (fourBits (start .args .association))
     (sym (at-has-four-bits .has-four-bits .ensures) ∙ at-enum-told2 .enum-told2 .given .1))
-    (serves-same (start .args .pending) (start .args .t2) _ _ _ _ (start .pre .0) (at-answer .answer .ensures))
+    (serves-same _ (start .args .pending) (start .args .t3) _ _ _ _ (start .pre .0) (at-answer .answer .ensures))
 
 has-four-bits-requires-2 : tie.Need-has-four-bits-requires-2
 has-four-bits-requires-2 c κs = search needs
@@ -72,34 +72,34 @@ returns-2 c =
     let at-enum-told4 = at-answer2 .before .before in
     let at-has-four-bits2 = at-enum-told4 .before .before in
     let at-enum-told = at-has-four-bits2 .before in
-    let start = at-enum-told .before .before .before .before .before in
+    let start = at-enum-told .before .before .before .before .before .before in
     rw (
       associated at-enum-told,
       check-failed (fourBits (start .args .sequence))
           (sym (at-has-four-bits2 .has-four-bits2 .ensures) ∙ at-enum-told4 .enum-told4 .given .1),
     )
-    (serves-same (start .args .pending) (start .args .t2) _ _ _ _ (start .pre .0) (at-answer2 .answer2 .ensures))
-
-mul-t24 : tie.Need-mul-t24
-mul-t24 c = search needs
+    (serves-same _ (start .args .pending) (start .args .t3) _ _ _ _ (start .pre .0) (at-answer2 .answer2 .ensures))
 
 mul-t25 : tie.Need-mul-t25
-mul-t25 c =
-    let at-enum-told = c .before .before .before .before .before in
-    let start = at-enum-told .before .before .before .before .before in
-    omega (arith, leb-true (start .args .association) 15 (associated at-enum-told))
+mul-t25 c = search needs
 
-add-t26 : tie.Need-add-t26
-add-t26 c =
+mul-t26 : tie.Need-mul-t26
+mul-t26 c =
     let at-enum-told = c .before .before .before .before .before in
-    let start = at-enum-told .before .before .before .before .before in
+    let start = at-enum-told .before .before .before .before .before .before in
     omega (arith, leb-true (start .args .association) 15 (associated at-enum-told))
 
 add-t27 : tie.Need-add-t27
 add-t27 c =
+    let at-enum-told = c .before .before .before .before .before in
+    let start = at-enum-told .before .before .before .before .before .before in
+    omega (arith, leb-true (start .args .association) 15 (associated at-enum-told))
+
+add-t28 : tie.Need-add-t28
+add-t28 c =
     let at-enum-told3 = c .before .before in
     let at-enum-told = at-enum-told3 .before .before .before in
-    let start = at-enum-told .before .before .before .before .before in
+    let start = at-enum-told .before .before .before .before .before .before in
     let a = start .args in
     omega (arith, leb-true (a .association) 15 (associated at-enum-told), leb-true (a .sequence) 15 (sequenced at-enum-told3))
 
@@ -118,10 +118,10 @@ returns-3 c =
     let at-with-jack = at-answer3 .before in
     let at-enum-told3 = at-with-jack .before .before .before .before in
     let at-enum-told = at-enum-told3 .before .before .before in
-    let start = at-enum-told .before .before .before .before .before in
+    let start = at-enum-told .before .before .before .before .before .before in
     let a = start .args in
-    rw (associated at-enum-told, sequenced at-enum-told3, jack-at (a .t2) (a .i) (start .pre .1))
-    (serves-jack (a .pending) (a .t2) _ _ _ (a .i) _ _ (start .pre .0) (start .pre .1)
+    rw (associated at-enum-told, sequenced at-enum-told3, jack-at (a .t3) (a .i) (start .pre .1))
+    (serves-jack _ (a .pending) (a .t3) _ _ _ (a .i) _ _ (start .pre .0) (start .pre .1)
     (at-answer3 .answer3 .ensures ∙ rw (at-with-jack .with-jack .ensures)))
 
 pub remap-jack-spec : {M : Type 1} → statement M
@@ -142,10 +142,10 @@ remap-jack-spec =
     answer-requires-2
     same-length-2
     returns-2
-    mul-t24
     mul-t25
-    add-t26
+    mul-t26
     add-t27
+    add-t28
     with-jack-requires
     answer-requires-3
     same-length-3
