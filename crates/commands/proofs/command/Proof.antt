@@ -20,21 +20,21 @@ use Rattle.commands.proofs.command.Tie as tie
 -- the stream that was found is the one asked for
 the-stream : (c : tie.After-known-told) →
     let at-i = c .before in
-    let start = at-i .before .before .before .before .before .before in
+    let start = at-i .before .before .before .before .before .before .before in
     at-i .i .given .0 .0 ≡ word (start .args .request .now) 1
 the-stream c =
     let at-i = c .before in
     let at-find = at-i .before .before in
     let at-number32 = at-find .before in
-    let start = at-number32 .before .before .before in
-    found-there (ltb (at-number32 .number32 .result) (start .args .t2 .«stream_count»)) _ _
+    let start = at-number32 .before .before .before .before in
+    found-there (ltb (at-number32 .number32 .result) (start .args .t3 .«stream_count»)) _ _
     (sym (at-find .find .ensures) ∙ at-i .i .given .1) .1
     ∙ at-number32 .number32 .ensures
 
 there : (c : tie.After-known-told) →
-    let back6 = c .before .before .before .before .before .before in
-    let start = back6 .before in
-    ltb (word (start .args .request .now) 1) (start .args .t2 .«stream_count») ≡ true
+    let back7 = c .before .before .before .before .before .before .before in
+    let start = back7 .before in
+    ltb (word (start .args .request .now) 1) (start .args .t3 .«stream_count») ≡ true
 there c =
     let at-i = c .before in
     let at-find = at-i .before .before in
@@ -43,8 +43,8 @@ there c =
 
 inside : (c : tie.After-known-told) →
     let at-i = c .before in
-    let start = at-i .before .before .before .before .before .before in
-    at-i .i .given .0 .0 < start .args .t2 .«stream_count»
+    let start = at-i .before .before .before .before .before .before .before in
+    at-i .i .given .0 .0 < start .args .t3 .«stream_count»
 inside c = rw (the-stream c) (ltb-true _ _ (there c))
 
 number32-requires : tie.Need-number32-requires
@@ -71,23 +71,25 @@ returns c =
     let at-enum-told = at-answer .before .before in
     let at-find = at-enum-told .before .before in
     let at-number32 = at-find .before in
-    let start = at-number32 .before .before .before in
+    let start = at-number32 .before .before .before .before in
     let a = start .args in
-    let absent : ltb (word (a .request .now) 1) (a .t2 .«stream_count») ≡ false = rw (← (at-number32 .number32 .ensures))
+    let absent : ltb (word (a .request .now) 1) (a .t3 .«stream_count») ≡ false = rw (← (at-number32 .number32 .ensures))
     (found-absent _ _ (sym (at-find .find .ensures) ∙ at-enum-told .enum-told .given .1)) in
-    rw (command-absent (a .t2) (start .pre) (a .asked) (a .request .now) absent)
-    (serves-same (a .pending) (a .t2) _ _ _ _ (start .pre) (at-answer .answer .ensures))
+    rw (command-absent (a .t3) (start .pre) (a .asked) (a .request .now) absent)
+    (serves-same _ (a .pending) (a .t3) _ _ _ _ (start .pre) (at-answer .answer .ensures))
 
 mul-stream : tie.Need-mul-stream
 mul-stream c =
     let back6 = c .before .before .before .before .before .before in
-    let start = back6 .before in
+    let back7 = back6 .before in
+    let start = back7 .before in
     omega (arith, inside c, start .pre .streams)
 
 element-copy-out-stream : tie.Need-element-copy-out-stream
 element-copy-out-stream c =
     let back6 = c .before .before .before .before .before .before in
-    let start = back6 .before in
+    let back7 = back6 .before in
+    let start = back7 .before in
     omega (arith, inside c, start .pre .streams)
 
 lifecycle-requires : tie.Need-lifecycle-requires
@@ -111,22 +113,22 @@ returns-2 c =
     let at-enum-told2 = at-answer2 .before .before in
     let at-lifecycle = at-enum-told2 .before .before in
     let at-known-told = at-lifecycle .before .before in
-    let back14 = at-known-told .before .before .before .before .before .before in
-    let start = back14 .before in
+    let back15 = at-known-told .before .before .before .before .before .before .before in
+    let start = back15 .before in
     let a = start .args in
-    let unlawful : transition (a .asked) (getD (a .t2 .streams) (word (a .request .now) 1) noStream .state) ≡ none = rw (← (the-stream at-known-told))
-    (led-nowhere (transition (a .asked) (getD (a .t2 .streams) (at-known-told .before .i .given .0 .0) noStream .state))
+    let unlawful : transition (a .asked) (getD (a .t3 .streams) (word (a .request .now) 1) noStream .state) ≡ none = rw (← (the-stream at-known-told))
+    (led-nowhere (transition (a .asked) (getD (a .t3 .streams) (at-known-told .before .i .given .0 .0) noStream .state))
     (sym (at-lifecycle .lifecycle .ensures .0) ∙ at-enum-told2 .enum-told2 .given .1)) in
-    rw (command-led (a .t2) (start .pre) (a .asked) (a .request .now) (there at-known-told) none unlawful)
-    (serves-same (a .pending) (a .t2) _ _ _ _ (start .pre) (at-answer2 .answer2 .ensures))
+    rw (command-led (a .t3) (start .pre) (a .asked) (a .request .now) (there at-known-told) none unlawful)
+    (serves-same _ (a .pending) (a .t3) _ _ _ _ (start .pre) (at-answer2 .answer2 .ensures))
 
 obey-requires : tie.Need-obey-requires
 obey-requires c κs =
     let at-state = c .before .before in
     let at-lifecycle = at-state .before .before in
     let at-known-told = at-lifecycle .before .before in
-    let back12 = at-known-told .before .before .before .before .before .before in
-    let start = back12 .before in
+    let back13 = at-known-told .before .before .before .before .before .before .before in
+    let start = back13 .before in
     (start .pre, inside at-known-told, rw (at-state .state .given .1) at (at-lifecycle .lifecycle .ensures .1))
 
 same-length-3 : tie.Need-same-length-3
@@ -138,14 +140,14 @@ returns-3 c =
     let at-state = at-obey .before .before .before in
     let at-lifecycle = at-state .before .before in
     let at-known-told = at-lifecycle .before .before in
-    let back15 = at-known-told .before .before .before .before .before .before in
-    let start = back15 .before in
+    let back16 = at-known-told .before .before .before .before .before .before .before in
+    let start = back16 .before in
     let a = start .args in
     let state = at-state .state .given .0 .0 in
-    let lawful : transition (a .asked) (getD (a .t2 .streams) (word (a .request .now) 1) noStream .state) ≡ some state = rw (← (the-stream at-known-told))
-    (led-to (transition (a .asked) (getD (a .t2 .streams) (at-known-told .before .i .given .0 .0) noStream .state)) state
+    let lawful : transition (a .asked) (getD (a .t3 .streams) (word (a .request .now) 1) noStream .state) ≡ some state = rw (← (the-stream at-known-told))
+    (led-to (transition (a .asked) (getD (a .t3 .streams) (at-known-told .before .i .given .0 .0) noStream .state)) state
     (sym (at-lifecycle .lifecycle .ensures .0) ∙ at-state .state .given .1)) in
-    rw (command-led (a .t2) (start .pre) (a .asked) (a .request .now) (there at-known-told) (some state) lawful, ← (the-stream at-known-told))
+    rw (command-led (a .t3) (start .pre) (a .asked) (a .request .now) (there at-known-told) (some state) lawful, ← (the-stream at-known-told))
     (at-obey .obey .ensures)
 
 pub command-spec : {M : Type 1} → statement M

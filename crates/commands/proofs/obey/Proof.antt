@@ -32,9 +32,6 @@ move-stream-requires-3 c κs = search needs
 enum-told-5 : tie.Need-enum-told-5
 enum-told-5 c = search needs
 
-cast-t17 : tie.Need-cast-t17
-cast-t17 c = search needs
-
 same-length : tie.Need-same-length
 same-length c = search needs
 
@@ -73,8 +70,11 @@ returns-4 c =
 
 returns-5 : tie.Need-returns-5
 returns-5 c =
-    let start = c .before .before .before .before in
+    let start = c .before .before .before .before .before in
     rw (c .enum-told5 .given .1) (record { whole = refl; stand = omega arith; fit = start .pre .0 })
+
+cast-t18 : tie.Need-cast-t18
+cast-t18 c = omega arith
 
 pub obey-spec : {M : Type 1} → statement M
 obey-spec =
@@ -89,7 +89,7 @@ obey-spec =
     enum-told-4
     move-stream-requires-3
     enum-told-5
-    cast-t17
+    cast-t18
     same-length
     returns
     same-length-2

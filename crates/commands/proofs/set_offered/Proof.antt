@@ -12,68 +12,69 @@ use Rattle.commands.proofs.set_offered.Statement.{statement}
 use Rattle.commands.proofs.set_offered.Tie as tie
 
 buffers : (c : tie.After-enum-told) →
-    let start = c .before .before .before .before .before .before in
+    let start = c .before .before .before .before .before .before .before in
     bufferOffered (start .args .p) ≡ true
 buffers c =
-    let start = c .before .before .before .before .before .before in
+    let back6 = c .before .before .before .before .before .before in
+    let start = back6 .before in
     check-passed (bufferOffered (start .args .p))
     (sym (c .before .before .is-buffer-offered .ensures) ∙ c .enum-told .given .1)
 
 features : (c : tie.After-enum-told3) →
     let back6 = c .before .before .before .before .before .before in
-    let start = back6 .before .before .before in
-    featuresOffered (getD (start .args .t2 .streams) (start .args .i) noStream .info) (start .args .p) ≡ true
+    let start = back6 .before .before .before .before in
+    featuresOffered (getD (start .args .t3 .streams) (start .args .i) noStream .info) (start .args .p) ≡ true
 features c =
     let back6 = c .before .before .before .before .before .before in
-    let start = back6 .before .before .before in
-    check-passed (featuresOffered (getD (start .args .t2 .streams) (start .args .i) noStream .info) (start .args .p))
+    let start = back6 .before .before .before .before in
+    check-passed (featuresOffered (getD (start .args .t3 .streams) (start .args .i) noStream .info) (start .args .p))
     (sym (c .before .before .are-features-offered .ensures) ∙ c .enum-told3 .given .1)
 
 channels : (c : tie.After-enum-told5) →
     let back6 = c .before .before .before .before .before .before in
-    let start = back6 .before .before .before .before .before .before in
-    channelsOffered (getD (start .args .t2 .streams) (start .args .i) noStream .info) (start .args .p) ≡ true
+    let start = back6 .before .before .before .before .before .before .before in
+    channelsOffered (getD (start .args .t3 .streams) (start .args .i) noStream .info) (start .args .p) ≡ true
 channels c =
     let back6 = c .before .before .before .before .before .before in
-    let start = back6 .before .before .before .before .before .before in
-    check-passed (channelsOffered (getD (start .args .t2 .streams) (start .args .i) noStream .info) (start .args .p))
+    let start = back6 .before .before .before .before .before .before .before in
+    check-passed (channelsOffered (getD (start .args .t3 .streams) (start .args .i) noStream .info) (start .args .p))
     (sym (c .before .before .are-channels-offered .ensures) ∙ c .enum-told5 .given .1)
 
 formats : (c : tie.After-enum-told7) →
     let back6 = c .before .before .before .before .before .before in
     let back12 = back6 .before .before .before .before .before .before in
-    let start = back12 .before .before .before in
-    formatOffered (getD (start .args .t2 .streams) (start .args .i) noStream .info) (start .args .p) ≡ true
+    let start = back12 .before .before .before .before in
+    formatOffered (getD (start .args .t3 .streams) (start .args .i) noStream .info) (start .args .p) ≡ true
 formats c =
     let back6 = c .before .before .before .before .before .before in
     let back12 = back6 .before .before .before .before .before .before in
-    let start = back12 .before .before .before in
-    check-passed (formatOffered (getD (start .args .t2 .streams) (start .args .i) noStream .info) (start .args .p))
+    let start = back12 .before .before .before .before in
+    check-passed (formatOffered (getD (start .args .t3 .streams) (start .args .i) noStream .info) (start .args .p))
     (sym (c .before .before .is-format-offered .ensures) ∙ c .enum-told7 .given .1)
 
 rates : (c : tie.After-enum-told9) →
     let back6 = c .before .before .before .before .before .before in
     let back12 = back6 .before .before .before .before .before .before in
-    let start = back12 .before .before .before .before .before .before in
-    rateOffered (getD (start .args .t2 .streams) (start .args .i) noStream .info) (start .args .p) ≡ true
+    let start = back12 .before .before .before .before .before .before .before in
+    rateOffered (getD (start .args .t3 .streams) (start .args .i) noStream .info) (start .args .p) ≡ true
 rates c =
     let back6 = c .before .before .before .before .before .before in
     let back12 = back6 .before .before .before .before .before .before in
-    let start = back12 .before .before .before .before .before .before in
-    check-passed (rateOffered (getD (start .args .t2 .streams) (start .args .i) noStream .info) (start .args .p))
+    let start = back12 .before .before .before .before .before .before .before in
+    check-passed (rateOffered (getD (start .args .t3 .streams) (start .args .i) noStream .info) (start .args .p))
     (sym (c .before .before .is-rate-offered .ensures) ∙ c .enum-told9 .given .1)
 
 frames : (c : tie.After-enum-told11) →
     let back6 = c .before .before .before .before .before .before in
     let back12 = back6 .before .before .before .before .before .before in
     let back18 = back12 .before .before .before .before .before .before in
-    let start = back18 .before .before .before in
+    let start = back18 .before .before .before .before in
     framed (start .args .p) ≡ true
 frames c =
     let back6 = c .before .before .before .before .before .before in
     let back12 = back6 .before .before .before .before .before .before in
     let back18 = back12 .before .before .before .before .before .before in
-    let start = back18 .before .before .before in
+    let start = back18 .before .before .before .before in
     check-passed (framed (start .args .p))
     (sym (c .before .before .is-framed .ensures) ∙ c .enum-told11 .given .1)
 
@@ -103,14 +104,14 @@ returns c =
     let at-answer = c .before .before in
     let at-enum-told2 = at-answer .before .before in
     let at-is-buffer-offered = at-enum-told2 .before .before in
-    let start = at-is-buffer-offered .before .before .before .before in
+    let start = at-is-buffer-offered .before .before .before .before .before in
     let a = start .args in
     rw (
-      stream-at (a .t2) (a .i) (start .pre .1),
+      stream-at (a .t3) (a .i) (start .pre .1),
       check-failed (bufferOffered (start .args .p))
           (sym (at-is-buffer-offered .is-buffer-offered .ensures) ∙ at-enum-told2 .enum-told2 .given .1),
     )
-    (serves-same (a .pending) (a .t2) _ _ _ _ (start .pre .0) (at-answer .answer .ensures))
+    (serves-same _ (a .pending) (a .t3) _ _ _ _ (start .pre .0) (at-answer .answer .ensures))
 
 are-features-offered-requires : tie.Need-are-features-offered-requires
 are-features-offered-requires c κs = search needs
@@ -133,15 +134,15 @@ returns-2 c =
     let at-enum-told4 = at-answer2 .before .before in
     let at-are-features-offered = at-enum-told4 .before .before in
     let at-enum-told = at-are-features-offered .before in
-    let start = at-enum-told .before .before .before .before .before .before in
+    let start = at-enum-told .before .before .before .before .before .before .before in
     let a = start .args in
     rw (
-      stream-at (a .t2) (a .i) (start .pre .1),
+      stream-at (a .t3) (a .i) (start .pre .1),
       buffers at-enum-told,
-      check-failed (featuresOffered (getD (start .args .t2 .streams) (start .args .i) noStream .info) (start .args .p))
+      check-failed (featuresOffered (getD (start .args .t3 .streams) (start .args .i) noStream .info) (start .args .p))
           (sym (at-are-features-offered .are-features-offered .ensures) ∙ at-enum-told4 .enum-told4 .given .1),
     )
-    (serves-same (a .pending) (a .t2) _ _ _ _ (start .pre .0) (at-answer2 .answer2 .ensures))
+    (serves-same _ (a .pending) (a .t3) _ _ _ _ (start .pre .0) (at-answer2 .answer2 .ensures))
 
 are-channels-offered-requires : tie.Need-are-channels-offered-requires
 are-channels-offered-requires c κs = search needs
@@ -165,16 +166,16 @@ returns-3 c =
     let at-are-channels-offered = at-enum-told6 .before .before in
     let at-enum-told3 = at-are-channels-offered .before in
     let at-enum-told = at-enum-told3 .before .before .before in
-    let start = at-enum-told .before .before .before .before .before .before in
+    let start = at-enum-told .before .before .before .before .before .before .before in
     let a = start .args in
     rw (
-      stream-at (a .t2) (a .i) (start .pre .1),
+      stream-at (a .t3) (a .i) (start .pre .1),
       buffers at-enum-told,
       features at-enum-told3,
-      check-failed (channelsOffered (getD (start .args .t2 .streams) (start .args .i) noStream .info) (start .args .p))
+      check-failed (channelsOffered (getD (start .args .t3 .streams) (start .args .i) noStream .info) (start .args .p))
           (sym (at-are-channels-offered .are-channels-offered .ensures) ∙ at-enum-told6 .enum-told6 .given .1),
     )
-    (serves-same (a .pending) (a .t2) _ _ _ _ (start .pre .0) (at-answer3 .answer3 .ensures))
+    (serves-same _ (a .pending) (a .t3) _ _ _ _ (start .pre .0) (at-answer3 .answer3 .ensures))
 
 is-format-offered-requires : tie.Need-is-format-offered-requires
 is-format-offered-requires c κs = search needs
@@ -199,17 +200,17 @@ returns-4 c =
     let at-enum-told5 = at-is-format-offered .before in
     let at-enum-told3 = at-enum-told5 .before .before .before in
     let at-enum-told = at-enum-told3 .before .before .before in
-    let start = at-enum-told .before .before .before .before .before .before in
+    let start = at-enum-told .before .before .before .before .before .before .before in
     let a = start .args in
     rw (
-      stream-at (a .t2) (a .i) (start .pre .1),
+      stream-at (a .t3) (a .i) (start .pre .1),
       buffers at-enum-told,
       features at-enum-told3,
       channels at-enum-told5,
-      check-failed (formatOffered (getD (start .args .t2 .streams) (start .args .i) noStream .info) (start .args .p))
+      check-failed (formatOffered (getD (start .args .t3 .streams) (start .args .i) noStream .info) (start .args .p))
           (sym (at-is-format-offered .is-format-offered .ensures) ∙ at-enum-told8 .enum-told8 .given .1),
     )
-    (serves-same (a .pending) (a .t2) _ _ _ _ (start .pre .0) (at-answer4 .answer4 .ensures))
+    (serves-same _ (a .pending) (a .t3) _ _ _ _ (start .pre .0) (at-answer4 .answer4 .ensures))
 
 is-rate-offered-requires : tie.Need-is-rate-offered-requires
 is-rate-offered-requires c κs = search needs
@@ -235,18 +236,18 @@ returns-5 c =
     let at-enum-told5 = at-enum-told7 .before .before .before in
     let at-enum-told3 = at-enum-told5 .before .before .before in
     let at-enum-told = at-enum-told3 .before .before .before in
-    let start = at-enum-told .before .before .before .before .before .before in
+    let start = at-enum-told .before .before .before .before .before .before .before in
     let a = start .args in
     rw (
-      stream-at (a .t2) (a .i) (start .pre .1),
+      stream-at (a .t3) (a .i) (start .pre .1),
       buffers at-enum-told,
       features at-enum-told3,
       channels at-enum-told5,
       formats at-enum-told7,
-      check-failed (rateOffered (getD (start .args .t2 .streams) (start .args .i) noStream .info) (start .args .p))
+      check-failed (rateOffered (getD (start .args .t3 .streams) (start .args .i) noStream .info) (start .args .p))
           (sym (at-is-rate-offered .is-rate-offered .ensures) ∙ at-enum-told10 .enum-told10 .given .1),
     )
-    (serves-same (a .pending) (a .t2) _ _ _ _ (start .pre .0) (at-answer5 .answer5 .ensures))
+    (serves-same _ (a .pending) (a .t3) _ _ _ _ (start .pre .0) (at-answer5 .answer5 .ensures))
 
 is-framed-requires : tie.Need-is-framed-requires
 is-framed-requires c κs = search needs
@@ -273,10 +274,10 @@ returns-6 c =
     let at-enum-told5 = at-enum-told7 .before .before .before in
     let at-enum-told3 = at-enum-told5 .before .before .before in
     let at-enum-told = at-enum-told3 .before .before .before in
-    let start = at-enum-told .before .before .before .before .before .before in
+    let start = at-enum-told .before .before .before .before .before .before .before in
     let a = start .args in
     rw (
-      stream-at (a .t2) (a .i) (start .pre .1),
+      stream-at (a .t3) (a .i) (start .pre .1),
       buffers at-enum-told,
       features at-enum-told3,
       channels at-enum-told5,
@@ -285,14 +286,14 @@ returns-6 c =
       check-failed (framed (start .args .p))
           (sym (at-is-framed .is-framed .ensures) ∙ at-enum-told12 .enum-told12 .given .1),
     )
-    (serves-same (a .pending) (a .t2) _ _ _ _ (start .pre .0) (at-answer6 .answer6 .ensures))
+    (serves-same _ (a .pending) (a .t3) _ _ _ _ (start .pre .0) (at-answer6 .answer6 .ensures))
 
 with-stream-requires : tie.Need-with-stream-requires
 with-stream-requires c κs =
     let back6 = c .before .before .before .before .before .before in
     let back12 = back6 .before .before .before .before .before .before in
     let back18 = back12 .before .before .before .before .before .before in
-    let start = back18 .before .before .before .before in
+    let start = back18 .before .before .before .before .before in
     omega (arith, start .pre .1, start .pre .0 .streams)
 
 answer-requires-7 : tie.Need-answer-requires-7
@@ -311,10 +312,10 @@ returns-7 c =
     let at-enum-told5 = at-enum-told7 .before .before .before in
     let at-enum-told3 = at-enum-told5 .before .before .before in
     let at-enum-told = at-enum-told3 .before .before .before in
-    let start = at-enum-told .before .before .before .before .before .before in
+    let start = at-enum-told .before .before .before .before .before .before .before in
     let a = start .args in
     rw (
-      stream-at (a .t2) (a .i) (start .pre .1),
+      stream-at (a .t3) (a .i) (start .pre .1),
       buffers at-enum-told,
       features at-enum-told3,
       channels at-enum-told5,
@@ -322,7 +323,7 @@ returns-7 c =
       rates at-enum-told9,
       frames at-enum-told11,
     )
-    (serves-stream (a .pending) (a .t2) _ _ _ (a .i) _ _ (start .pre .0) (start .pre .1) (start .pre .2)
+    (serves-stream _ (a .pending) (a .t3) _ _ _ (a .i) _ _ (start .pre .0) (start .pre .1) (start .pre .2)
     (at-answer7 .answer7 .ensures ∙ rw (at-with-stream .with-stream .ensures)))
 
 pub set-offered-spec : {M : Type 1} → statement M

@@ -11,8 +11,8 @@ use Rattle.commands.proofs.set_params.Statement.{statement}
 use Rattle.commands.proofs.set_params.Tie as tie
 
 unpadding : (c : tie.After-enum-told) →
-    let back6 = c .before .before .before .before .before .before in
-    let start = back6 .before in
+    let back7 = c .before .before .before .before .before .before .before in
+    let start = back7 .before in
     unpadded (le 1 (start .args .request .now) 23) ≡ true
 unpadding c =
     let at-is-unpadded = c .before .before in
@@ -28,7 +28,7 @@ sizes c = check-passed _ (sym (c .before .before .is-sized .ensures) ∙ c .enum
 
 sizes-asked : (c : tie.After-enum-told3) →
     let back6 = c .before .before .before .before .before .before in
-    let start = back6 .before .before .before .before in
+    let start = back6 .before .before .before .before .before in
     sized (paramsOf (start .args .request .now)) ≡ true
 sizes-asked c =
     let back6 = c .before .before .before .before .before .before in
@@ -63,12 +63,12 @@ returns c =
     let at-enum-told2 = at-answer .before .before in
     let at-is-unpadded = at-enum-told2 .before .before in
     let at-number8 = at-is-unpadded .before in
-    let start = at-number8 .before .before .before .before in
+    let start = at-number8 .before .before .before .before .before in
     let a = start .args in
     let padded : unpadded (le 1 (a .request .now) 23) ≡ false = rw (← (at-number8 .number8 .ensures))
     (check-failed (unpadded (at-number8 .number8 .result))
     (sym (at-is-unpadded .is-unpadded .ensures) ∙ at-enum-told2 .enum-told2 .given .1)) in
-    rw padded (serves-same (a .pending) (a .parts) _ _ _ _ (start .pre .0) (at-answer .answer .ensures))
+    rw padded (serves-same _ (a .pending) (a .parts) _ _ _ _ (start .pre .0) (at-answer .answer .ensures))
 
 is-sized-requires : tie.Need-is-sized-requires
 is-sized-requires c κs = search needs
@@ -93,15 +93,16 @@ returns-2 c =
     let at-is-sized = at-enum-told4 .before .before in
     let at-enum-told = at-is-sized .before in
     let at-params-in = at-enum-told .before .before .before .before in
-    let start = at-params-in .before .before .before in
+    let start = at-params-in .before .before .before .before in
     let a = start .args in
     let unsized : sized (paramsOf (a .request .now)) ≡ false = rw (at-params-in .params-in .ensures) at
     (check-failed (sized (at-params-in .params-in .result)) (sym (at-is-sized .is-sized .ensures) ∙ at-enum-told4 .enum-told4 .given .1)) in
-    rw (unpadding at-enum-told, unsized) (serves-same (a .pending) (a .parts) _ _ _ _ (start .pre .0) (at-answer2 .answer2 .ensures))
+    rw (unpadding at-enum-told, unsized) (serves-same _ (a .pending) (a .parts) _ _ _ _ (start .pre .0) (at-answer2 .answer2 .ensures))
 
 is-periodic-requires : tie.Need-is-periodic-requires
 is-periodic-requires c κs =
-    let at-params-in = c .before .before .before .before .before .before .before in
+    let back6 = c .before .before .before .before .before .before in
+    let at-params-in = back6 .before in
     sized-period (at-params-in .params-in .result) (sizes c)
 
 enum-told-5 : tie.Need-enum-told-5
@@ -125,13 +126,13 @@ returns-3 c =
     let at-enum-told3 = at-is-periodic .before in
     let at-enum-told = at-enum-told3 .before .before .before in
     let at-params-in = at-enum-told .before .before .before .before in
-    let start = at-params-in .before .before .before in
+    let start = at-params-in .before .before .before .before in
     let a = start .args in
     let broken : periodic (paramsOf (a .request .now)) ≡ false = rw (at-params-in .params-in .ensures) at
     (check-failed (periodic (at-params-in .params-in .result))
     (sym (at-is-periodic .is-periodic .ensures) ∙ at-enum-told6 .enum-told6 .given .1)) in
     rw (unpadding at-enum-told, sizes-asked at-enum-told3, broken)
-    (serves-same (a .pending) (a .parts) _ _ _ _ (start .pre .0) (at-answer3 .answer3 .ensures))
+    (serves-same _ (a .pending) (a .parts) _ _ _ _ (start .pre .0) (at-answer3 .answer3 .ensures))
 
 set-offered-requires : tie.Need-set-offered-requires
 set-offered-requires c κs = search needs
@@ -148,7 +149,7 @@ returns-4 c =
     let at-enum-told3 = at-is-periodic .before in
     let at-enum-told = at-enum-told3 .before .before .before in
     let at-params-in = at-enum-told .before .before .before .before in
-    let start = at-params-in .before .before .before in
+    let start = at-params-in .before .before .before .before in
     let a = start .args in
     let whole : periodic (paramsOf (a .request .now)) ≡ true = rw (at-params-in .params-in .ensures) at
     (check-passed (periodic (at-params-in .params-in .result))
