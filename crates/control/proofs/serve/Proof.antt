@@ -16,20 +16,20 @@ use Rattle.control.proofs.serve.Statement.{statement}
 use Rattle.control.proofs.serve.Tie as tie
 
 code-is : (c : tie.After-number32) →
-    let back6 = c .before .before .before .before .before .before in
-    let start = back6 .before in
-    c .number32 .result ≡ word (bytesAt (start .args .m .now) (places (rangesOf (start .args .request)))) 0
+    let back7 = c .before .before .before .before .before .before .before in
+    let start = back7 .before in
+    c .number32 .result ≡ word (bytesAt (start .args .m .now) (places (rangesOf (start .args .list .now) (start .args .request)))) 0
 code-is c =
     let at-gather = c .before .before .before in
-    let start = at-gather .before .before .before .before in
+    let start = at-gather .before .before .before .before .before in
     c .number32 .ensures
-    ∙ rw (at-gather .gather .ensures) (words-agree (start .args .m .now) (places (rangesOf (start .args .request))) 4 0 (omega arith))
+    ∙ rw (at-gather .gather .ensures) (words-agree (start .args .m .now) (places (rangesOf (start .args .list .now) (start .args .request))) 4 0 (omega arith))
 
 known : (c : tie.After-known-told) →
     let at-asked = c .before in
     let back7 = at-asked .before .before .before .before .before .before in
-    let start = back7 .before .before .before .before in
-    decodedOf (word (bytesAt (start .args .m .now) (places (rangesOf (start .args .request)))) 0) ≡ Known (at-asked .asked .given .0 .0)
+    let start = back7 .before .before .before .before .before in
+    decodedOf (word (bytesAt (start .args .m .now) (places (rangesOf (start .args .list .now) (start .args .request)))) 0) ≡ Known (at-asked .asked .given .0 .0)
 known c =
     let at-asked = c .before in
     let at-decode = at-asked .before .before in
@@ -70,13 +70,13 @@ returns c =
     let at-enum-told = at-answer .before .before in
     let at-decode = at-enum-told .before .before in
     let at-number32 = at-decode .before in
-    let back13 = at-number32 .before .before .before .before .before .before in
-    let start = back13 .before in
+    let back14 = at-number32 .before .before .before .before .before .before .before in
+    let start = back14 .before in
     let a = start .args in
-    let q = bytesAt (start .args .m .now) (places (rangesOf (start .args .request))) in
+    let q = bytesAt (start .args .m .now) (places (rangesOf (start .args .list .now) (start .args .request))) in
     let unknown : decodedOf (word q 0) ≡ Unknown = rw (← (code-is at-number32))
     (sym (at-decode .decode .ensures) ∙ at-enum-told .enum-told .given .1) in
-    rw unknown (serves-same (a .pending) (a .parts) _ _ _ _ (start .pre .0) (at-answer .answer .ensures))
+    rw unknown (serves-same _ (a .pending) (a .parts) _ _ _ _ (start .pre .0) (at-answer .answer .ensures))
 
 is-laid-out-requires : tie.Need-is-laid-out-requires
 is-laid-out-requires c κs = search needs
@@ -101,13 +101,13 @@ returns-2 c =
     let at-is-laid-out = at-enum-told3 .before .before in
     let at-known-told = at-is-laid-out .before in
     let back13 = at-known-told .before .before .before .before .before .before in
-    let start = back13 .before .before .before .before .before in
+    let start = back13 .before .before .before .before .before .before in
     let a = start .args in
-    let q = bytesAt (start .args .m .now) (places (rangesOf (start .args .request))) in
+    let q = bytesAt (start .args .m .now) (places (rangesOf (start .args .list .now) (start .args .request))) in
     let asked = at-known-told .before .asked .given .0 .0 in
-    let short : leb (layoutOf asked) (length q) ≡ false = rw (length-request (a .m .now) (a .request) (start .pre .1))
+    let short : leb (layoutOf asked) (length q) ≡ false = rw (length-request (a .m .now) _ (a .request) (start .pre .1))
     (check-failed _ (sym (at-is-laid-out .is-laid-out .ensures) ∙ at-enum-told3 .enum-told3 .given .1)) in
-    rw (known at-known-told, short) (serves-same (a .pending) (a .parts) _ _ _ _ (start .pre .0) (at-answer2 .answer2 .ensures))
+    rw (known at-known-told, short) (serves-same _ (a .pending) (a .parts) _ _ _ _ (start .pre .0) (at-answer2 .answer2 .ensures))
 
 slice-aggregate-act : tie.Need-slice-aggregate-act
 slice-aggregate-act c = search needs
@@ -127,12 +127,12 @@ returns-3 c =
     let at-known-told = at-is-laid-out .before in
     let back15 = at-known-told .before .before .before .before .before .before in
     let at-gather = back15 .before in
-    let start = at-gather .before .before .before .before in
+    let start = at-gather .before .before .before .before .before in
     let a = start .args in
-    let ps = places (rangesOf (a .request)) in
+    let ps = places (rangesOf (a .list .now) (a .request)) in
     let q = bytesAt (a .m .now) ps in
     let asked = at-known-told .before .asked .given .0 .0 in
-    let long : leb (layoutOf asked) (length q) ≡ true = rw (length-request (a .m .now) (a .request) (start .pre .1))
+    let long : leb (layoutOf asked) (length q) ≡ true = rw (length-request (a .m .now) _ (a .request) (start .pre .1))
     (check-passed _ (sym (at-is-laid-out .is-laid-out .ensures) ∙ at-enum-told2 .enum-told2 .given .1)) in
     rw (
       known at-known-told,
