@@ -31,7 +31,7 @@ use Rattle.rules.proofs.Between.{Counted, Waits}
 use Rattle.flow.specs.Flow.{payloadBytes}
 use Rattle.flow.proofs.Laws.{left-length, not-nil, some-left}
 use Rattle.flow.specs.declared.Flow.{Flow}
-use Rattle.stream.specs.Queue.{withRegisters, withFlow, countersIn, messageIn}
+use Rattle.stream.specs.Queue.{withRegisters, withFlow, countersIn, messageIn, wordsIn}
 
 pub signal-fit : (b : Bool) (g : Registers) → FitRegisters g → FitRegisters (signalledIf b g)
 signal-fit true g f = signalled-fit g f
@@ -50,50 +50,51 @@ broken-card-fit c f = with-registers-fit c (broken (c .registers)) f (broken-fit
 -- ---- a stream's queue
 
 -- fit, with these counters and this message
-abbrev pub FitIn : rules.Direction → ℕ → Counters → Message → Type 0
-FitIn d len q m = FitQueue (sizeOf (rules.queueNumber d)) (payloadBytes d m) len q m
+abbrev pub FitIn : rules.Direction → ℕ → List ℕ → Counters → Message → Type 0
+FitIn d len ws q m = FitQueue (sizeOf (rules.queueNumber d)) (payloadBytes d m) len ws q m
 
 -- that of either direction is fit
-pub queue-fit : (c : Card) (d : Direction) → Fit c → FitIn (directionOf d) (c .«ram_len») (countersIn c d) (messageIn c d)
+pub queue-fit : (c : Card) (d : Direction) → Fit c → FitIn (directionOf d) (c .«ram_len») (wordsIn c d) (countersIn c d) (messageIn c d)
 queue-fit c Output f = f .play
 queue-fit c Input f = f .capture
 
-pub message-fit : (c : Card) (d : Direction) → Fit c → FitMessage (c .«ram_len») (messageIn c d)
+pub message-fit : (c : Card) (d : Direction) → Fit c → FitMessage (c .«ram_len») (wordsIn c d) (messageIn c d)
 message-fit c d f = queue-fit c d f .message
 
 pub waits-same : (d : rules.Direction) (a b : rules.Queue) → a ≡ b → Waits d b → Waits d a
 waits-same d a b e w = rw e w
 
 -- what holds of it in the rules, and the other way round
-module _ (d : rules.Direction) (len : ℕ) (q : Counters) (m : Message) where
+module _ (d : rules.Direction) (len : ℕ) (ws : List ℕ) (q : Counters) (m : Message) where
   abbrev left : List ℕ
-  left = drop (m .done) (payloadOf d (takingIn m))
+  left = drop (m .done) (payloadOf d (takingIn ws m))
 
-  counted-by : (n : ℕ) → m .count ≡ n → FitIn d len q m → Counted (sizeOf (rules.queueNumber d)) (queueOf q m)
+  counted-by : (n : ℕ) → m .count ≡ n → FitIn d len ws q m → Counted (sizeOf (rules.queueNumber d)) (queueOf ws q m)
   counted-by zero e f = rw e (record { wraps = f .wraps; balanced = rw e at (f .balanced); head = λ h. absurd (true≢false h) })
   counted-by (suc zero) e f =
       rw e (record { wraps = f .wraps; balanced = rw e at (f .balanced); head = λ h. f .head (omega arith) })
   counted-by (suc (suc n)) e f = absurd (omega (arith, f .message .one))
 
-  pub counted-of : FitIn d len q m → Counted (sizeOf (rules.queueNumber d)) (queueOf q m)
+  pub counted-of : FitIn d len ws q m → Counted (sizeOf (rules.queueNumber d)) (queueOf ws q m)
   counted-of f = counted-by (m .count) refl f
 
-  waits-by : (n : ℕ) → m .count ≡ n → FitIn d len q m → Waits d (queueOf q m)
+  waits-by : (n : ℕ) → m .count ≡ n → FitIn d len ws q m → Waits d (queueOf ws q m)
   waits-by zero e f = rw e (λ h. absurd (true≢false h))
   waits-by (suc zero) e f =
       let w = f .waits (omega arith) in
-      let l : length left ≡ payloadBytes d m - m .done = left-length d m (f .message .request) (f .message .reply) in
+      let l : length left ≡ payloadBytes d m - m .done = left-length d ws m (f .message .request) (f .message .reply) in
       rw e (λ h. not-nil left (omega arith))
   waits-by (suc (suc n)) e f = absurd (omega (arith, f .message .one))
 
-  pub waits-of : FitIn d len q m → Waits d (queueOf q m)
+  pub waits-of : FitIn d len ws q m → Waits d (queueOf ws q m)
   waits-of f = waits-by (m .count) refl f
 
-  module _ (g : FitMessage len m) (k : Counted (sizeOf (rules.queueNumber d)) (queueOf q m)) (w : Waits d (queueOf q m)) where
-    fit-by : (n : ℕ) → m .count ≡ n → FitIn d len q m
+  module _ (g : FitMessage len ws m) (room : length ws ≡ 68) (k : Counted (sizeOf (rules.queueNumber d)) (queueOf ws q m)) (w : Waits d (queueOf ws q m)) where
+    fit-by : (n : ℕ) → m .count ≡ n → FitIn d len ws q m
     fit-by zero e =
         record {
           message = g;
+          room = room;
           wraps = k .wraps;
           balanced = rw e (rw e at (k .balanced));
           head = λ h. absurd (omega arith);
@@ -101,11 +102,12 @@ module _ (d : rules.Direction) (len : ℕ) (q : Counters) (m : Message) where
         }
     fit-by (suc zero) e =
         let one : eqb (m .count) 0 ≡ false = rw e in
-        let l : length left ≡ payloadBytes d m - m .done = left-length d m (g .request) (g .reply) in
-        let head : takingIn m .head < sizeOf (rules.queueNumber d) = rw one at (k .head) refl in
+        let l : length left ≡ payloadBytes d m - m .done = left-length d ws m (g .request) (g .reply) in
+        let head : takingIn ws m .head < sizeOf (rules.queueNumber d) = rw one at (k .head) refl in
         let some : 0 < length left = some-left left (rw one at w refl) in
         record {
           message = g;
+          room = room;
           wraps = k .wraps;
           balanced = rw e (rw one at (k .balanced));
           head = λ h. head;
@@ -113,14 +115,14 @@ module _ (d : rules.Direction) (len : ℕ) (q : Counters) (m : Message) where
         }
     fit-by (suc (suc n)) e = absurd (omega (arith, g .one))
 
-    pub fit-of : FitIn d len q m
+    pub fit-of : FitIn d len ws q m
     fit-of = fit-by (m .count) refl
 
-pub with-flow-fit : (d : Direction) (g : Flow) (c : Card)
+pub with-flow-fit : (d : Direction) (g : Flow) (ws : List ℕ) (c : Card)
     → Fit c
-    → FitIn (directionOf d) (c .«ram_len») (g .counters) (g .message)
-    → Fit (withFlow d g c)
-with-flow-fit Output g c f h =
+    → FitIn (directionOf d) (c .«ram_len») ws (g .counters) (g .message)
+    → Fit (withFlow d g ws c)
+with-flow-fit Output g ws c f h =
     record {
       registers = f .registers;
       parts = f .parts;
@@ -128,7 +130,7 @@ with-flow-fit Output g c f h =
       play = rw (getD-set-same (c .queues) 2 (g .counters) noCounters (omega (arith, f .four))) h;
       capture = rw (getD-set-other (c .queues) 2 3 (g .counters) noCounters (λ e. omega arith)) (f .capture);
     }
-with-flow-fit Input g c f h =
+with-flow-fit Input g ws c f h =
     record {
       registers = f .registers;
       parts = f .parts;

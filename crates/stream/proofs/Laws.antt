@@ -22,7 +22,7 @@ use Rattle.rules.specs.Device as rules
 use Rattle.rules.specs.Transfer.{begun, found}
 use Rattle.flow.specs.Flow.{runOf, freshFlow}
 use Rattle.flow.specs.declared.Flow.{Flow}
-use Rattle.stream.specs.Queue.{queueIn, countersIn, messageIn, withFlow}
+use Rattle.stream.specs.Queue.{queueIn, countersIn, messageIn, wordsIn, withFlow}
 
 -- ---- where it is
 
@@ -32,7 +32,7 @@ unfolding restOf
 virtqueue-in c d latency = refl
 
 -- the rules' queue is the card's counters and message
-pub queue-in : (c : Card) (d : Direction) → rules.queueFor (directionOf d) (deviceOf c) ≡ queueOf (countersIn c d) (messageIn c d)
+pub queue-in : (c : Card) (d : Direction) → rules.queueFor (directionOf d) (deviceOf c) ≡ queueOf (wordsIn c d) (countersIn c d) (messageIn c d)
 unfolding deviceOf restOf
 queue-in c Output = refl
 queue-in c Input = refl
@@ -40,25 +40,27 @@ queue-in c Input = refl
 -- ---- the queue check
 
 -- a count of at most one is what the rules count in work
-in-work : (n : ℕ) (message : Message) → message .count ≡ n → n ≤ 1 → cond (isNone (messageOf message)) 0 1 ≡ n
-in-work zero message e h = rw e
-in-work (suc zero) message e h = rw e
-in-work (suc (suc n)) message e h = absurd (omega arith)
+in-work : (n : ℕ) (ws : List ℕ) (message : Message) → message .count ≡ n → n ≤ 1 → cond (isNone (messageOf ws message)) 0 1 ≡ n
+in-work zero ws message e h = rw e
+in-work (suc zero) ws message e h = rw e
+in-work (suc (suc n)) ws message e h = absurd (omega arith)
 
-pub found-check : (v : rules.Virtqueue) (m : List ℕ) (c : Counters) (message : Message) → message .count ≤ 1
-    → found (countersOf (v .direction)) v (queueOf c message) m ≡ checkOf m (v .page) (rules.queueSize v) (c .taken) (message .count)
-found-check v m c message h = rw (in-work (message .count) message refl h)
+pub found-check : (v : rules.Virtqueue) (ws m : List ℕ) (c : Counters) (message : Message) → message .count ≤ 1
+    → found (countersOf (v .direction)) v (queueOf ws c message) m ≡ checkOf m (v .page) (rules.queueSize v) (c .taken) (message .count)
+found-check v ws m c message h = rw (in-work (message .count) ws message refl h)
 
 -- ---- a flow on it
 
 -- a flow that begins is a run that begins
-pub fresh-run : (c : Counters) (message : Message) (m host : List ℕ) → runOf (freshFlow c message) m host ≡ begun (queueOf c message) m host
+pub fresh-run : (ws : List ℕ) (c : Counters) (message : Message) (m host : List ℕ)
+    → runOf ws (freshFlow c message) m host ≡ begun (queueOf ws c message) m host
 unfolding runOf
-fresh-run c message m host = rw sub-zero
+fresh-run ws c message m host = rw sub-zero
 
 -- a card after a flow stands for the device with another queue
-module _ (c : Card) (f : Flow) (four : length (c .queues) ≡ 4) where
-  pub flowed-device : (d : Direction) → deviceOf (withFlow d f c) ≡ rules.withQueue (directionOf d) (restOf c) (queueOf (f .counters) (f .message)) (deviceOf c)
+module _ (c : Card) (f : Flow) (ws : List ℕ) (four : length (c .queues) ≡ 4) where
+  pub flowed-device : (d : Direction)
+      → deviceOf (withFlow d f ws c) ≡ rules.withQueue (directionOf d) (restOf c) (queueOf ws (f .counters) (f .message)) (deviceOf c)
   unfolding deviceOf restOf
   flowed-device Output =
       rw (

@@ -20,16 +20,16 @@ use Rattle.rules.specs.Device as rules
 use Rattle.rules.specs.Transfer.{Run, begun, found, releaseRun}
 use Rattle.flow.specs.Flow.{runOf, freshFlow, Steps}
 use Rattle.flow.specs.declared.Flow.{Flow}
-use Rattle.stream.specs.Queue.{countersIn, messageIn, withFlow, Empties}
+use Rattle.stream.specs.Queue.{countersIn, messageIn, wordsIn, withFlow, Empties}
 use Rattle.rules.proofs.Between.{release-kept, release-none}
 use Rattle.stream.proofs.Fits.{FitIn, queue-fit, message-fit, counted-of, fit-of, waits-same, with-flow-fit}
 use Rattle.stream.proofs.Laws.{queue-in, found-check, fresh-run, flowed-device, with-own-queue, queue-for-with}
 
 -- a flow changes its queue alone
-kept : (d : Direction) (g : Flow) (c : Card)
-    → (withFlow d g c .«ram_len» ≡ c .«ram_len») × (withFlow d g c .registers ≡ c .registers) × (withFlow d g c .parts ≡ c .parts)
-kept Output g c = (refl, refl, refl)
-kept Input g c = (refl, refl, refl)
+kept : (d : Direction) (g : Flow) (ws : List ℕ) (c : Card)
+    → (withFlow d g ws c .«ram_len» ≡ c .«ram_len») × (withFlow d g ws c .registers ≡ c .registers) × (withFlow d g ws c .parts ≡ c .parts)
+kept Output g ws c = (refl, refl, refl)
+kept Input g ws c = (refl, refl, refl)
 
 module _ (c : Card) (d : Direction) (latency : ℕ) (m : List ℕ) (f : Fit c) where
   abbrev way : rules.Direction
@@ -45,7 +45,7 @@ module _ (c : Card) (d : Direction) (latency : ℕ) (m : List ℕ) (f : Fit c) w
   checked = checkOf m (lies .page) (rules.queueSize lies) (countersIn c d .taken) (messageIn c d .count)
 
   found-in : found (countersOf way) lies own m ≡ checked
-  found-in = rw (queue-in c d) (found-check lies m (countersIn c d) (messageIn c d) (message-fit c d f .one))
+  found-in = rw (queue-in c d) (found-check lies (wordsIn c d) m (countersIn c d) (messageIn c d) (message-fit c d f .one))
 
   -- the queue's check decides
   by-check : (k : Check) → checked ≡ k → emptied (countersOf way) lies own m ≡ emptiedFound (countersOf way) lies own m k
@@ -81,32 +81,33 @@ module _ (c : Card) (d : Direction) (latency : ℕ) (m : List ℕ) (f : Fit c) w
         long = refl;
       }
 
-  module _ (n : ℕ) (h : checked ≡ Check.New n) (long : length m ≡ c .«ram_len») (m′ : List ℕ) (g : Flow)
-      (s : Steps (releaseRun (countersOf way) lies n) m (freshFlow (countersIn c d) (messageIn c d)) m′ g) where
-    queue-after : rules.queueFor way (deviceOf (withFlow d g c)) ≡ queueOf (g .counters) (g .message)
+  module _ (n : ℕ) (h : checked ≡ Check.New n) (long : length m ≡ c .«ram_len») (ws′ m′ : List ℕ) (g : Flow)
+      (s : Steps (releaseRun (countersOf way) lies n) (wordsIn c d) m (freshFlow (countersIn c d) (messageIn c d)) ws′ m′ g)
+      (room : length ws′ ≡ 68) where
+    queue-after : rules.queueFor way (deviceOf (withFlow d g ws′ c)) ≡ queueOf ws′ (g .counters) (g .message)
     queue-after =
-        ap (rules.queueFor way) (flowed-device c g (f .four) d)
-        ∙ queue-for-with way (restOf c) (queueOf (g .counters) (g .message)) (deviceOf c)
+        ap (rules.queueFor way) (flowed-device c g ws′ (f .four) d)
+        ∙ queue-for-with way (restOf c) (queueOf ws′ (g .counters) (g .message)) (deviceOf c)
 
-    began : begun own m [] ≡ runOf (freshFlow (countersIn c d) (messageIn c d)) m []
-    began = rw (queue-in c d) (sym (fresh-run (countersIn c d) (messageIn c d) m []))
+    began : begun own m [] ≡ runOf (wordsIn c d) (freshFlow (countersIn c d) (messageIn c d)) m []
+    began = rw (queue-in c d) (sym (fresh-run (wordsIn c d) (countersIn c d) (messageIn c d) m []))
 
     -- the queue that the flow left is the rules'
-    left-queue : queueOf (g .counters) (g .message)
-        ≡ releaseRun (countersOf way) lies n (runOf (freshFlow (countersIn c d) (messageIn c d)) m []) .queue
+    left-queue : queueOf ws′ (g .counters) (g .message)
+        ≡ releaseRun (countersOf way) lies n (runOf (wordsIn c d) (freshFlow (countersIn c d) (messageIn c d)) m []) .queue
     unfolding runOf
     left-queue = ap (λ (r : Run rules.Queue). r .queue) (s .run [])
 
-    flow-fit : FitIn way (c .«ram_len») (g .counters) (g .message)
+    flow-fit : FitIn way (c .«ram_len») ws′ (g .counters) (g .message)
     unfolding runOf
     flow-fit =
-        let first = runOf (freshFlow (countersIn c d) (messageIn c d)) m [] in
+        let first = runOf (wordsIn c d) (freshFlow (countersIn c d) (messageIn c d)) m [] in
         let none = release-none lies n first in
-        fit-of way (c .«ram_len») (g .counters) (g .message) (rw long at (s .message))
-        (rw left-queue (release-kept lies n first (counted-of way (c .«ram_len») (countersIn c d) (messageIn c d) (queue-fit c d f))))
+        fit-of way (c .«ram_len») ws′ (g .counters) (g .message) (rw long at (s .message)) room
+        (rw left-queue (release-kept lies n first (counted-of way (c .«ram_len») (wordsIn c d) (countersIn c d) (messageIn c d) (queue-fit c d f))))
         (waits-same way _ _ left-queue (λ h. absurd (true≢false (sym none ∙ h))))
 
-    pub empties-new : Empties way latency c m m′ (record { stop = g .stop; signal = g .signal; card = withFlow d g c })
+    pub empties-new : Empties way latency c m m′ (record { stop = g .stop; signal = g .signal; card = withFlow d g ws′ c })
     unfolding runOf
     empties-new =
         record {
@@ -115,10 +116,10 @@ module _ (c : Card) (d : Direction) (latency : ℕ) (m : List ℕ) (f : Fit c) w
               ∙ ap (λ r. emptiedBy (releaseRun (countersOf way) lies n r)) began
               ∙ ap emptiedBy (sym (s .run []))
               ∙ rw queue-after;
-          device = flowed-device c g (f .four) d ∙ ap (λ q. rules.withQueue way (restOf c) q (deviceOf c)) (sym queue-after);
-          ram = kept d g c .0;
-          registers = kept d g c .1;
-          parts = kept d g c .2;
-          fit = with-flow-fit d g c f flow-fit;
+          device = flowed-device c g ws′ (f .four) d ∙ ap (λ q. rules.withQueue way (restOf c) q (deviceOf c)) (sym queue-after);
+          ram = kept d g ws′ c .0;
+          registers = kept d g ws′ c .1;
+          parts = kept d g ws′ c .2;
+          fit = with-flow-fit d g ws′ c f flow-fit;
           long = s .long;
         }

@@ -25,7 +25,16 @@ use Rattle.stream.specs.declared.Emptied.{Emptied}
 -- a card with other registers
 abbrev pub withRegisters : Registers → Card → Card
 withRegisters v c =
-    record { «ram_len» = c .«ram_len»; registers = v; parts = c .parts; queues = c .queues; play = c .play; capture = c .capture }
+    record {
+      «ram_len» = c .«ram_len»;
+      registers = v;
+      queues = c .queues;
+      play = c .play;
+      capture = c .capture;
+      parts = c .parts;
+      «play_words» = c .«play_words»;
+      «capture_words» = c .«capture_words»;
+    }
 
 -- the queue of a stream as the guest laid it out, in a call whose statuses carry this latency
 abbrev pub queueIn : Card → Direction → ℕ → Virtqueue
@@ -37,7 +46,7 @@ queueIn c d latency =
       latency = latency;
     }
 
--- its counters and message in work
+-- its counters, its message in work and the words of its chain
 abbrev pub countersIn : Card → Direction → Counters
 countersIn c d = countersAt c (rules.queueNumber (directionOf d))
 
@@ -45,25 +54,33 @@ abbrev pub messageIn : Card → Direction → Message
 messageIn c Output = c .play
 messageIn c Input = c .capture
 
--- a card after a flow on the queue of a direction
-abbrev pub withFlow : Direction → Flow → Card → Card
-withFlow Output f c =
+abbrev pub wordsIn : Card → Direction → List ℕ
+wordsIn c Output = c .«play_words»
+wordsIn c Input = c .«capture_words»
+
+-- a card after a flow on the queue of a direction, which left these words of its chain
+abbrev pub withFlow : Direction → Flow → List ℕ → Card → Card
+withFlow Output f ws c =
     record {
       «ram_len» = c .«ram_len»;
       registers = c .registers;
-      parts = c .parts;
       queues = set (c .queues) 2 (f .counters);
       play = f .message;
       capture = c .capture;
+      parts = c .parts;
+      «play_words» = ws;
+      «capture_words» = c .«capture_words»;
     }
-withFlow Input f c =
+withFlow Input f ws c =
     record {
       «ram_len» = c .«ram_len»;
       registers = c .registers;
-      parts = c .parts;
       queues = set (c .queues) 3 (f .counters);
       play = c .play;
       capture = f .message;
+      parts = c .parts;
+      «play_words» = c .«play_words»;
+      «capture_words» = ws;
     }
 
 -- ---- a queue emptied, with statuses of this latency: the card and memory before, memory and the card after

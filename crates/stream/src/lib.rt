@@ -7,7 +7,7 @@ ghost use Rattle.message.specs.Message.{directionOf};
 ghost use Rattle.rules.specs.Answers.{brokenBy};
 ghost use Rattle.meaning.specs.Card.{restOf};
 ghost use Rattle.rules.specs.Device.{signalledIf, streamAt};
-ghost use Rattle.stream.specs.Queue.{queueIn, countersIn, messageIn, withFlow, Empties};
+ghost use Rattle.stream.specs.Queue.{queueIn, countersIn, messageIn, wordsIn, withFlow, Empties};
 use card::Card;
 use card::Counters;
 use card::Message;
@@ -104,9 +104,20 @@ fn message_of(card: Card, direction: Direction) -> Message
     }
 }
 
-// The card with the counters and the message that a flow left of a stream's queue.
-pub fn with_flow(card: Card, direction: Direction, f: Flow) -> Card
-    ensures { λ r. ⌜ r ≡ withFlow direction f card ⌝ }
+// The words of the chain of a stream's queue.
+pub fn words_of(card: Card, direction: Direction) -> [u64; 68]
+    ensures { λ r. ⌜ r ≡ wordsIn card direction ⌝ }
+{
+    match direction {
+        Direction::Output => card.play_words,
+        Direction::Input => card.capture_words,
+    }
+}
+
+// The card with the counters, the message and the words of its chain that a flow left of a stream's
+// queue.
+pub fn with_flow(card: Card, direction: Direction, f: Flow, words: [u64; 68]) -> Card
+    ensures { λ r. ⌜ r ≡ withFlow direction f words card ⌝ }
 {
     let mut next = card;
     let counters = f.counters;
@@ -115,11 +126,13 @@ pub fn with_flow(card: Card, direction: Direction, f: Flow) -> Card
         Direction::Output => {
             next.queues[2] = counters;
             next.play = message;
+            next.play_words = words;
             next
         }
         Direction::Input => {
             next.queues[3] = counters;
             next.capture = message;
+            next.capture_words = words;
             next
         }
     }
@@ -147,12 +160,13 @@ pub fn empty(card: Card, m: &mut [u8], direction: Direction, latency: u32) -> Em
             card: card,
         },
         ring::Check::New(new) => {
-            let f = transfer::release(m, q, counters, message, new);
+            let mut words = words_of(card, direction);
+            let f = transfer::release(m, &mut words, q, counters, message, new);
             let stop = f.stop;
             Emptied {
                 stop: stop,
                 signal: f.signal,
-                card: with_flow(card, direction, f),
+                card: with_flow(card, direction, f, words),
             }
         }
     }
