@@ -1,5 +1,6 @@
 -- The cards that the entries return are fit, and what their checks say.
 use mathlib.Core.Path.{_≡_, refl}
+use mathlib.Core.List.{List}
 use mathlib.Core.Bool.{Bool, true, false, cond}
 use Prim.Native.Nat.{ℕ}
 use native.Mathlib.Omega.{arith}
@@ -28,11 +29,11 @@ passed-length c len id h = by (eqb len (c .«ram_len»)) refl h where
   by true e k = eqb-true len (c .«ram_len») e
   by false e k = absurd (omega arith)
 
-pub flowed-fit : (d : Direction) (g : Flow) (c : Card)
+pub flowed-fit : (d : Direction) (g : Flow) (ws : List ℕ) (c : Card)
     → Fit c
-    → FitIn (directionOf d) (c .«ram_len») (g .counters) (g .message)
-    → Fit (flowedCard d g c)
-flowed-fit d g c f h =
+    → FitIn (directionOf d) (c .«ram_len») ws (g .counters) (g .message)
+    → Fit (flowedCard d g ws c)
+flowed-fit d g ws c f h =
     let signal = signal-fit (g .signal) (c .registers) (f .registers) in
     let registers = broken-by-fit (g .stop) (signalledIf (g .signal) (c .registers)) signal in
-    with-flow-fit d g (withRegisters (registersAfter g (c .registers)) c) (with-registers-fit c (registersAfter g (c .registers)) f registers) h
+    with-flow-fit d g ws (withRegisters (registersAfter g (c .registers)) c) (with-registers-fit c (registersAfter g (c .registers)) f registers) h

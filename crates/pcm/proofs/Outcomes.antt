@@ -27,7 +27,7 @@ use Rattle.rules.proofs.Between.{transfer-kept, transfer-waits}
 use Rattle.rules.proofs.Host.{run-past}
 use Rattle.flow.specs.Flow.{runOf}
 use Rattle.flow.specs.declared.Flow.{Flow}
-use Rattle.stream.specs.Queue.{withRegisters, countersIn, messageIn}
+use Rattle.stream.specs.Queue.{withRegisters, countersIn, messageIn, wordsIn}
 use Rattle.stream.proofs.Fits.{queue-fit, message-fit, counted-of, waits-of, fit-of, waits-same}
 use Rattle.stream.proofs.Laws.{queue-in, found-check, flowed-device}
 use Rattle.pcm.specs.Entry.{refusalOf, bufferOf, flowedCard, registersAfter, movedBy}
@@ -64,7 +64,7 @@ module _ (way : Direction) (backlog : ℕ) (c : Card) (m host : List ℕ) where
     checked = checkOf m (lies .page) (rules.queueSize lies) (countersIn c way .taken) (messageIn c way .count)
 
     found-in : found (countersOf d) lies own m ≡ checked
-    found-in = rw (queue-in c way) (found-check lies m (countersIn c way) (messageIn c way) (message-fit c way f .one))
+    found-in = rw (queue-in c way) (found-check lies (wordsIn c way) m (countersIn c way) (messageIn c way) (message-fit c way f .one))
 
     -- past the checks the queue decides
     by-check : (k : Check) → checked ≡ k
@@ -84,8 +84,8 @@ module _ (way : Direction) (backlog : ℕ) (c : Card) (m host : List ℕ) where
     unfolding restOf
     transfer-broken cause h = by-check (Check.Broken cause) h ∙ unmoved way (brokenAnswer (rules.queueNumber d) cause) (broken (c .registers))
 
-    module _ (n : ℕ) (h : checked ≡ Check.New n) (m′ host′ : List ℕ) (g : Flow)
-        (run : runOf g m′ host′ ≡ transferRun (countersOf d) lies n (begun (queueOf (countersIn c way) (messageIn c way)) m host))
+    module _ (n : ℕ) (h : checked ≡ Check.New n) (ws′ m′ host′ : List ℕ) (g : Flow)
+        (run : runOf ws′ g m′ host′ ≡ transferRun (countersOf d) lies n (begun (queueOf (wordsIn c way) (countersIn c way) (messageIn c way)) m host))
         (inside : g .moved ≤ length host) (long : length host′ ≡ length host) where
       counted : length (take (g .moved) host′) ≡ g .moved
       counted = rw length-take (omega arith)
@@ -96,41 +96,41 @@ module _ (way : Direction) (backlog : ℕ) (c : Card) (m host : List ℕ) where
       kept =
           rw counted at
           (ap (λ (r : Run rules.Queue). r .host) run
-          ∙ run-past (countersOf d) lies host n (queueOf (countersIn c way) (messageIn c way)) m .past
+          ∙ run-past (countersOf d) lies host n (queueOf (wordsIn c way) (countersIn c way) (messageIn c way)) m .past
           ∙ ap (λ (r : Run rules.Queue). drop (length (r .bytes)) host) (sym run))
 
       buffer : (e : rules.Direction) → hostAfter e host (take (g .moved) host′) ≡ bufferOf e host′
       buffer rules.output = host-after host host′ (g .moved) inside long kept
       buffer rules.input = refl
 
-      after : (w : Direction) → deviceOf (flowedCard w g c)
+      after : (w : Direction) → deviceOf (flowedCard w g ws′ c)
           ≡ rules.withQueue (directionOf w) (rules.withRegisters (registersAfter g (c .registers)) (restOf c))
-          (queueOf (g .counters) (g .message)) (deviceOf c)
+          (queueOf ws′ (g .counters) (g .message)) (deviceOf c)
       unfolding deviceOf restOf
-      after Output = flowed-device (withRegisters (registersAfter g (c .registers)) c) g (f .four) Output
-      after Input = flowed-device (withRegisters (registersAfter g (c .registers)) c) g (f .four) Input
+      after Output = flowed-device (withRegisters (registersAfter g (c .registers)) c) g ws′ (f .four) Output
+      after Input = flowed-device (withRegisters (registersAfter g (c .registers)) c) g ws′ (f .four) Input
 
-      told : transferStep d host (deviceOf c) (transferredBy (rules.queueNumber d) (restOf c .registers) (runOf g m′ host′))
-          ≡ leaves (flowedCard way g c) (answerBy (rules.queueNumber d) (g .stop)) (g .moved) (take (g .moved) host′) (bufferOf d host′) m′
+      told : transferStep d host (deviceOf c) (transferredBy (rules.queueNumber d) (restOf c .registers) (runOf ws′ g m′ host′))
+          ≡ leaves (flowedCard way g ws′ c) (answerBy (rules.queueNumber d) (g .stop)) (g .moved) (take (g .moved) host′) (bufferOf d host′) m′
       unfolding transferStep runOf deviceOf restOf
       told = rw (after way, counted, buffer d)
 
       -- the queue that the flow left is the rules'
-      left-queue : queueOf (g .counters) (g .message)
-          ≡ transferRun (countersOf d) lies n (begun (queueOf (countersIn c way) (messageIn c way)) m host) .queue
+      left-queue : queueOf ws′ (g .counters) (g .message)
+          ≡ transferRun (countersOf d) lies n (begun (queueOf (wordsIn c way) (countersIn c way) (messageIn c way)) m host) .queue
       unfolding runOf
       left-queue = ap (λ (r : Run rules.Queue). r .queue) run
 
-      pub transfer-fit : FitMessage (c .«ram_len») (g .message) → Fit (flowedCard way g c)
-      transfer-fit message =
-          let first = begun (queueOf (countersIn c way) (messageIn c way)) m host in
+      pub transfer-fit : FitMessage (c .«ram_len») ws′ (g .message) → length ws′ ≡ 68 → Fit (flowedCard way g ws′ c)
+      transfer-fit message room =
+          let first = begun (queueOf (wordsIn c way) (countersIn c way) (messageIn c way)) m host in
           let own-fit = queue-fit c way f in
-          flowed-fit way g c f
-          (fit-of d (c .«ram_len») (g .counters) (g .message) message
-          (rw left-queue (transfer-kept lies n first (counted-of d (c .«ram_len») (countersIn c way) (messageIn c way) own-fit)))
+          flowed-fit way g ws′ c f
+          (fit-of d (c .«ram_len») ws′ (g .counters) (g .message) message room
+          (rw left-queue (transfer-kept lies n first (counted-of d (c .«ram_len») (wordsIn c way) (countersIn c way) (messageIn c way) own-fit)))
           (waits-same d _ _ left-queue
-          (transfer-waits lies n first (waits-of d (c .«ram_len») (countersIn c way) (messageIn c way) own-fit))))
+          (transfer-waits lies n first (waits-of d (c .«ram_len») (wordsIn c way) (countersIn c way) (messageIn c way) own-fit))))
 
       pub transfer-new : movedBy d backlog c host m
-          ≡ leaves (flowedCard way g c) (answerBy (rules.queueNumber d) (g .stop)) (g .moved) (take (g .moved) host′) (bufferOf d host′) m′
+          ≡ leaves (flowedCard way g ws′ c) (answerBy (rules.queueNumber d) (g .stop)) (g .moved) (take (g .moved) host′) (bufferOf d host′) m′
       transfer-new = by-check (Check.New n) h ∙ rw (queue-in c way, ← run) told

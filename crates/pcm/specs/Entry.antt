@@ -41,8 +41,8 @@ refusalOf r len id =
 abbrev pub registersAfter : Flow → Registers → Registers
 registersAfter f g = brokenBy (f .stop) (rules.signalledIf (f .signal) g)
 
-abbrev pub flowedCard : Direction → Flow → Card → Card
-flowedCard d f c = withFlow d f (withRegisters (registersAfter f (c .registers)) c)
+abbrev pub flowedCard : Direction → Flow → List ℕ → Card → Card
+flowedCard d f ws c = withFlow d f ws (withRegisters (registersAfter f (c .registers)) c)
 
 -- the answer where nothing was done, where the queue is broken, and after a flow
 abbrev pub untouchedBy : ℕ → Card → TransferAnswer
@@ -56,9 +56,9 @@ brokenDown d cause c =
       card = withRegisters (broken (c .registers)) c;
     }
 
-abbrev pub flowAnswer : Card → Direction → Flow → TransferAnswer
-flowAnswer c d f =
-    record { answer = answerBy (rules.queueNumber (directionOf d)) (f .stop); count = f .moved; card = flowedCard d f c }
+abbrev pub flowAnswer : Card → Direction → Flow → List ℕ → TransferAnswer
+flowAnswer c d f ws =
+    record { answer = answerBy (rules.queueNumber (directionOf d)) (f .stop); count = f .moved; card = flowedCard d f ws c }
 
 -- ---- the backlog
 

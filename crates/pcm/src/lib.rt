@@ -63,16 +63,16 @@ fn refusal(card: Card, len: usize, id: usize) -> u8
     registers::NOT_RUNNING
 }
 
-// The card after a flow on a stream's queue.
-fn flowed(card: Card, direction: Direction, f: Flow) -> Card
-    ensures { λ r. ⌜ r ≡ flowedCard direction f card ⌝ }
+// The card after a flow on a stream's queue, which left these words of its chain.
+fn flowed(card: Card, direction: Direction, f: Flow, words: [u64; 68]) -> Card
+    ensures { λ r. ⌜ r ≡ flowedCard direction f words card ⌝ }
 {
     let mut next = card;
     let registers = card.registers;
     let signalled = stream::signal_if(f.signal, registers);
     let stop = f.stop;
     next.registers = stream::break_by(stop, signalled);
-    stream::with_flow(next, direction, f)
+    stream::with_flow(next, direction, f, words)
 }
 
 // The play queue worked; its stream does not remember the backlog yet.
@@ -95,8 +95,9 @@ fn work_play(card: Card, m: &mut [u8], host: &mut [u8], backlog: u32) -> Transfe
         ring::Check::Idle => untouched(card, registers::DONE),
         ring::Check::Broken(cause) => broken_down(card, Direction::Output, cause),
         ring::Check::New(new) => {
-            let f = transfer::play(m, host, q, counters, message, new);
-            transferred(card, Direction::Output, f)
+            let mut words = card.play_words;
+            let f = transfer::play(m, &mut words, host, q, counters, message, new);
+            transferred(card, Direction::Output, f, words)
         }
     }
 }
@@ -120,8 +121,9 @@ fn work_capture(card: Card, m: &mut [u8], host: &[u8], backlog: u32) -> Transfer
         ring::Check::Idle => untouched(card, registers::DONE),
         ring::Check::Broken(cause) => broken_down(card, Direction::Input, cause),
         ring::Check::New(new) => {
-            let f = transfer::capture(m, host, q, counters, message, new);
-            transferred(card, Direction::Input, f)
+            let mut words = card.capture_words;
+            let f = transfer::capture(m, &mut words, host, q, counters, message, new);
+            transferred(card, Direction::Input, f, words)
         }
     }
 }
@@ -205,13 +207,13 @@ fn answer_by(direction: Direction, stop: Stop) -> Answer
 }
 
 // The answer to a transfer that came past its checks.
-fn transferred(card: Card, direction: Direction, f: Flow) -> TransferAnswer
-    ensures { λ r. ⌜ r ≡ flowAnswer card direction f ⌝ }
+fn transferred(card: Card, direction: Direction, f: Flow, words: [u64; 68]) -> TransferAnswer
+    ensures { λ r. ⌜ r ≡ flowAnswer card direction f words ⌝ }
 {
     let stop = f.stop;
     TransferAnswer {
         answer: answer_by(direction, stop),
         count: f.moved,
-        card: flowed(card, direction, f),
+        card: flowed(card, direction, f, words),
     }
 }

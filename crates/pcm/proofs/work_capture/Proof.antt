@@ -1,5 +1,6 @@
 -- Each check, then the queue, then its entries: each outcome is the rules' step.
 use mathlib.Core.Path.{_≡_, _∙_, sym}
+use native.Mathlib.Omega.{arith}
 use borrow.Author.Needs.{needs}
 use lib.ListN.{length}
 use Rattle.card.specs.Fit.{FitMessage}
@@ -18,7 +19,9 @@ abbrev start : tie.Else1 → tie.Start
 start c = c .before .before .before .before
 
 abbrev tested : tie.After-check-queue → tie.Else1
-tested c = c .before .before .before .before .before .before .before
+tested c =
+    let back6 = c .before .before .before .before .before .before in
+    back6 .before
 
 passed : (c : tie.Else1) → let a = start c .args in refusalOf (restOf (a .card)) (length (a .m .now)) 1 ≡ 0
 passed c = sym (c .before .refusal .ensures) ∙ c .if1 .left
@@ -33,7 +36,7 @@ checks c =
     at (c .check-queue .ensures)
 
 -- the message in work is fit
-in-work-fit : (c : tie.Else1) → let a = start c .args in FitMessage (length (a .m .now)) (a .card .capture)
+in-work-fit : (c : tie.Else1) → let a = start c .args in FitMessage (length (a .m .now)) (a .card .«capture_words») (a .card .capture)
 in-work-fit c =
     let s = start c in
     rw (passed-length (s .args .card) (length (s .args .m .now)) 1 (passed c)) (s .pre .capture .message)
@@ -81,8 +84,8 @@ enum-known-new c = search needs
 
 capture-requires : tie.Need-capture-requires
 capture-requires c κs =
-    let k = c .before .before .before .before in
-    (rw (k .before .before .before .before .before .before .virtqueue .ensures), in-work-fit (tested k))
+    let k = c .before .before .before .before .before .before in
+    (rw (k .before .before .before .before .before .before .virtqueue .ensures), in-work-fit (tested k), omega (arith, start (tested k) .pre .capture .room))
 
 transferred-requires : tie.Need-transferred-requires
 transferred-requires c κs = search needs
@@ -115,22 +118,25 @@ same-length-3 c = search needs
 
 returns-4 : tie.Need-returns-4
 returns-4 c =
-    let g = c .before .before .before in
-    let new = g .before .before .before in
+    let g = c .before .before .before .before in
+    let new = g .before .before .before .before .before in
     let k = new .before .before in
     let s = start (tested k) in
     let a = s .args in
     let f = g .capture .result in
     let t = rw (k .before .before .before .before .before .before .virtqueue .ensures, virtqueue-in (a .card) Input (a .backlog)) at (g .capture .ensures) in
-    let fresh = fresh-run (countersAt (a .card) 3) (a .card .capture) (a .m .now) (a .host .now) in
+    let fresh = fresh-run (a .card .«capture_words») (countersAt (a .card) 3) (a .card .capture) (a .m .now) (a .host .now) in
     let h = sym (checks k) ∙ new .new .given .1 in
     let fit = rw (passed-length (a .card) (length (a .m .now)) 1 (passed (tested k))) at (t .fit .message) in
     rw (c .transferred .ensures) (
-      transfer-new Input (a .backlog) (a .card) (a .m .now) (a .host .now) (s .pre) (passed (tested k)) (new .new .given .0 .0) h _ _ f
+      transfer-new Input (a .backlog) (a .card) (a .m .now) (a .host .now) (s .pre) (passed (tested k)) (new .new .given .0 .0) h _ _ _ f
           (t .run ∙ rw fresh) (t .fit .inside) (t .host-long),
-      transfer-fit Input (a .backlog) (a .card) (a .m .now) (a .host .now) (s .pre) (passed (tested k)) (new .new .given .0 .0) h _ _ f
-          (t .run ∙ rw fresh) (t .fit .inside) (t .host-long) fit,
+      transfer-fit Input (a .backlog) (a .card) (a .m .now) (a .host .now) (s .pre) (passed (tested k)) (new .new .given .0 .0) h _ _ _ f
+          (t .run ∙ rw fresh) (t .fit .inside) (t .host-long) fit (g .capture .kept .1 .0 ∙ s .pre .capture .room),
     )
+
+slice-aggregate-capture : tie.Need-slice-aggregate-capture
+slice-aggregate-capture c = search needs
 
 pub work-capture-spec : {M : Type 1} → statement M
 work-capture-spec =
@@ -148,6 +154,7 @@ work-capture-spec =
     enum-known-cause
     broken-down-requires
     enum-known-new
+    slice-aggregate-capture
     capture-requires
     transferred-requires
     same-length

@@ -1,5 +1,6 @@
 -- Each check, then the queue, then its entries: each outcome is the rules' step.
 use mathlib.Core.Path.{_≡_, _∙_, sym}
+use native.Mathlib.Omega.{arith}
 use borrow.Author.Needs.{needs}
 use lib.ListN.{length}
 use Rattle.card.specs.Fit.{FitMessage}
@@ -18,7 +19,9 @@ abbrev start : tie.Else1 → tie.Start
 start c = c .before .before .before .before
 
 abbrev tested : tie.After-check-queue → tie.Else1
-tested c = c .before .before .before .before .before .before .before
+tested c =
+    let back6 = c .before .before .before .before .before .before in
+    back6 .before
 
 passed : (c : tie.Else1) → let a = start c .args in refusalOf (restOf (a .card)) (length (a .m .now)) 0 ≡ 0
 passed c = sym (c .before .refusal .ensures) ∙ c .if1 .left
@@ -33,7 +36,7 @@ checks c =
     at (c .check-queue .ensures)
 
 -- the message in work is fit
-in-work-fit : (c : tie.Else1) → let a = start c .args in FitMessage (length (a .m .now)) (a .card .play)
+in-work-fit : (c : tie.Else1) → let a = start c .args in FitMessage (length (a .m .now)) (a .card .«play_words») (a .card .play)
 in-work-fit c =
     let s = start c in
     rw (passed-length (s .args .card) (length (s .args .m .now)) 0 (passed c)) (s .pre .play .message)
@@ -81,8 +84,9 @@ enum-known-new c = search needs
 
 play-requires : tie.Need-play-requires
 play-requires c κs =
-    let k = c .before .before .before .before .before in
-    (rw (k .before .before .before .before .before .before .virtqueue .ensures), in-work-fit (tested k))
+    let back6 = c .before .before .before .before .before .before in
+    let k = back6 .before in
+    (rw (k .before .before .before .before .before .before .virtqueue .ensures), in-work-fit (tested k), omega (arith, start (tested k) .pre .play .room))
 
 transferred-requires : tie.Need-transferred-requires
 transferred-requires c κs = search needs
@@ -118,22 +122,25 @@ same-length-4 c = search needs
 
 returns-4 : tie.Need-returns-4
 returns-4 c =
-    let g = c .before .before .before .before .before in
-    let new = g .before .before .before .before in
+    let g = c .before .before .before .before .before .before in
+    let new = g .before .before .before .before .before .before in
     let k = new .before .before in
     let s = start (tested k) in
     let a = s .args in
     let f = g .play .result in
     let t = rw (k .before .before .before .before .before .before .virtqueue .ensures, virtqueue-in (a .card) Output (a .backlog)) at (g .play .ensures) in
-    let fresh = fresh-run (countersAt (a .card) 2) (a .card .play) (a .m .now) (a .host .now) in
+    let fresh = fresh-run (a .card .«play_words») (countersAt (a .card) 2) (a .card .play) (a .m .now) (a .host .now) in
     let h = sym (checks k) ∙ new .new .given .1 in
     let fit = rw (passed-length (a .card) (length (a .m .now)) 0 (passed (tested k))) at (t .fit .message) in
     rw (c .transferred .ensures) (
-      transfer-new Output (a .backlog) (a .card) (a .m .now) (a .host .now) (s .pre) (passed (tested k)) (new .new .given .0 .0) h _ _ f
+      transfer-new Output (a .backlog) (a .card) (a .m .now) (a .host .now) (s .pre) (passed (tested k)) (new .new .given .0 .0) h _ _ _ f
           (t .run ∙ rw fresh) (t .fit .inside) (t .host-long),
-      transfer-fit Output (a .backlog) (a .card) (a .m .now) (a .host .now) (s .pre) (passed (tested k)) (new .new .given .0 .0) h _ _ f
-          (t .run ∙ rw fresh) (t .fit .inside) (t .host-long) fit,
+      transfer-fit Output (a .backlog) (a .card) (a .m .now) (a .host .now) (s .pre) (passed (tested k)) (new .new .given .0 .0) h _ _ _ f
+          (t .run ∙ rw fresh) (t .fit .inside) (t .host-long) fit (g .play .kept .1 .0 ∙ s .pre .play .room),
     )
+
+slice-aggregate-play : tie.Need-slice-aggregate-play
+slice-aggregate-play c = search needs
 
 pub work-play-spec : {M : Type 1} → statement M
 work-play-spec =
@@ -151,6 +158,7 @@ work-play-spec =
     enum-known-cause
     broken-down-requires
     enum-known-new
+    slice-aggregate-play
     play-requires
     transferred-requires
     same-length
