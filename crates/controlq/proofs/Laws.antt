@@ -84,17 +84,18 @@ resultOn c k =
       mem = k .memory;
     }
 
-replied-by : (c : Card) (head : DescriptorNumber) (reply : Ranges) (bytes m : List ℕ)
-    → replied (pendingOf c head (rangesOf reply)) bytes m ≡ resultOn c (completionOf (pendingIn c head reply) bytes m)
+replied-by : (c : Card) (head : DescriptorNumber) (ws : List ℕ) (reply : Ranges) (bytes m : List ℕ)
+    → replied (pendingOf c head (rangesOf ws reply)) bytes m ≡ resultOn c (completionOf ws (pendingIn c head reply) bytes m)
 unfolding replied closedOf postOf resultOn restOf
-replied-by c head reply bytes m = refl
+replied-by c head ws reply bytes m = refl
 
 -- the first n bytes as a reply
-pub completed-front : (c : Card) (head : DescriptorNumber) (reply : Ranges) (bytes : List ℕ) (n : ℕ) (m : List ℕ) → n ≤ length bytes
-    → completedOf m (pageIn c) (sizeOf controlQueue) (countersAt c controlQueue .completed) head n (rangesOf reply) 0 bytes n
-    ≡ completionOf (pendingIn c head reply) (take n bytes) m
+pub completed-front : (c : Card) (head : DescriptorNumber) (ws : List ℕ) (reply : Ranges) (bytes : List ℕ) (n : ℕ) (m : List ℕ)
+    → n ≤ length bytes
+    → completedOf m (pageIn c) (sizeOf controlQueue) (countersAt c controlQueue .completed) head n (rangesOf ws reply) 0 bytes n
+    ≡ completionOf ws (pendingIn c head reply) (take n bytes) m
 unfolding completedOf closedOf
-completed-front c head reply bytes n m h = rw (length-take-le n bytes h, putAt-front n m (places (rangesOf reply)) bytes)
+completed-front c head ws reply bytes n m h = rw (length-take-le n bytes h, putAt-front n m (places (rangesOf ws reply)) bytes)
 
 module _ (c : Card) (f : Fit c) where
   pub held-device : (g : Registers) (q : Counters)
@@ -112,12 +113,12 @@ module _ (c : Card) (f : Fit c) where
   held-fit g q h = fit-with-counters (card.withRegisters c g) (fit-with-registers c f g h) controlQueue q (omega arith)
 
   -- a completion, counted
-  pub counted-says : (head : DescriptorNumber) (reply : Ranges) (bytes m after : List ℕ) (p : Posted)
-      → completion after p ≡ completionOf (pendingIn c head reply) bytes m
-      → endsOn c (replied (pendingOf c head (rangesOf reply)) bytes m) ≡ says (countedOf c p) after
+  pub counted-says : (head : DescriptorNumber) (ws : List ℕ) (reply : Ranges) (bytes m after : List ℕ) (p : Posted)
+      → completion after p ≡ completionOf ws (pendingIn c head reply) bytes m
+      → endsOn c (replied (pendingOf c head (rangesOf ws reply)) bytes m) ≡ says (countedOf c p) after
   unfolding resultOn
-  counted-says head reply bytes m after p e =
-      ap (endsOn c) (replied-by c head reply bytes m ∙ ap (resultOn c) (sym e))
+  counted-says head ws reply bytes m after p e =
+      ap (endsOn c) (replied-by c head ws reply bytes m ∙ ap (resultOn c) (sym e))
       ∙ rw (held-device (signalledIf (p .interrupt) (c .registers)) (record { taken = countersAt c controlQueue .taken; completed = p .completed }))
 
   pub counted-fit : (p : Posted) → Fit (countedOf c p .card)
@@ -224,7 +225,7 @@ released-same : (n id : ℕ) → kinds.Release n ≡ kinds.Release id → n ≡ 
 released-same n id h = cc
 
 -- what a request comes to, ordered: by its kind
-module _ (c : Card) (f : Fit c) (head : DescriptorNumber) (reply : Ranges) (r : Served) (m after : List ℕ) where
+module _ (c : Card) (f : Fit c) (head : DescriptorNumber) (ws : List ℕ) (reply : Ranges) (r : Served) (m after : List ℕ) where
   -- the card after it
   abbrev pub servedCard : Card
   servedCard = withParts (r .parts) c
@@ -234,8 +235,8 @@ module _ (c : Card) (f : Fit c) (head : DescriptorNumber) (reply : Ranges) (r : 
   served-rest ps e = rw (← e)
 
   served-ended : (ps : rules.Parts) (bytes : List ℕ) → partsOf (r .parts) ≡ ps
-      → ended (replied (withRest (rules.withParts ps (restOf c)) (pendingOf c head (rangesOf reply))) bytes m) (deviceOf c)
-      ≡ endsOn servedCard (replied (pendingOf servedCard head (rangesOf reply)) bytes m)
+      → ended (replied (withRest (rules.withParts ps (restOf c)) (pendingOf c head (rangesOf ws reply))) bytes m) (deviceOf c)
+      ≡ endsOn servedCard (replied (pendingOf servedCard head (rangesOf ws reply)) bytes m)
   unfolding deviceOf
   served-ended ps bytes e = rw (served-rest ps e)
 
@@ -245,17 +246,17 @@ module _ (c : Card) (f : Fit c) (head : DescriptorNumber) (reply : Ranges) (r : 
 
   -- the message is completed
   pub served-completed : (rule : rules.Served) (p : Posted)
-      → Serves (pendingIn c head reply) (c .parts) rule r m after → r .kind ≡ kinds.Completed p
-      → ordered countersOf (acted rule (pendingOf c head (rangesOf reply)) m) (deviceOf c) m ≡ says (countedOf servedCard p) after
+      → Serves ws (pendingIn c head reply) (c .parts) rule r m after → r .kind ≡ kinds.Completed p
+      → ordered countersOf (acted rule (pendingOf c head (rangesOf ws reply)) m) (deviceOf c) m ≡ says (countedOf servedCard p) after
   unfolding posted-in
   served-completed (rules.Reply ps bytes) p s k =
       let w = s .whole in
-      let told : kinds.Completed p ≡ kinds.Completed (postedBy (completionOf (pendingIn c head reply) bytes m)) =
+      let told : kinds.Completed p ≡ kinds.Completed (postedBy (completionOf ws (pendingIn c head reply) bytes m)) =
       sym k ∙ ap (λ (o : Outcome). o .served .kind) w in
-      let same : p ≡ postedBy (completionOf (pendingIn c head reply) bytes m) = ap (λ (x : Kind). posted-in x p) told in
-      let e : completion after p ≡ completionOf (pendingIn c head reply) bytes m = rw (same, ap (λ (o : Outcome). o .memory) w) in
+      let same : p ≡ postedBy (completionOf ws (pendingIn c head reply) bytes m) = ap (λ (x : Kind). posted-in x p) told in
+      let e : completion after p ≡ completionOf ws (pendingIn c head reply) bytes m = rw (same, ap (λ (o : Outcome). o .memory) w) in
       served-ended ps bytes (s .stand)
-      ∙ counted-says servedCard (fit-with-parts c (r .parts) f (s .fit)) head reply bytes m after p e
+      ∙ counted-says servedCard (fit-with-parts c (r .parts) f (s .fit)) head ws reply bytes m after p e
   served-completed (rules.Release id) p s k =
       let told : kinds.Completed p ≡ kinds.Release id = sym k ∙ ap (λ (o : Outcome). o .served .kind) (s .whole) in
       let z : _≡_ {A = ℕ} 0 1 = cc in
@@ -263,10 +264,10 @@ module _ (c : Card) (f : Fit c) (head : DescriptorNumber) (reply : Ranges) (r : 
 
   -- a stream is released first: memory is as it was
   pub served-release : (rule : rules.Served) (id : ℕ)
-      → Serves (pendingIn c head reply) (c .parts) rule r m after → r .kind ≡ kinds.Release id
-      → (acted rule (pendingOf c head (rangesOf reply)) m ≡ ReleaseFirst id (pendingOf c head (rangesOf reply))) × (after ≡ m)
+      → Serves ws (pendingIn c head reply) (c .parts) rule r m after → r .kind ≡ kinds.Release id
+      → (acted rule (pendingOf c head (rangesOf ws reply)) m ≡ ReleaseFirst id (pendingOf c head (rangesOf ws reply))) × (after ≡ m)
   served-release (rules.Reply ps bytes) id s k =
-      let told : kinds.Release id ≡ kinds.Completed (postedBy (completionOf (pendingIn c head reply) bytes m)) =
+      let told : kinds.Release id ≡ kinds.Completed (postedBy (completionOf ws (pendingIn c head reply) bytes m)) =
       sym k ∙ ap (λ (o : Outcome). o .served .kind) (s .whole) in
       let z : _≡_ {A = ℕ} 0 1 = cc in
       absurd (omega arith)

@@ -83,10 +83,12 @@ holding g q c =
     record {
       «ram_len» = c .«ram_len»;
       registers = g;
-      parts = c .parts;
       queues = set (c .queues) controlQueue q;
       play = c .play;
       capture = c .capture;
+      parts = c .parts;
+      «play_words» = c .«play_words»;
+      «capture_words» = c .«capture_words»;
     }
 
 abbrev pub takenCard : Card → Card

@@ -55,11 +55,11 @@ fn queue_size() -> u16
     registers::queue_size(0)
 }
 
-fn judge(len: usize, ranges: Ranges) -> Side
-    requires { ⌜ Sound ranges ⌝ }
-    ensures { λ r. ⌜ r ≡ sideOf len (rangesOf ranges) ⌝ }
+fn judge(len: usize, list: &[u64], ranges: Ranges) -> Side
+    requires { ⌜ Sound (now list) ranges ⌝ }
+    ensures { λ r. ⌜ r ≡ sideOf len (rangesOf (now (list .entry)) ranges) ⌝ }
 {
-    if !ranges::all_inside(len, ranges) {
+    if !ranges::all_inside(len, list, ranges) {
         return Side::Unusable;
     }
     if ranges.bytes < 4 {
@@ -135,6 +135,7 @@ fn counted(card: Card, posted: Posted) -> ControlAnswer
 // The first `n` of `bytes` are the reply; then the used entry.
 fn complete(
     m: &mut [u8],
+    list: &[u64],
     card: Card,
     head: DescriptorNumber,
     reply: Ranges,
@@ -142,7 +143,7 @@ fn complete(
     n: usize,
 ) -> ControlAnswer
     requires { ⌜ Fit card × (n ≤ 132) × (n ≤ length (now bytes)) ⌝ }
-    ensures { λ r. ⌜ (endsOn card (replied (pendingOf card head (rangesOf reply)) (take n (now (bytes .entry))) (now (m .entry)))
+    ensures { λ r. ⌜ (endsOn card (replied (pendingOf card head (rangesOf (now (list .entry)) reply)) (take n (now (bytes .entry))) (now (m .entry)))
         ≡ says r (now (m .exit))) × Fit (r .card) ⌝ }
 {
     let registers = card.registers;
@@ -150,7 +151,19 @@ fn complete(
     let counters = card.queues[CONTROL_QUEUE];
     let size = queue_size();
     let done = counters.completed;
-    let posted = ring::complete(m, page, size, done, head, n as u32, reply, 0, bytes, n);
+    let posted = ring::complete(
+        m,
+        page,
+        size,
+        done,
+        head,
+        n as u32,
+        list,
+        reply,
+        0,
+        bytes,
+        n,
+    );
     counted(card, posted)
 }
 
@@ -172,17 +185,18 @@ fn pending_in(card: Card, head: DescriptorNumber, reply: Ranges) -> Pending
 // A reply of four bytes.
 fn reply_status(
     m: &mut [u8],
+    list: &[u64],
     card: Card,
     head: DescriptorNumber,
     reply: Ranges,
     code: u32,
 ) -> ControlAnswer
     requires { ⌜ Fit card ⌝ }
-    ensures { λ r. ⌜ (endsOn card (replied (pendingOf card head (rangesOf reply)) (status code) (now (m .entry)))
+    ensures { λ r. ⌜ (endsOn card (replied (pendingOf card head (rangesOf (now (list .entry)) reply)) (status code) (now (m .entry)))
         ≡ says r (now (m .exit))) × Fit (r .card) ⌝ }
 {
     let pending = pending_in(card, head, reply);
-    let posted = reply::complete(m, pending, code);
+    let posted = reply::complete(m, list, pending, code);
     counted(card, posted)
 }
 
@@ -228,6 +242,7 @@ fn queue_of(id: u32) -> u8
 // the message stays taken and the stream keeps its state.
 fn end_release(
     m: &mut [u8],
+    list: &[u64],
     emptied: Emptied,
     head: DescriptorNumber,
     reply: Ranges,
@@ -235,7 +250,8 @@ fn end_release(
 ) -> ControlAnswer
     requires { ⌜ Fit (emptied .card) ⌝ }
     ensures { λ r. ⌜ (endsOn (emptied .card)
-        (releasedOf id (pendingOf (emptied .card) head (rangesOf reply)) (now (m .entry)) (emptied .stop) (emptied .signal))
+        (releasedOf id (pendingOf (emptied .card) head (rangesOf (now (list .entry)) reply)) (now (m .entry))
+        (emptied .stop) (emptied .signal))
         ≡ says r (now (m .exit))) × Fit (r .card) ⌝ }
 {
     let card = emptied.card;
@@ -243,29 +259,38 @@ fn end_release(
     let signalled = signal_card(card, emptied.signal);
     match stop {
         Stop::Broke(cause) => broken_down(signalled, queue_of(id), cause),
-        Stop::Going => reply_status(m, mark_released(signalled, id), head, reply, message::OK),
+        Stop::Going => reply_status(
+            m,
+            list,
+            mark_released(signalled, id),
+            head,
+            reply,
+            message::OK,
+        ),
     }
 }
 
 // A stream is released: its queue first, then the reply.
 fn release(
     m: &mut [u8],
+    list: &[u64],
     card: Card,
     head: DescriptorNumber,
     reply: Ranges,
     id: u32,
 ) -> ControlAnswer
     requires { ⌜ Fit card × (length (now m) ≡ card .«ram_len») ⌝ }
-    ensures { λ r. ⌜ (ordered countersOf (ReleaseFirst id (pendingOf card head (rangesOf reply))) (deviceOf card) (now (m .entry))
+    ensures { λ r. ⌜ (ordered countersOf (ReleaseFirst id (pendingOf card head (rangesOf (now (list .entry)) reply)))
+        (deviceOf card) (now (m .entry))
         ≡ says r (now (m .exit))) × Fit (r .card) ⌝ }
 {
     let latency = stream::backlog(card, id);
     if id == 0 {
         let emptied = stream::empty(card, m, Direction::Output, latency);
-        return end_release(m, emptied, head, reply, id);
+        return end_release(m, list, emptied, head, reply, id);
     }
     let emptied = stream::empty(card, m, Direction::Input, latency);
-    end_release(m, emptied, head, reply, id)
+    end_release(m, list, emptied, head, reply, id)
 }
 
 // The card with other parts.
@@ -280,32 +305,35 @@ fn with_parts(card: Card, parts: Parts) -> Card
 // A message that was walked whole: its sides are judged, its request is served.
 fn serve_chain(
     m: &mut [u8],
+    list: &[u64],
     card: Card,
     head: DescriptorNumber,
     request: Ranges,
     reply: Ranges,
 ) -> ControlAnswer
-    requires { ⌜ Fit card × (length (now m) ≡ card .«ram_len») × Sound request × Sound reply ⌝ }
-    ensures { λ r. ⌜ (ordered countersOf (servedChain card head (rangesOf request) (rangesOf reply) (now (m .entry))) (deviceOf card) (now (m .entry))
+    requires { ⌜ Fit card × (length (now m) ≡ card .«ram_len») × Sound (now list) request × Sound (now list) reply ⌝ }
+    ensures { λ r. ⌜ (ordered countersOf
+        (servedChain card head (rangesOf (now (list .entry)) request) (rangesOf (now (list .entry)) reply) (now (m .entry)))
+        (deviceOf card) (now (m .entry))
         ≡ says r (now (m .exit))) × Fit (r .card) ⌝ }
 {
-    let Side::Usable = judge(m.len(), reply) else {
+    let Side::Usable = judge(m.len(), list, reply) else {
         let nothing = [0u8; 4];
-        return complete(m, card, head, reply, &nothing, 0);
+        return complete(m, list, card, head, reply, &nothing, 0);
     };
-    let Side::Usable = judge(m.len(), request) else {
-        return reply_status(m, card, head, reply, rules::BAD_MSG);
+    let Side::Usable = judge(m.len(), list, request) else {
+        return reply_status(m, list, card, head, reply, rules::BAD_MSG);
     };
     let parts = card.parts;
     let pending = pending_in(card, head, reply);
-    let served = control::serve(m, parts, pending, request);
+    let served = control::serve(m, list, parts, pending, request);
     let kind = served.kind;
     match kind {
         Kind::Completed(posted) => {
             let after = served.parts;
             counted(with_parts(card, after), posted)
         }
-        Kind::Release(id) => release(m, card, head, reply, id),
+        Kind::Release(id) => release(m, list, card, head, reply, id),
     }
 }
 
@@ -319,16 +347,17 @@ fn answer_chain(m: &mut [u8], card: Card, head: DescriptorNumber) -> ControlAnsw
     let page = registers.pages[CONTROL_QUEUE];
     let indirect = registers.features / registers::HOST_FEATURES % 2 == 1;
     let size = queue_size();
-    let walked = chain::walk(m, page.address(), size, head, indirect);
+    let mut words = [0u64; 68];
+    let walked = chain::walk(m, &mut words, page.address(), size, head, indirect);
     let end = walked.end;
     let End::Whole = end else {
         let nothing = [0u8; 4];
-        return complete(m, card, head, Ranges::none(), &nothing, 0);
+        return complete(m, &words, card, head, Ranges::none(), &nothing, 0);
     };
     let chain = walked.chain;
     let request = chain.request;
     let reply = chain.reply;
-    serve_chain(m, card, head, request, reply)
+    serve_chain(m, &words, card, head, request, reply)
 }
 
 // The next message of the control queue.

@@ -2,6 +2,7 @@
 use mathlib.Core.Path.{_≡_}
 use borrow.Author.Needs.{needs}
 use Rattle.chain.specs.Walk.{walkOf, outcomeOf}
+use Rattle.ranges.specs.Ranges.{rangesIn}
 use Rattle.registers.specs.Map.{sizeOf}
 use Rattle.ring.specs.Rules.{baseOf}
 use Rattle.rules.specs.Calls.{indirect}
@@ -13,10 +14,12 @@ use Rattle.controlq.proofs.answer_chain.Statement.{statement}
 use Rattle.controlq.proofs.answer_chain.Tie as tie
 
 walked : (c : tie.After-walk)
-    → let a = c .before .before .before .before .before .before .before .args in
-    outcomeOf (c .walk .result)
+    → let a = c .before .before .before .before .before .before .before .before .args in
+    outcomeOf (c .walk .last .1 .0) (c .walk .result)
     ≡ walkOf (a .m .now) (baseOf (pageOf (restOf (a .card)) controlQueue)) (sizeOf controlQueue) (a .head .0) (indirect (restOf (a .card)))
-walked c = rw (c .before .address .ensures, c .before .before .before .queue-size .ensures, ← (page-in (c .before .before .before .before .before .before .before .args .card)), ← (indirect-in (c .before .before .before .before .before .before .before .args .card))) at (c .walk .ensures .outcome)
+walked c =
+    let back6 = c .before .before .before .before .before .before in
+    rw (c .before .address .ensures, c .before .before .before .before .queue-size .ensures, ← (page-in (back6 .before .before .args .card)), ← (indirect-in (back6 .before .before .args .card))) at (c .walk .ensures .outcome)
 
 element-copy-out-page : tie.Need-element-copy-out-page
 element-copy-out-page c = search needs
@@ -49,13 +52,17 @@ same-length : tie.Need-same-length
 same-length c = search needs
 
 returns : tie.Need-returns
+unfolding rangesIn
 returns c =
-    rw (← (walked (c .before .before .before .before .before .before .before .before)), c .before .before .before .before .before .before .enum-told2 .given .1) (rw (c .before .before .before .before .none .ensures) at (c .before .before .complete .ensures))
+    let back6 = c .before .before .before .before .before .before in
+    rw (← (walked (back6 .before .before .before .before)), back6 .before .enum-told2 .given .1) (rw (c .before .before .before .before .none .ensures) at (c .before .before .complete .ensures))
 
 serve-chain-requires : tie.Need-serve-chain-requires
 serve-chain-requires c κs =
-    let s = c .before .before .before .before .before .before .before .before .before .before .before .before .before in
-    let w = c .before .before .before .before .before .before .walk in
+    let back6 = c .before .before .before .before .before .before in
+    let back12 = back6 .before .before .before .before .before .before in
+    let s = back12 .before .before .before .before in
+    let w = back6 .before .before .walk in
     (s .pre .0, s .pre .1, w .ensures .sound .request, w .ensures .sound .reply)
 
 same-length-2 : tie.Need-same-length-2
@@ -63,7 +70,17 @@ same-length-2 c = search needs
 
 returns-2 : tie.Need-returns-2
 returns-2 c =
-    rw (← (walked (c .before .before .before .before .before .before .before .before .before)), c .before .before .before .before .before .before .before .enum-told .given .1) (c .before .before .serve-chain .ensures)
+    let back6 = c .before .before .before .before .before .before in
+    rw (← (walked (back6 .before .before .before .before .before)), back6 .before .before .enum-told .given .1) (c .before .before .serve-chain .ensures)
+
+slice-aggregate-walk : tie.Need-slice-aggregate-walk
+slice-aggregate-walk c = search needs
+
+slice-aggregate-complete-2 : tie.Need-slice-aggregate-complete-2
+slice-aggregate-complete-2 c = search needs
+
+slice-aggregate-serve-chain : tie.Need-slice-aggregate-serve-chain
+slice-aggregate-serve-chain c = search needs
 
 pub answer-chain-spec : {M : Type 1} → statement M
 answer-chain-spec =
@@ -71,15 +88,18 @@ answer-chain-spec =
     (tie.spec
     element-copy-out-page
     queue-size-requires
+    slice-aggregate-walk
     address-requires
     walk-requires
     enum-told
     enum-told-2
-    none-requires
     slice-aggregate-complete
+    none-requires
+    slice-aggregate-complete-2
     complete-requires
     same-length
     returns
+    slice-aggregate-serve-chain
     serve-chain-requires
     same-length-2
     returns-2)

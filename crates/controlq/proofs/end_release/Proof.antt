@@ -10,7 +10,7 @@ use Rattle.controlq.proofs.end_release.Tie as tie
 
 signalled-fit : (c : tie.After-signal-card) → Fit (c .signal-card .result)
 signalled-fit c =
-    let s = c .before .before .before in
+    let s = c .before .before .before .before in
     let e = s .args .emptied in
     rw (c .signal-card .ensures) (with-registers-fit (e .card) _ (s .pre) (signal-fit (e .signal) (e .card .registers) (s .pre .registers)))
 
@@ -38,11 +38,11 @@ reply-status-requires c κs = search needs
 returns : tie.Need-returns
 returns c =
     let k = c .before .before .before .before .before in
-    let a = k .before .before .before .args in
+    let a = k .before .before .before .before .args in
     let e = a .emptied in
     let f = rw (k .signal-card .ensures) at (signalled-fit k) in
     rw (c .broken-down .ensures, c .before .queue-of .ensures, k .signal-card .ensures, c .before .before .before .stop .given .1)
-    (end-broken (e .card) (a .head) (rangesOf (a .reply)) (a .id) (e .signal) (a .m .now) _, broken-card-fit _ f)
+    (end-broken (e .card) (a .head) (rangesOf (a .list .now) (a .reply)) (a .id) (e .signal) (a .m .now) _, broken-card-fit _ f)
 
 same-length : tie.Need-same-length
 same-length c = search needs
@@ -51,11 +51,11 @@ returns-2 : tie.Need-returns-2
 returns-2 c =
     let n = c .before .before .before in
     let k = n .before .before .before .before in
-    let a = k .before .before .before .args in
+    let a = k .before .before .before .before .args in
     let e = a .emptied in
     let marked = rw (k .signal-card .ensures) at (n .mark-released .ensures .0) in
     rw (n .before .before .enum-told .given .1) (
-      end-replied (e .card) (a .head) (rangesOf (a .reply)) (a .id) (e .signal) (a .m .now) (n .mark-released .result) marked
+      end-replied (e .card) (a .head) (rangesOf (a .list .now) (a .reply)) (a .id) (e .signal) (a .m .now) (n .mark-released .result) marked
           ∙ c .before .before .reply-status .ensures .0,
       c .before .before .reply-status .ensures .1,
     )

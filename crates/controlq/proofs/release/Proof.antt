@@ -30,8 +30,8 @@ returns c =
     let e = emptied c in
     let i = e .before .before in
     let b = i .before in
-    let a = b .before .before .args in (
-      release-output (a .card) (a .head) (rangesOf (a .reply)) (a .id) (a .m .now) _ (e .empty .result) _ (b .backlog .ensures) (i .if1 .taken) (e .empty .ensures)
+    let a = b .before .before .before .args in (
+      release-output (a .card) (a .head) (rangesOf (a .list .now) (a .reply)) (a .id) (a .m .now) _ (e .empty .result) _ (b .backlog .ensures) (i .if1 .taken) (e .empty .ensures)
           ∙ c .before .before .end-release .ensures .0,
       c .before .before .end-release .ensures .1,
     )
@@ -50,8 +50,8 @@ returns-2 c =
     let e = emptied-2 c in
     let i = e .before .before in
     let b = i .before in
-    let a = b .before .before .args in (
-      release-input (a .card) (a .head) (rangesOf (a .reply)) (a .id) (a .m .now) _ (e .empty2 .result) _ (b .backlog .ensures) (i .if1 .left) (e .empty2 .ensures)
+    let a = b .before .before .before .args in (
+      release-input (a .card) (a .head) (rangesOf (a .list .now) (a .reply)) (a .id) (a .m .now) _ (e .empty2 .result) _ (b .backlog .ensures) (i .if1 .left) (e .empty2 .ensures)
           ∙ c .before .before .end-release2 .ensures .0,
       c .before .before .end-release2 .ensures .1,
     )

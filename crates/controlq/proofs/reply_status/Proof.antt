@@ -21,12 +21,12 @@ returns : tie.Need-returns
 returns c =
     let at-complete = c .before .before .before in
     let at-pending-in = at-complete .before .before in
-    let start = at-pending-in .before .before in
+    let start = at-pending-in .before .before .before in
     let a = start .args in
     let o = at-complete .complete in
     let e = rw (at-pending-in .pending-in .ensures) at (o .ensures) in
     rw (c .counted .ensures) (
-      counted-says (a .card) (start .pre) (a .head) (a .reply) (status (a .code)) (a .m .now) (o .last .0) (o .result) e,
+      counted-says (a .card) (start .pre) (a .head) (a .list .now) (a .reply) (status (a .code)) (a .m .now) (o .last .0) (o .result) e,
       counted-fit
           (a .card) (start .pre) (o .result),
     )

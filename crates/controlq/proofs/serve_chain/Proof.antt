@@ -16,36 +16,36 @@ use Rattle.controlq.proofs.serve_chain.Tie as tie
 -- the request is served as the rule has it
 serves-at : (c : tie.After-serve) →
     let back6 = c .before .before .before .before .before .before in
-    let start = back6 .before .before .before .before .before in
+    let start = back6 .before .before .before .before .before .before in
     let a = start .args in
-    Serves (pendingIn (a .card) (a .head) (a .reply)) (a .card .parts)
-    (served (partsOf (a .card .parts)) (bytesAt (a .m .now) (places (rangesOf (a .request)))) (a .reply .bytes))
+    Serves (a .list .now) (pendingIn (a .card) (a .head) (a .reply)) (a .card .parts)
+    (served (partsOf (a .card .parts)) (bytesAt (a .m .now) (places (rangesOf (a .list .now) (a .request)))) (a .reply .bytes))
     (c .serve .result) (a .m .now) (c .serve .last .0)
 serves-at c =
     let at-pending-in = c .before .before in
     let back8 = at-pending-in .before .before .before .before .before .before in
-    let start = back8 .before .before .before in
+    let start = back8 .before .before .before .before in
     rw (at-pending-in .pending-in .ensures) at (c .serve .ensures)
 
 -- past the tests of both sides the request decides
 chain-at : (c : tie.After-serve) →
     let back6 = c .before .before .before .before .before .before in
-    let start = back6 .before .before .before .before .before in
+    let start = back6 .before .before .before .before .before .before in
     let a = start .args in
-    servedChain (a .card) (a .head) (rangesOf (a .request)) (rangesOf (a .reply)) (a .m .now)
-    ≡ acted (served (partsOf (a .card .parts)) (bytesAt (a .m .now) (places (rangesOf (a .request)))) (a .reply .bytes))
-    (pendingOf (a .card) (a .head) (rangesOf (a .reply))) (a .m .now)
+    servedChain (a .card) (a .head) (rangesOf (a .list .now) (a .request)) (rangesOf (a .list .now) (a .reply)) (a .m .now)
+    ≡ acted (served (partsOf (a .card .parts)) (bytesAt (a .m .now) (places (rangesOf (a .list .now) (a .request)))) (a .reply .bytes))
+    (pendingOf (a .card) (a .head) (rangesOf (a .list .now) (a .reply))) (a .m .now)
 chain-at c =
     let at-enum-told3 = c .before .before .before .before in
     let at-judge2 = at-enum-told3 .before .before in
     let at-enum-told = at-judge2 .before in
     let at-judge = at-enum-told .before .before in
-    let start = at-judge .before .before in
+    let start = at-judge .before .before .before in
     let a = start .args in
-    chain-acted (a .card) (a .head) (rangesOf (a .request)) (rangesOf (a .reply)) (a .m .now)
+    chain-acted (a .card) (a .head) (rangesOf (a .list .now) (a .request)) (rangesOf (a .list .now) (a .reply)) (a .m .now)
     (sym (at-judge .judge .ensures) ∙ at-enum-told .enum-told .given .1)
     (sym (at-judge2 .judge2 .ensures) ∙ at-enum-told3 .enum-told3 .given .1) _
-    (ap (λ (room : ℕ). served (partsOf (a .card .parts)) (bytesAt (a .m .now) (places (rangesOf (a .request)))) room) (start .pre .3 .sum))
+    (ap (λ (room : ℕ). served (partsOf (a .card .parts)) (bytesAt (a .m .now) (places (rangesOf (a .list .now) (a .request)))) room) (start .pre .3))
 
 judge-requires : tie.Need-judge-requires
 judge-requires c κs = search needs
@@ -70,9 +70,9 @@ returns c =
     let at-complete = c .before .before in
     let at-enum-told2 = at-complete .before .before .before in
     let at-judge = at-enum-told2 .before .before in
-    let start = at-judge .before .before in
+    let start = at-judge .before .before .before in
     let a = start .args in
-    rw (chain-mute (a .card) (a .head) (rangesOf (a .request)) (rangesOf (a .reply)) (a .m .now)
+    rw (chain-mute (a .card) (a .head) (rangesOf (a .list .now) (a .request)) (rangesOf (a .list .now) (a .reply)) (a .m .now)
     (sym (at-judge .judge .ensures) ∙ at-enum-told2 .enum-told2 .given .1)) (at-complete .complete .ensures)
 
 judge-requires-2 : tie.Need-judge-requires-2
@@ -97,9 +97,9 @@ returns-2 c =
     let at-judge2 = at-enum-told4 .before .before in
     let at-enum-told = at-judge2 .before in
     let at-judge = at-enum-told .before .before in
-    let start = at-judge .before .before in
+    let start = at-judge .before .before .before in
     let a = start .args in
-    rw (chain-bad (a .card) (a .head) (rangesOf (a .request)) (rangesOf (a .reply)) (a .m .now)
+    rw (chain-bad (a .card) (a .head) (rangesOf (a .list .now) (a .request)) (rangesOf (a .list .now) (a .reply)) (a .m .now)
     (sym (at-judge .judge .ensures) ∙ at-enum-told .enum-told .given .1)
     (sym (at-judge2 .judge2 .ensures) ∙ at-enum-told4 .enum-told4 .given .1)) (at-reply-status .reply-status .ensures)
 
@@ -121,7 +121,7 @@ counted-requires c κs =
     let back6 = at-with-parts .before .before .before .before .before .before in
     let at-serve = back6 .before in
     let back13 = at-serve .before .before .before .before .before .before in
-    let start = back13 .before .before .before .before .before in
+    let start = back13 .before .before .before .before .before .before in
     rw (at-with-parts .with-parts .ensures) (fit-with-parts (start .args .card) _ (start .pre .0) (at-serve .serve .ensures .fit))
 
 enum-known-kind-2 : tie.Need-enum-known-kind-2
@@ -131,7 +131,7 @@ release-requires : tie.Need-release-requires
 release-requires c κs =
     let at-serve = c .before .before .before .before .before .before in
     let back12 = at-serve .before .before .before .before .before .before in
-    let start = back12 .before .before .before .before .before in
+    let start = back12 .before .before .before .before .before .before in
     (start .pre .0, at-serve .serve .kept .0 ∙ start .pre .1)
 
 same-length-3 : tie.Need-same-length-3
@@ -144,14 +144,14 @@ returns-3 c =
     let at-kind = at-with-parts .before .before .before in
     let at-serve = at-kind .before .before .before .before in
     let back14 = at-serve .before .before .before .before .before .before in
-    let start = back14 .before .before .before .before .before in
+    let start = back14 .before .before .before .before .before .before in
     let a = start .args in
     let r = at-serve .serve .result in
     let p = at-kind .kind .given .0 .0 in
     rw (chain-at at-serve, at-counted .counted .ensures, at-with-parts .with-parts .ensures) (
-      served-completed (a .card) (start .pre .0) (a .head) (a .reply) r (a .m .now) (at-serve .serve .last .0) _ p (serves-at at-serve)
+      served-completed (a .card) (start .pre .0) (a .head) (a .list .now) (a .reply) r (a .m .now) (at-serve .serve .last .0) _ p (serves-at at-serve)
           (at-kind .kind .given .1),
-      counted-fit (servedCard (a .card) (start .pre .0) (a .head) (a .reply) r (a .m .now) (at-serve .serve .last .0))
+      counted-fit (servedCard (a .card) (start .pre .0) (a .head) (a .list .now) (a .reply) r (a .m .now) (at-serve .serve .last .0))
           (fit-with-parts (a .card) (r .parts) (start .pre .0) (at-serve .serve .ensures .fit)) p,
     )
 
@@ -164,9 +164,9 @@ returns-4 c =
     let at-kind2 = at-release .before .before .before in
     let at-serve = at-kind2 .before .before .before .before in
     let back15 = at-serve .before .before .before .before .before .before in
-    let start = back15 .before .before .before .before .before in
+    let start = back15 .before .before .before .before .before .before in
     let a = start .args in
-    let e = served-release (a .card) (start .pre .0) (a .head) (a .reply) (at-serve .serve .result) (a .m .now)
+    let e = served-release (a .card) (start .pre .0) (a .head) (a .list .now) (a .reply) (at-serve .serve .result) (a .m .now)
     (at-serve .serve .last .0) _ _
     (serves-at at-serve) (at-kind2 .kind2 .given .1) in
     rw (chain-at at-serve, e .0) (rw (e .1) at (at-release .release .ensures))
