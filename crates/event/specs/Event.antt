@@ -29,10 +29,12 @@ cardConnected c i v =
     record {
       «ram_len» = c .«ram_len»;
       registers = c .registers;
-      parts = partsConnected (c .parts) i v;
       queues = c .queues;
       play = c .play;
       capture = c .capture;
+      parts = partsConnected (c .parts) i v;
+      «play_words» = c .«play_words»;
+      «capture_words» = c .«capture_words»;
     }
 
 -- the registers and the event queue's counters put back
@@ -41,10 +43,12 @@ cardHolding g q c =
     record {
       «ram_len» = c .«ram_len»;
       registers = g;
-      parts = c .parts;
       queues = set (c .queues) eventQueue q;
       play = c .play;
       capture = c .capture;
+      parts = c .parts;
+      «play_words» = c .«play_words»;
+      «capture_words» = c .«capture_words»;
     }
 
 -- a call that a check refuses
