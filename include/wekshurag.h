@@ -69,9 +69,9 @@ enum wekshurag_queue {
  * whole, and a copy is a card of its own.
  */
 struct wekshurag_card {
-    uint64_t words[331];
+    uint64_t words[193];
 };
-WEKSHURAG_ASSERT(sizeof(struct wekshurag_card) == 2648, "the card's size");
+WEKSHURAG_ASSERT(sizeof(struct wekshurag_card) == 1544, "the card's size");
 
 /* ---- what a card is made of ------------------------------------------------------------------------------------------------ */
 

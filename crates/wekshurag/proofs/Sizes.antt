@@ -7,7 +7,7 @@ use Rattle.wekshurag.proofs.ReadResult.Laws as ReadResult
 use Rattle.wekshurag.proofs.WriteResult.Laws as WriteResult
 use Rattle.wekshurag.proofs.CallResult.Laws as CallResult
 
-pub wekshurag-card : size Card.mir ≡ 2648
+pub wekshurag-card : size Card.mir ≡ 1544
 wekshurag-card = refl
 
 pub wekshurag-card-align : align Card.mir ≡ 8
