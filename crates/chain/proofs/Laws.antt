@@ -98,18 +98,29 @@ module _ {ws ws′ : List ℕ} {c : Chain} {d : Descriptor} {w : Walked} (j : Jo
   onward-fault e = rw (← (j .outcome), e)
 
   pub onward-last : w .end ≡ Whole → hasNext d ≡ false
-      → onward d (rangesOf ws (c .request)) (rangesOf ws (c .reply)) go ≡ whole (rangesOf ws′ (w .chain .request)) (rangesOf ws′ (w .chain .reply))
+      → onward d (rangesOf ws (c .request)) (rangesOf ws (c .reply)) go
+      ≡ whole (rangesOf ws′ (w .chain .request)) (rangesOf ws′ (w .chain .reply))
   onward-last e h = rw (← (j .outcome), e, h)
 
   pub onward-next : w .end ≡ Whole → hasNext d ≡ true
-      → onward d (rangesOf ws (c .request)) (rangesOf ws (c .reply)) go ≡ go (rangesOf ws′ (w .chain .request)) (rangesOf ws′ (w .chain .reply))
+      → onward d (rangesOf ws (c .request)) (rangesOf ws (c .reply)) go
+      ≡ go (rangesOf ws′ (w .chain .request)) (rangesOf ws′ (w .chain .reply))
   onward-next e h = rw (← (j .outcome), e, h)
 
 -- ---- no descriptor, and a side with one range more
 
 pub sound-empty : (ws : List ℕ) → SoundChain ws emptyChain
 unfolding total rangesIn
-sound-empty ws = record { start = refl; behind = refl; few = omega arith; request = refl; reply = refl; readable = omega arith; writable = omega arith }
+sound-empty ws =
+    record {
+      start = refl;
+      behind = refl;
+      few = omega arith;
+      request = refl;
+      reply = refl;
+      readable = omega arith;
+      writable = omega arith;
+    }
 
 total-snoc : (rs : List Range) (x : Range) → total (rs ++ (x ∷ [])) ≡ total rs + x .len
 unfolding total
@@ -118,14 +129,17 @@ total-snoc rs x = rw total-append (omega arith)
 length-snoc : (rs : List Range) (x : Range) → length (rs ++ (x ∷ [])) ≡ length rs + 1
 length-snoc rs x = length-append rs (x ∷ [])
 
-module _ (ws : List ℕ) (c : Chain) (x : Range) (s : SoundChain ws c) (few : c .request .count + c .reply .count < 34) (room : 68 ≤ length ws) where
+module _ (ws : List ℕ) (c : Chain) (x : Range) (s : SoundChain ws c) (few : c .request .count + c .reply .count < 34)
+    (room : 68 ≤ length ws) where
   -- a range put behind the reply
   module _ (fits : c .reply .bytes + x .len ≤ 1048576) (ws′ : List ℕ) (e : ws′ ≡ putRange ws (c .reply .first + c .reply .count) x) where
     pub reply-kept : rangesOf ws′ (c .request) ≡ rangesOf ws (c .request)
-    reply-kept = rw e (rangesIn-before ws (c .reply .first + c .reply .count) x (c .request .count) (c .request .first) (omega (arith, s .start, s .behind)))
+    reply-kept = rw e (rangesIn-before ws (c .reply .first + c .reply .count) x (c .request .count) (c .request .first)
+        (omega (arith, s .start, s .behind)))
 
     pub reply-more : rangesIn ws′ (c .reply .first) (c .reply .count + 1) ≡ rangesOf ws (c .reply) ++ (x ∷ [])
-    reply-more = rw e (rangesIn-snoc ws (c .reply .first + c .reply .count) x (c .reply .count) (c .reply .first) refl (omega (arith, s .behind)))
+    reply-more = rw e (rangesIn-snoc ws (c .reply .first + c .reply .count) x (c .reply .count) (c .reply .first) refl
+        (omega (arith, s .behind)))
 
     pub reply-sound : SoundChain ws′ (replyWith c (x .len))
     reply-sound =
@@ -140,9 +154,11 @@ module _ (ws : List ℕ) (c : Chain) (x : Range) (s : SoundChain ws c) (few : c 
         }
 
   -- a range put behind the request, while there is no reply
-  module _ (none : c .reply .count ≡ 0) (fits : c .request .bytes + x .len ≤ 1048576) (ws′ : List ℕ) (e : ws′ ≡ putRange ws (c .request .first + c .request .count) x) where
+  module _ (none : c .reply .count ≡ 0) (fits : c .request .bytes + x .len ≤ 1048576) (ws′ : List ℕ)
+      (e : ws′ ≡ putRange ws (c .request .first + c .request .count) x) where
     pub request-more : rangesIn ws′ (c .request .first) (c .request .count + 1) ≡ rangesOf ws (c .request) ++ (x ∷ [])
-    request-more = rw e (rangesIn-snoc ws (c .request .first + c .request .count) x (c .request .count) (c .request .first) refl (omega (arith, s .start)))
+    request-more = rw e (rangesIn-snoc ws (c .request .first + c .request .count) x (c .request .count) (c .request .first) refl
+        (omega (arith, s .start)))
 
     pub request-kept : rangesIn ws′ (c .reply .first + 1) (c .reply .count) ≡ rangesOf ws (c .reply)
     request-kept = rangesIn-none ws′ _ _ none ∙ sym (rangesIn-none ws _ _ none)

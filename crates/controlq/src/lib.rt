@@ -143,7 +143,8 @@ fn complete(
     n: usize,
 ) -> ControlAnswer
     requires { ⌜ Fit card × (n ≤ 132) × (n ≤ length (now bytes)) ⌝ }
-    ensures { λ r. ⌜ (endsOn card (replied (pendingOf card head (rangesOf (now (list .entry)) reply)) (take n (now (bytes .entry))) (now (m .entry)))
+    ensures { λ r. ⌜ (endsOn card
+        (replied (pendingOf card head (rangesOf (now (list .entry)) reply)) (take n (now (bytes .entry))) (now (m .entry)))
         ≡ says r (now (m .exit))) × Fit (r .card) ⌝ }
 {
     let registers = card.registers;

@@ -71,7 +71,8 @@ reaches-past n bytes framing done h = omega arith
 module _ (q : Virtqueue) (ws m host : List ℕ) (f : Flow) (n : ℕ) (busy : Busy f) (inside : f .moved ≤ length host) where
   -- handing on, in the rules' terms
   pub handed-on : Sound ws (f .message .request) → n ≡ min (length host - f .moved) (f .message .request .bytes - 4 - f .message .done)
-      → runOf ws (advancedBy n f) m (sets host (f .moved) (bytesAt m (take n (drop (4 + f .message .done) (places (rangesOf ws (f .message .request)))))))
+      → runOf ws (advancedBy n f) m
+      (sets host (f .moved) (bytesAt m (take n (drop (4 + f .message .done) (places (rangesOf ws (f .message .request)))))))
       ≡ moved (countersOf rules.output) (virtqueueAs rules.output q) (runOf ws f m host)
   unfolding runOf moved payloadOf
   handed-on s e =
@@ -94,7 +95,8 @@ module _ (q : Virtqueue) (ws m host : List ℕ) (f : Flow) (n : ℕ) (busy : Bus
 
   -- filling, in the rules' terms
   pub filled : Sound ws (f .message .reply) → n ≡ min (length host - f .moved) (f .message .reply .bytes - 8 - f .message .done)
-      → runOf ws (advancedBy n f) (putAt m (take n (drop (f .message .done) (places (rangesOf ws (f .message .reply))))) (drop (f .moved) host)) host
+      → runOf ws (advancedBy n f) (putAt m (take n (drop (f .message .done) (places (rangesOf ws (f .message .reply)))))
+      (drop (f .moved) host)) host
       ≡ moved (countersOf rules.input) (virtqueueAs rules.input q) (runOf ws f m host)
   unfolding runOf moved payloadOf
   filled s e =
@@ -148,8 +150,10 @@ advanced-fit len room ws f n bytes framing busy t b e =
 -- the message's count gone, with the counters and the interrupt of a completion
 pub ended-run : (v : rules.Virtqueue) (e : rules.Ending) (code : ℕ) (ws m host : List ℕ) (f : Flow) → Busy f
     → some code ≡ statusOf (v .direction) e rules.wellFormed
-    → runOf ws (endedBy (answeredOf (v .direction) m (v .page) (f .counters .completed) (f .message .head .0) (rangesOf ws (f .message .reply)) (some code) (v .latency) (f .message .done)) f)
-    (answeredOf (v .direction) m (v .page) (f .counters .completed) (f .message .head .0) (rangesOf ws (f .message .reply)) (some code) (v .latency) (f .message .done) .memory) host
+    → runOf ws (endedBy (answeredOf (v .direction) m (v .page) (f .counters .completed) (f .message .head .0)
+    (rangesOf ws (f .message .reply)) (some code) (v .latency) (f .message .done)) f)
+    (answeredOf (v .direction) m (v .page) (f .counters .completed) (f .message .head .0) (rangesOf ws (f .message .reply)) (some code)
+    (v .latency) (f .message .done) .memory) host
     ≡ completed (countersOf (v .direction)) v e (runOf ws f m host)
 unfolding runOf completed answeredOf
 ended-run v e code ws m host f busy s = rw (busy, ← s)
@@ -184,13 +188,23 @@ some-left (x ∷ l) h = omega arith
 
 module _ (v : rules.Virtqueue) (ws m host : List ℕ) (f : Flow) (busy : Busy f) (g : FitMessage (length m) ws (f .message)) where
   pub settled-now : payloadBytes (v .direction) (f .message) - f .message .done ≡ 0
-      → settled (countersOf (v .direction)) v (runOf ws f m host) ≡ completed (countersOf (v .direction)) v rules.finished (runOf ws f m host)
+      → settled (countersOf (v .direction)) v (runOf ws f m host) ≡ completed (countersOf (v .direction)) v rules.finished
+      (runOf ws f m host)
   unfolding runOf
-  settled-now h = rw (busy, nil-of (drop (f .message .done) (payloadOf (v .direction) (takingIn ws (f .message)))) (left-length (v .direction) ws (f .message) (g .request) (g .reply) ∙ h))
+  settled-now h = rw (
+    busy,
+    nil-of (drop (f .message .done) (payloadOf (v .direction) (takingIn ws (f .message))))
+        (left-length (v .direction) ws (f .message) (g .request) (g .reply) ∙ h),
+  )
 
-  pub settled-later : 0 < payloadBytes (v .direction) (f .message) - f .message .done → settled (countersOf (v .direction)) v (runOf ws f m host) ≡ runOf ws f m host
+  pub settled-later : 0 < payloadBytes (v .direction) (f .message) - f .message .done
+      → settled (countersOf (v .direction)) v (runOf ws f m host) ≡ runOf ws f m host
   unfolding runOf
-  settled-later h = rw (busy, not-nil (drop (f .message .done) (payloadOf (v .direction) (takingIn ws (f .message)))) (rw (left-length (v .direction) ws (f .message) (g .request) (g .reply)) h))
+  settled-later h = rw (
+    busy,
+    not-nil (drop (f .message .done) (payloadOf (v .direction) (takingIn ws (f .message))))
+        (rw (left-length (v .direction) ws (f .message) (g .request) (g .reply)) h),
+  )
 
 -- an ill-formed chain
 pub refused-run : (v : rules.Virtqueue) (t : rules.Taking) (status : Option ℕ) (ws m host : List ℕ) (f : Flow)
@@ -255,7 +269,8 @@ module _ (v : rules.Virtqueue) (ws m host : List ℕ) (f : Flow) where
   given-none h = rw h
 
   pub given-one : f .message .count ≡ 1
-      → givenUp (countersOf (v .direction)) v (runOf ws f m host) ≡ completed (countersOf (v .direction)) v rules.released (runOf ws f m host)
+      → givenUp (countersOf (v .direction)) v (runOf ws f m host) ≡ completed (countersOf (v .direction)) v rules.released
+      (runOf ws f m host)
   unfolding runOf
   given-one h = rw h
 
@@ -268,12 +283,15 @@ module _ (v : rules.Virtqueue) (ws m host : List ℕ) (f : Flow) where
   pub worked-idle : f .message .count ≡ 0 → worked (countersOf (v .direction)) v (runOf ws f m host) ≡ runOf ws f m host
   unfolding runOf
   worked-idle h = by (ltb 0 (length host - f .moved)) where
-    by : (b : Bool) → cond (b && not (isNone (messageOf ws (f .message)))) (settled (countersOf (v .direction)) v (moved (countersOf (v .direction)) v (runOf ws f m host))) (runOf ws f m host) ≡ runOf ws f m host
+    by : (b : Bool) → cond (b && not (isNone (messageOf ws (f .message))))
+        (settled (countersOf (v .direction)) v (moved (countersOf (v .direction)) v (runOf ws f m host))) (runOf ws f m host)
+        ≡ runOf ws f m host
     by true = rw h
     by false = refl
 
   pub worked-busy : f .moved < length host → f .message .count ≡ 1
-      → worked (countersOf (v .direction)) v (runOf ws f m host) ≡ settled (countersOf (v .direction)) v (moved (countersOf (v .direction)) v (runOf ws f m host))
+      → worked (countersOf (v .direction)) v (runOf ws f m host) ≡ settled (countersOf (v .direction)) v
+      (moved (countersOf (v .direction)) v (runOf ws f m host))
   unfolding runOf
   worked-busy h b = rw (lt-ltb 0 (length host - f .moved) (omega arith), b)
 

@@ -36,4 +36,5 @@ pub flowed-fit : (d : Direction) (g : Flow) (ws : List ℕ) (c : Card)
 flowed-fit d g ws c f h =
     let signal = signal-fit (g .signal) (c .registers) (f .registers) in
     let registers = broken-by-fit (g .stop) (signalledIf (g .signal) (c .registers)) signal in
-    with-flow-fit d g ws (withRegisters (registersAfter g (c .registers)) c) (with-registers-fit c (registersAfter g (c .registers)) f registers) h
+    with-flow-fit d g ws (withRegisters (registersAfter g (c .registers)) c)
+    (with-registers-fit c (registersAfter g (c .registers)) f registers) h

@@ -85,7 +85,8 @@ module _ (way : Direction) (backlog : ℕ) (c : Card) (m host : List ℕ) where
     transfer-broken cause h = by-check (Check.Broken cause) h ∙ unmoved way (brokenAnswer (rules.queueNumber d) cause) (broken (c .registers))
 
     module _ (n : ℕ) (h : checked ≡ Check.New n) (ws′ m′ host′ : List ℕ) (g : Flow)
-        (run : runOf ws′ g m′ host′ ≡ transferRun (countersOf d) lies n (begun (queueOf (wordsIn c way) (countersIn c way) (messageIn c way)) m host))
+        (run : runOf ws′ g m′ host′ ≡ transferRun (countersOf d) lies n
+        (begun (queueOf (wordsIn c way) (countersIn c way) (messageIn c way)) m host))
         (inside : g .moved ≤ length host) (long : length host′ ≡ length host) where
       counted : length (take (g .moved) host′) ≡ g .moved
       counted = rw length-take (omega arith)
@@ -111,7 +112,8 @@ module _ (way : Direction) (backlog : ℕ) (c : Card) (m host : List ℕ) where
       after Input = flowed-device (withRegisters (registersAfter g (c .registers)) c) g ws′ (f .four) Input
 
       told : transferStep d host (deviceOf c) (transferredBy (rules.queueNumber d) (restOf c .registers) (runOf ws′ g m′ host′))
-          ≡ leaves (flowedCard way g ws′ c) (answerBy (rules.queueNumber d) (g .stop)) (g .moved) (take (g .moved) host′) (bufferOf d host′) m′
+          ≡ leaves (flowedCard way g ws′ c) (answerBy (rules.queueNumber d) (g .stop)) (g .moved) (take (g .moved) host′)
+          (bufferOf d host′) m′
       unfolding transferStep runOf deviceOf restOf
       told = rw (after way, counted, buffer d)
 
@@ -127,10 +129,12 @@ module _ (way : Direction) (backlog : ℕ) (c : Card) (m host : List ℕ) where
           let own-fit = queue-fit c way f in
           flowed-fit way g ws′ c f
           (fit-of d (c .«ram_len») ws′ (g .counters) (g .message) message room
-          (rw left-queue (transfer-kept lies n first (counted-of d (c .«ram_len») (wordsIn c way) (countersIn c way) (messageIn c way) own-fit)))
+          (rw left-queue (transfer-kept lies n first (counted-of d (c .«ram_len») (wordsIn c way) (countersIn c way)
+          (messageIn c way) own-fit)))
           (waits-same d _ _ left-queue
           (transfer-waits lies n first (waits-of d (c .«ram_len») (wordsIn c way) (countersIn c way) (messageIn c way) own-fit))))
 
       pub transfer-new : movedBy d backlog c host m
-          ≡ leaves (flowedCard way g ws′ c) (answerBy (rules.queueNumber d) (g .stop)) (g .moved) (take (g .moved) host′) (bufferOf d host′) m′
+          ≡ leaves (flowedCard way g ws′ c) (answerBy (rules.queueNumber d) (g .stop)) (g .moved) (take (g .moved) host′)
+          (bufferOf d host′) m′
       transfer-new = by-check (Check.New n) h ∙ rw (queue-in c way, ← run) told

@@ -89,7 +89,8 @@ module _ (d : rules.Direction) (len : ℕ) (ws : List ℕ) (q : Counters) (m : M
   pub waits-of : FitIn d len ws q m → Waits d (queueOf ws q m)
   waits-of f = waits-by (m .count) refl f
 
-  module _ (g : FitMessage len ws m) (room : length ws ≡ 68) (k : Counted (sizeOf (rules.queueNumber d)) (queueOf ws q m)) (w : Waits d (queueOf ws q m)) where
+  module _ (g : FitMessage len ws m) (room : length ws ≡ 68) (k : Counted (sizeOf (rules.queueNumber d)) (queueOf ws q m))
+      (w : Waits d (queueOf ws q m)) where
     fit-by : (n : ℕ) → m .count ≡ n → FitIn d len ws q m
     fit-by zero e =
         record {

@@ -32,7 +32,8 @@ unfolding restOf
 virtqueue-in c d latency = refl
 
 -- the rules' queue is the card's counters and message
-pub queue-in : (c : Card) (d : Direction) → rules.queueFor (directionOf d) (deviceOf c) ≡ queueOf (wordsIn c d) (countersIn c d) (messageIn c d)
+pub queue-in : (c : Card) (d : Direction) → rules.queueFor (directionOf d) (deviceOf c)
+    ≡ queueOf (wordsIn c d) (countersIn c d) (messageIn c d)
 unfolding deviceOf restOf
 queue-in c Output = refl
 queue-in c Input = refl

@@ -104,7 +104,8 @@ module _ (c : Card) (d : Direction) (latency : ℕ) (m : List ℕ) (f : Fit c) w
         let first = runOf (wordsIn c d) (freshFlow (countersIn c d) (messageIn c d)) m [] in
         let none = release-none lies n first in
         fit-of way (c .«ram_len») ws′ (g .counters) (g .message) (rw long at (s .message)) room
-        (rw left-queue (release-kept lies n first (counted-of way (c .«ram_len») (wordsIn c d) (countersIn c d) (messageIn c d) (queue-fit c d f))))
+        (rw left-queue (release-kept lies n first (counted-of way (c .«ram_len») (wordsIn c d) (countersIn c d) (messageIn c d)
+        (queue-fit c d f))))
         (waits-same way _ _ left-queue (λ h. absurd (true≢false (sym none ∙ h))))
 
     pub empties-new : Empties way latency c m m′ (record { stop = g .stop; signal = g .signal; card = withFlow d g ws′ c })

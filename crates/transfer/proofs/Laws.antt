@@ -34,7 +34,11 @@ room-test a b = by (ltb b a) refl where
 module _ (v : rules.Virtqueue) (ws m host : List ℕ) (f : Flow) where
   pub goes-on : transferMore (countersOf (v .direction)) v (runOf ws f m host) ≡ goesOn f (length host)
   unfolding runOf
-  goes-on = rw (room-test (length host) (f .moved), none-when (eqb (f .message .count) 0) (record { taking = takingIn ws (f .message); done = f .message .done }))
+  goes-on = rw (
+    room-test (length host) (f .moved),
+    none-when (eqb (f .message .count) 0)
+        (record { taking = takingIn ws (f .message); done = f .message .done }),
+  )
 
 module _ (v : rules.Virtqueue) (ws m host : List ℕ) (f : Flow) where
   pub release-goes-on : releaseMore (countersOf (v .direction)) v (runOf ws f m host) ≡ releaseGoesOn f

@@ -18,7 +18,8 @@ Inv-loop m list₀ size indirect chain₀ number₀ left₀ d list chain number 
     × (chain .request .count + chain .reply .count + left ≤ 34)
     × (length list ≡ length list₀)
     × (inTable left (descriptors m (d .at .0) (d .len / 16)) (number .0) (rangesOf list (chain .request)) (rangesOf list (chain .reply))
-    ≡ inTable left₀ (descriptors m (d .at .0) (d .len / 16)) (number₀ .0) (rangesOf list₀ (chain₀ .request)) (rangesOf list₀ (chain₀ .reply)))
+    ≡ inTable left₀ (descriptors m (d .at .0) (d .len / 16)) (number₀ .0) (rangesOf list₀ (chain₀ .request))
+    (rangesOf list₀ (chain₀ .reply)))
 
 abbrev μ-loop : tie.MeasureT-loop
 μ-loop m list₀ size indirect chain₀ number₀ left₀ d list chain number left = left
@@ -63,7 +64,8 @@ inside :
     let l = at-walk .walk in
     let a = start .args in
     let d = at-read .read .result in
-    inTable (l .left) (descriptors (a .m .now) (d .at .0) (d .len / 16)) 0 (rangesOf (l .list) (l .chain .request)) (rangesOf (l .list) (l .chain .reply))
+    inTable (l .left) (descriptors (a .m .now) (d .at .0) (d .len / 16)) 0 (rangesOf (l .list) (l .chain .request))
+    (rangesOf (l .list) (l .chain .reply))
     ≡ walkOf (a .m .now) (a .table .0) (a .size) (a .head .0) (a .indirect)
 inside c =
     rw (
@@ -91,7 +93,8 @@ inner :
     (c : tie.After-read2 Inv-loop μ-loop Inv-walk μ-walk)
     → let at-loop = c .before .before .before .before .before in
     let at-read = at-loop .before .before .before .before .before .before .before in
-    let back19 = at-read .before .before .before .before .before .before .before in
+    let mid-back19 = at-read .before .before .before .before .before .before in
+    let back19 = mid-back19 .before in
     let start = back19 .before in
     let l = at-loop .loop in
     let a = start .args in
@@ -102,7 +105,8 @@ inner :
 inner c =
     let at-loop = c .before .before .before .before .before in
     let at-read = at-loop .before .before .before .before .before .before .before in
-    let back19 = at-read .before .before .before .before .before .before .before in
+    let mid-back19 = at-read .before .before .before .before .before .before in
+    let back19 = mid-back19 .before in
     let start = back19 .before in
     let l = at-loop .loop in
     let d = at-read .read .result in
@@ -114,7 +118,11 @@ inner c =
     ∙ entry (at-loop .before)
 
 -- the list keeps its length in an indirect table
-long : (c : tie.At-loop Inv-loop μ-loop Inv-walk μ-walk) → length (c .loop .list) ≡ length (c .before .before .before .before .before .before .before .before .before .before .before .before .before .before .before .args .list .now)
+long :
+    (c : tie.At-loop Inv-loop μ-loop Inv-walk μ-walk)
+    → let back6 = c .before .before .before .before .before .before in
+    let back12 = back6 .before .before .before .before .before .before in
+    length (c .loop .list) ≡ length (back12 .before .before .before .args .list .now)
 long c =
     let back6 = c .before .before .before .before .before .before in
     c .loop .inv .2 ∙ back6 .before .before .before .before .before .walk .inv .2
@@ -291,7 +299,8 @@ returns-5 : tie.Need-returns-5 Inv-loop μ-loop Inv-walk μ-walk
 returns-5 c =
     let back5 = c .before .before .before .before .before in
     let at-read = back5 .before .before .before .before .before .before in
-    let back18 = at-read .before .before .before .before .before .before .before in
+    let mid-back18 = at-read .before .before .before .before .before .before in
+    let back18 = mid-back18 .before in
     let start = back18 .before in
     let l = c .before .before .before .before .loop in
     let d = at-read .read .result in

@@ -20,7 +20,8 @@ use Rattle.commands.proofs.command.Tie as tie
 -- the stream that was found is the one asked for
 the-stream : (c : tie.After-known-told) →
     let at-i = c .before in
-    let start = at-i .before .before .before .before .before .before .before in
+    let mid-start = at-i .before .before .before .before .before .before in
+    let start = mid-start .before in
     at-i .i .given .0 .0 ≡ word (start .args .request .now) 1
 the-stream c =
     let at-i = c .before in
@@ -32,7 +33,8 @@ the-stream c =
     ∙ at-number32 .number32 .ensures
 
 there : (c : tie.After-known-told) →
-    let back7 = c .before .before .before .before .before .before .before in
+    let mid-back7 = c .before .before .before .before .before .before in
+    let back7 = mid-back7 .before in
     let start = back7 .before in
     ltb (word (start .args .request .now) 1) (start .args .t3 .«stream_count») ≡ true
 there c =
@@ -43,7 +45,8 @@ there c =
 
 inside : (c : tie.After-known-told) →
     let at-i = c .before in
-    let start = at-i .before .before .before .before .before .before .before in
+    let mid-start = at-i .before .before .before .before .before .before in
+    let start = mid-start .before in
     at-i .i .given .0 .0 < start .args .t3 .«stream_count»
 inside c = rw (the-stream c) (ltb-true _ _ (there c))
 
@@ -113,10 +116,12 @@ returns-2 c =
     let at-enum-told2 = at-answer2 .before .before in
     let at-lifecycle = at-enum-told2 .before .before in
     let at-known-told = at-lifecycle .before .before in
-    let back15 = at-known-told .before .before .before .before .before .before .before in
+    let mid-back15 = at-known-told .before .before .before .before .before .before in
+    let back15 = mid-back15 .before in
     let start = back15 .before in
     let a = start .args in
-    let unlawful : transition (a .asked) (getD (a .t3 .streams) (word (a .request .now) 1) noStream .state) ≡ none = rw (← (the-stream at-known-told))
+    let unlawful : transition (a .asked) (getD (a .t3 .streams) (word (a .request .now) 1) noStream .state)
+    ≡ none = rw (← (the-stream at-known-told))
     (led-nowhere (transition (a .asked) (getD (a .t3 .streams) (at-known-told .before .i .given .0 .0) noStream .state))
     (sym (at-lifecycle .lifecycle .ensures .0) ∙ at-enum-told2 .enum-told2 .given .1)) in
     rw (command-led (a .t3) (start .pre) (a .asked) (a .request .now) (there at-known-told) none unlawful)
@@ -127,7 +132,8 @@ obey-requires c κs =
     let at-state = c .before .before in
     let at-lifecycle = at-state .before .before in
     let at-known-told = at-lifecycle .before .before in
-    let back13 = at-known-told .before .before .before .before .before .before .before in
+    let mid-back13 = at-known-told .before .before .before .before .before .before in
+    let back13 = mid-back13 .before in
     let start = back13 .before in
     (start .pre, inside at-known-told, rw (at-state .state .given .1) at (at-lifecycle .lifecycle .ensures .1))
 
@@ -140,14 +146,19 @@ returns-3 c =
     let at-state = at-obey .before .before .before in
     let at-lifecycle = at-state .before .before in
     let at-known-told = at-lifecycle .before .before in
-    let back16 = at-known-told .before .before .before .before .before .before .before in
+    let mid-back16 = at-known-told .before .before .before .before .before .before in
+    let back16 = mid-back16 .before in
     let start = back16 .before in
     let a = start .args in
     let state = at-state .state .given .0 .0 in
-    let lawful : transition (a .asked) (getD (a .t3 .streams) (word (a .request .now) 1) noStream .state) ≡ some state = rw (← (the-stream at-known-told))
+    let lawful : transition (a .asked) (getD (a .t3 .streams) (word (a .request .now) 1) noStream .state)
+    ≡ some state = rw (← (the-stream at-known-told))
     (led-to (transition (a .asked) (getD (a .t3 .streams) (at-known-told .before .i .given .0 .0) noStream .state)) state
     (sym (at-lifecycle .lifecycle .ensures .0) ∙ at-state .state .given .1)) in
-    rw (command-led (a .t3) (start .pre) (a .asked) (a .request .now) (there at-known-told) (some state) lawful, ← (the-stream at-known-told))
+    rw (
+      command-led (a .t3) (start .pre) (a .asked) (a .request .now) (there at-known-told) (some state) lawful,
+      ← (the-stream at-known-told),
+    )
     (at-obey .obey .ensures)
 
 pub command-spec : {M : Type 1} → statement M

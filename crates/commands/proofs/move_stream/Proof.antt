@@ -24,7 +24,8 @@ returns : tie.Need-returns
 returns c =
     let at-answer = c .before .before in
     let at-with-stream = at-answer .before in
-    let start = at-with-stream .before .before .before .before .before .before .before in
+    let mid-start = at-with-stream .before .before .before .before .before .before in
+    let start = mid-start .before in
     let a = start .args in
     rw (stream-at (a .t3) (a .i) (start .pre .1))
     (serves-stream _ (a .pending) (a .t3) _ _ _ (a .i) _ _ (start .pre .0) (start .pre .1) (start .pre .2)

@@ -12,7 +12,8 @@ use Rattle.commands.proofs.set_offered.Statement.{statement}
 use Rattle.commands.proofs.set_offered.Tie as tie
 
 buffers : (c : tie.After-enum-told) →
-    let start = c .before .before .before .before .before .before .before in
+    let mid-start = c .before .before .before .before .before .before in
+    let start = mid-start .before in
     bufferOffered (start .args .p) ≡ true
 buffers c =
     let back6 = c .before .before .before .before .before .before in
@@ -32,11 +33,13 @@ features c =
 
 channels : (c : tie.After-enum-told5) →
     let back6 = c .before .before .before .before .before .before in
-    let start = back6 .before .before .before .before .before .before .before in
+    let mid-start = back6 .before .before .before .before .before .before in
+    let start = mid-start .before in
     channelsOffered (getD (start .args .t3 .streams) (start .args .i) noStream .info) (start .args .p) ≡ true
 channels c =
     let back6 = c .before .before .before .before .before .before in
-    let start = back6 .before .before .before .before .before .before .before in
+    let mid-start = back6 .before .before .before .before .before .before in
+    let start = mid-start .before in
     check-passed (channelsOffered (getD (start .args .t3 .streams) (start .args .i) noStream .info) (start .args .p))
     (sym (c .before .before .are-channels-offered .ensures) ∙ c .enum-told5 .given .1)
 
@@ -55,12 +58,14 @@ formats c =
 rates : (c : tie.After-enum-told9) →
     let back6 = c .before .before .before .before .before .before in
     let back12 = back6 .before .before .before .before .before .before in
-    let start = back12 .before .before .before .before .before .before .before in
+    let mid-start = back12 .before .before .before .before .before .before in
+    let start = mid-start .before in
     rateOffered (getD (start .args .t3 .streams) (start .args .i) noStream .info) (start .args .p) ≡ true
 rates c =
     let back6 = c .before .before .before .before .before .before in
     let back12 = back6 .before .before .before .before .before .before in
-    let start = back12 .before .before .before .before .before .before .before in
+    let mid-start = back12 .before .before .before .before .before .before in
+    let start = mid-start .before in
     check-passed (rateOffered (getD (start .args .t3 .streams) (start .args .i) noStream .info) (start .args .p))
     (sym (c .before .before .is-rate-offered .ensures) ∙ c .enum-told9 .given .1)
 
@@ -134,7 +139,8 @@ returns-2 c =
     let at-enum-told4 = at-answer2 .before .before in
     let at-are-features-offered = at-enum-told4 .before .before in
     let at-enum-told = at-are-features-offered .before in
-    let start = at-enum-told .before .before .before .before .before .before .before in
+    let mid-start = at-enum-told .before .before .before .before .before .before in
+    let start = mid-start .before in
     let a = start .args in
     rw (
       stream-at (a .t3) (a .i) (start .pre .1),
@@ -166,7 +172,8 @@ returns-3 c =
     let at-are-channels-offered = at-enum-told6 .before .before in
     let at-enum-told3 = at-are-channels-offered .before in
     let at-enum-told = at-enum-told3 .before .before .before in
-    let start = at-enum-told .before .before .before .before .before .before .before in
+    let mid-start = at-enum-told .before .before .before .before .before .before in
+    let start = mid-start .before in
     let a = start .args in
     rw (
       stream-at (a .t3) (a .i) (start .pre .1),
@@ -200,7 +207,8 @@ returns-4 c =
     let at-enum-told5 = at-is-format-offered .before in
     let at-enum-told3 = at-enum-told5 .before .before .before in
     let at-enum-told = at-enum-told3 .before .before .before in
-    let start = at-enum-told .before .before .before .before .before .before .before in
+    let mid-start = at-enum-told .before .before .before .before .before .before in
+    let start = mid-start .before in
     let a = start .args in
     rw (
       stream-at (a .t3) (a .i) (start .pre .1),
@@ -236,7 +244,8 @@ returns-5 c =
     let at-enum-told5 = at-enum-told7 .before .before .before in
     let at-enum-told3 = at-enum-told5 .before .before .before in
     let at-enum-told = at-enum-told3 .before .before .before in
-    let start = at-enum-told .before .before .before .before .before .before .before in
+    let mid-start = at-enum-told .before .before .before .before .before .before in
+    let start = mid-start .before in
     let a = start .args in
     rw (
       stream-at (a .t3) (a .i) (start .pre .1),
@@ -274,7 +283,8 @@ returns-6 c =
     let at-enum-told5 = at-enum-told7 .before .before .before in
     let at-enum-told3 = at-enum-told5 .before .before .before in
     let at-enum-told = at-enum-told3 .before .before .before in
-    let start = at-enum-told .before .before .before .before .before .before .before in
+    let mid-start = at-enum-told .before .before .before .before .before .before in
+    let start = mid-start .before in
     let a = start .args in
     rw (
       stream-at (a .t3) (a .i) (start .pre .1),
@@ -312,7 +322,8 @@ returns-7 c =
     let at-enum-told5 = at-enum-told7 .before .before .before in
     let at-enum-told3 = at-enum-told5 .before .before .before in
     let at-enum-told = at-enum-told3 .before .before .before in
-    let start = at-enum-told .before .before .before .before .before .before .before in
+    let mid-start = at-enum-told .before .before .before .before .before .before in
+    let start = mid-start .before in
     let a = start .args in
     rw (
       stream-at (a .t3) (a .i) (start .pre .1),

@@ -11,7 +11,8 @@ use Rattle.commands.proofs.set_params.Statement.{statement}
 use Rattle.commands.proofs.set_params.Tie as tie
 
 unpadding : (c : tie.After-enum-told) →
-    let back7 = c .before .before .before .before .before .before .before in
+    let mid-back7 = c .before .before .before .before .before .before in
+    let back7 = mid-back7 .before in
     let start = back7 .before in
     unpadded (le 1 (start .args .request .now) 23) ≡ true
 unpadding c =

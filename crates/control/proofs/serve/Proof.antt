@@ -16,20 +16,23 @@ use Rattle.control.proofs.serve.Statement.{statement}
 use Rattle.control.proofs.serve.Tie as tie
 
 code-is : (c : tie.After-number32) →
-    let back7 = c .before .before .before .before .before .before .before in
+    let mid-back7 = c .before .before .before .before .before .before in
+    let back7 = mid-back7 .before in
     let start = back7 .before in
     c .number32 .result ≡ word (bytesAt (start .args .m .now) (places (rangesOf (start .args .list .now) (start .args .request)))) 0
 code-is c =
     let at-gather = c .before .before .before in
     let start = at-gather .before .before .before .before .before in
     c .number32 .ensures
-    ∙ rw (at-gather .gather .ensures) (words-agree (start .args .m .now) (places (rangesOf (start .args .list .now) (start .args .request))) 4 0 (omega arith))
+    ∙ rw (at-gather .gather .ensures) (words-agree (start .args .m .now)
+    (places (rangesOf (start .args .list .now) (start .args .request))) 4 0 (omega arith))
 
 known : (c : tie.After-known-told) →
     let at-asked = c .before in
     let back7 = at-asked .before .before .before .before .before .before in
     let start = back7 .before .before .before .before .before in
-    decodedOf (word (bytesAt (start .args .m .now) (places (rangesOf (start .args .list .now) (start .args .request)))) 0) ≡ Known (at-asked .asked .given .0 .0)
+    decodedOf (word (bytesAt (start .args .m .now) (places (rangesOf (start .args .list .now) (start .args .request)))) 0)
+    ≡ Known (at-asked .asked .given .0 .0)
 known c =
     let at-asked = c .before in
     let at-decode = at-asked .before .before in
@@ -70,7 +73,8 @@ returns c =
     let at-enum-told = at-answer .before .before in
     let at-decode = at-enum-told .before .before in
     let at-number32 = at-decode .before in
-    let back14 = at-number32 .before .before .before .before .before .before .before in
+    let mid-back14 = at-number32 .before .before .before .before .before .before in
+    let back14 = mid-back14 .before in
     let start = back14 .before in
     let a = start .args in
     let q = bytesAt (start .args .m .now) (places (rangesOf (start .args .list .now) (start .args .request))) in

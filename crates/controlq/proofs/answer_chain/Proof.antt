@@ -14,12 +14,19 @@ use Rattle.controlq.proofs.answer_chain.Statement.{statement}
 use Rattle.controlq.proofs.answer_chain.Tie as tie
 
 walked : (c : tie.After-walk)
-    → let a = c .before .before .before .before .before .before .before .before .args in
+    → let mid-a = c .before .before .before .before .before .before in
+    let a = mid-a .before .before .args in
     outcomeOf (c .walk .last .1 .0) (c .walk .result)
     ≡ walkOf (a .m .now) (baseOf (pageOf (restOf (a .card)) controlQueue)) (sizeOf controlQueue) (a .head .0) (indirect (restOf (a .card)))
 walked c =
     let back6 = c .before .before .before .before .before .before in
-    rw (c .before .address .ensures, c .before .before .before .before .queue-size .ensures, ← (page-in (back6 .before .before .args .card)), ← (indirect-in (back6 .before .before .args .card))) at (c .walk .ensures .outcome)
+    rw (
+      c .before .address .ensures,
+      c .before .before .before .before .queue-size .ensures,
+      ← (page-in (back6 .before .before .args .card)),
+      ← (indirect-in
+          (back6 .before .before .args .card)),
+    ) at (c .walk .ensures .outcome)
 
 element-copy-out-page : tie.Need-element-copy-out-page
 element-copy-out-page c = search needs
@@ -55,7 +62,8 @@ returns : tie.Need-returns
 unfolding rangesIn
 returns c =
     let back6 = c .before .before .before .before .before .before in
-    rw (← (walked (back6 .before .before .before .before)), back6 .before .enum-told2 .given .1) (rw (c .before .before .before .before .none .ensures) at (c .before .before .complete .ensures))
+    rw (← (walked (back6 .before .before .before .before)), back6 .before .enum-told2 .given .1)
+    (rw (c .before .before .before .before .none .ensures) at (c .before .before .complete .ensures))
 
 serve-chain-requires : tie.Need-serve-chain-requires
 serve-chain-requires c κs =
@@ -71,7 +79,8 @@ same-length-2 c = search needs
 returns-2 : tie.Need-returns-2
 returns-2 c =
     let back6 = c .before .before .before .before .before .before in
-    rw (← (walked (back6 .before .before .before .before .before)), back6 .before .before .enum-told .given .1) (c .before .before .serve-chain .ensures)
+    rw (← (walked (back6 .before .before .before .before .before)), back6 .before .before .enum-told .given .1)
+    (c .before .before .serve-chain .ensures)
 
 slice-aggregate-walk : tie.Need-slice-aggregate-walk
 slice-aggregate-walk c = search needs

@@ -31,12 +31,14 @@ returns : tie.Need-returns
 returns c =
     let at-complete = c .before .before .before in
     let at-size = at-complete .before .before in
-    let start = at-size .before .before .before .before .before .before .before in
+    let mid-start = at-size .before .before .before .before .before .before in
+    let start = mid-start .before in
     let a = start .args in
     let o = at-complete .complete in
     let e = rw (at-size .queue-size .ensures) at (o .ensures) in
     rw (c .counted .ensures) (
-      counted-says (a .t3) (start .pre .0) (a .head) (a .list .now) (a .reply) (take (a .n) (a .bytes .now)) (a .m .now) (o .last .0) (o .result)
+      counted-says (a .t3) (start .pre .0) (a .head) (a .list .now) (a .reply) (take (a .n) (a .bytes .now)) (a .m .now) (o .last .0)
+          (o .result)
           (e ∙ completed-front (a .t3) (a .head) (a .list .now) (a .reply) (a .bytes .now) (a .n) (a .m .now) (start .pre .2)),
       counted-fit (a .t3) (start .pre .0) (o .result),
     )

@@ -13,11 +13,19 @@ returns c = rw (sym (c .before .all-inside .ensures) ∙ not-true _ (c .if1 .tak
 
 returns-2 : tie.Need-returns-2
 returns-2 c =
-    rw (sym (c .before .before .before .all-inside .ensures) ∙ not-false _ (c .before .before .if1 .left), ← (c .before .before .before .before .before .pre), lt-leb _ _ (c .if2 .taken))
+    rw (
+      sym (c .before .before .before .all-inside .ensures) ∙ not-false _ (c .before .before .if1 .left),
+      ← (c .before .before .before .before .before .pre),
+      lt-leb _ _ (c .if2 .taken),
+    )
 
 returns-3 : tie.Need-returns-3
 returns-3 c =
-    rw (sym (c .before .before .before .all-inside .ensures) ∙ not-false _ (c .before .before .if1 .left), ← (c .before .before .before .before .before .pre), le-leb _ _ (c .if2 .left))
+    rw (
+      sym (c .before .before .before .all-inside .ensures) ∙ not-false _ (c .before .before .if1 .left),
+      ← (c .before .before .before .before .before .pre),
+      le-leb _ _ (c .if2 .left),
+    )
 
 pub judge-spec : {M : Type 1} → statement M
 judge-spec = tie.close (tie.spec all-inside-requires returns returns-2 returns-3)

@@ -31,7 +31,8 @@ returns c =
     let i = e .before .before in
     let b = i .before in
     let a = b .before .before .before .args in (
-      release-output (a .card) (a .head) (rangesOf (a .list .now) (a .reply)) (a .id) (a .m .now) _ (e .empty .result) _ (b .backlog .ensures) (i .if1 .taken) (e .empty .ensures)
+      release-output (a .card) (a .head) (rangesOf (a .list .now) (a .reply)) (a .id) (a .m .now) _ (e .empty .result) _
+          (b .backlog .ensures) (i .if1 .taken) (e .empty .ensures)
           ∙ c .before .before .end-release .ensures .0,
       c .before .before .end-release .ensures .1,
     )
@@ -51,7 +52,8 @@ returns-2 c =
     let i = e .before .before in
     let b = i .before in
     let a = b .before .before .before .args in (
-      release-input (a .card) (a .head) (rangesOf (a .list .now) (a .reply)) (a .id) (a .m .now) _ (e .empty2 .result) _ (b .backlog .ensures) (i .if1 .left) (e .empty2 .ensures)
+      release-input (a .card) (a .head) (rangesOf (a .list .now) (a .reply)) (a .id) (a .m .now) _ (e .empty2 .result) _
+          (b .backlog .ensures) (i .if1 .left) (e .empty2 .ensures)
           ∙ c .before .before .end-release2 .ensures .0,
       c .before .before .end-release2 .ensures .1,
     )

@@ -45,7 +45,8 @@ chain-at c =
     chain-acted (a .card) (a .head) (rangesOf (a .list .now) (a .request)) (rangesOf (a .list .now) (a .reply)) (a .m .now)
     (sym (at-judge .judge .ensures) ∙ at-enum-told .enum-told .given .1)
     (sym (at-judge2 .judge2 .ensures) ∙ at-enum-told3 .enum-told3 .given .1) _
-    (ap (λ (room : ℕ). served (partsOf (a .card .parts)) (bytesAt (a .m .now) (places (rangesOf (a .list .now) (a .request)))) room) (start .pre .3))
+    (ap (λ (room : ℕ). served (partsOf (a .card .parts)) (bytesAt (a .m .now) (places (rangesOf (a .list .now) (a .request)))) room)
+    (start .pre .3))
 
 judge-requires : tie.Need-judge-requires
 judge-requires c κs = search needs
@@ -149,7 +150,8 @@ returns-3 c =
     let r = at-serve .serve .result in
     let p = at-kind .kind .given .0 .0 in
     rw (chain-at at-serve, at-counted .counted .ensures, at-with-parts .with-parts .ensures) (
-      served-completed (a .card) (start .pre .0) (a .head) (a .list .now) (a .reply) r (a .m .now) (at-serve .serve .last .0) _ p (serves-at at-serve)
+      served-completed (a .card) (start .pre .0) (a .head) (a .list .now) (a .reply) r (a .m .now) (at-serve .serve .last .0) _ p
+          (serves-at at-serve)
           (at-kind .kind .given .1),
       counted-fit (servedCard (a .card) (start .pre .0) (a .head) (a .list .now) (a .reply) r (a .m .now) (at-serve .serve .last .0))
           (fit-with-parts (a .card) (r .parts) (start .pre .0) (at-serve .serve .ensures .fit)) p,

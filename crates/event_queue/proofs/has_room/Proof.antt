@@ -13,7 +13,11 @@ all-inside-requires c κs = search needs
 
 returns-2 : tie.Need-returns-2
 returns-2 c =
-    rw (← (c .before .before .before .before .before .before .pre .0), eq-eqb _ _ (c .before .before .if1 .left), sym (c .before .all-inside .ensures) ∙ not-true _ (c .if2 .taken))
+    rw (
+      ← (c .before .before .before .before .before .before .pre .0),
+      eq-eqb _ _ (c .before .before .if1 .left),
+      sym (c .before .all-inside .ensures) ∙ not-true _ (c .if2 .taken),
+    )
 
 all-inside-requires-2 : tie.Need-all-inside-requires-2
 all-inside-requires-2 c κs = search needs

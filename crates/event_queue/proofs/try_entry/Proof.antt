@@ -21,7 +21,8 @@ looked c = c .before .before .before .before .before .before
 
 head-at : (c : tie.After-room-at)
     → let a = start (looked c) .args in
-    nextHead (a .code) (a .«data») (a .left) (a .t3) (a .counters) (a .m .now) ≡ Head.At (c .before .before .before .before .head .given .0 .0)
+    nextHead (a .code) (a .«data») (a .left) (a .t3) (a .counters) (a .m .now)
+    ≡ Head.At (c .before .before .before .before .head .given .0 .0)
 head-at c = sym (head-found (looked c)) ∙ c .before .before .before .before .head .given .1
 
 element-copy-out-page : tie.Need-element-copy-out-page

@@ -31,15 +31,18 @@ returns c =
     let f = a .f in
     let code = back6 .before .status-of .result in
     let k : Completion =
-    answeredOf (directionOf (a .q .direction)) (a .m .now) (a .q .page) (f .counters .completed) (f .message .head .0) (rangesOf (a .list .now) (f .message .reply)) (some code) (a .q .latency) (f .message .done) in
-    let e : completion (c .before .before .before .before .answer .last .0) (c .before .before .before .before .answer .result) ≡ k = c .before .before .before .before .answer .ensures in
+    answeredOf (directionOf (a .q .direction)) (a .m .now) (a .q .page) (f .counters .completed) (f .message .head .0)
+    (rangesOf (a .list .now) (f .message .reply)) (some code) (a .q .latency) (f .message .done) in
+    let e : completion (c .before .before .before .before .answer .last .0) (c .before .before .before .before .answer .result)
+    ≡ k = c .before .before .before .before .answer .ensures in
     let em : c .before .before .before .before .answer .last .0 ≡ k .memory = ap (λ (x : Completion). x .memory) e in
     let ec : c .before .before .before .before .answer .result .completed ≡ k .completed = ap (λ (x : Completion). x .completed) e in
     let ei : c .before .before .before .before .answer .result .interrupt ≡ k .interrupt = ap (λ (x : Completion). x .interrupt) e in
     record {
       steps = record {
         run = λ host. rw (c .either .ensures, c .before .no-message .ensures, em, ec, ei)
-            (ended-run (virtqueueIn (a .q)) (endingOf (a .ending)) code (a .list .now) (a .m .now) host f (s .pre .0) (back6 .before .status-of .ensures));
+            (ended-run (virtqueueIn (a .q)) (endingOf (a .ending)) code (a .list .now) (a .m .now) host f (s .pre .0)
+            (back6 .before .status-of .ensures));
         message = rw (c .before .no-message .ensures) (no-message-fit _ _);
         moved = refl;
         long = c .before .before .before .before .answer .kept .0;

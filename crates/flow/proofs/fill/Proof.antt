@@ -36,7 +36,9 @@ returns c =
     let a = s .args in
     let f = a .f in
     let n = c .before .before .before .before .before .before .least .result in
-    let e : n ≡ min (length (a .host .now) - f .moved) (f .message .reply .bytes - 8 - f .message .done) = rw (← (back6 .before .waiting .ensures)) (c .before .before .before .before .before .before .least .ensures) in (
+    let e : n ≡ min (length (a .host .now) - f .moved)
+    (f .message .reply .bytes - 8 - f .message .done) = rw (← (back6 .before .waiting .ensures))
+    (c .before .before .before .before .before .before .least .ensures) in (
       rw (c .advanced .ensures, c .before .before .before .scatter .ensures)
           (filled (a .q) (a .list .now) (a .m .now) (a .host .now) f n (s .pre .0) (s .pre .1 .inside) (s .pre .1 .message .reply) e),
       rw (c .advanced .ensures) (s .pre .0),

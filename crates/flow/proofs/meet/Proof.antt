@@ -69,7 +69,8 @@ returns-2 c =
     let back12 = back6 .before .before .before .before .before .before in
     let back18 = back12 .before .before .before .before .before .before in
     let e = c .before .before in
-    let k = e .before .before .before .before .before .before .before .before .before in
+    let mid-k = e .before .before .before .before .before .before in
+    let k = mid-k .before .before .before in
     let n = k .before .before in
     let a = n .before .before .before .before .before .before .args in
     let h = sym (head-found n) ∙ k .number .given .1 in
@@ -77,7 +78,8 @@ returns-2 c =
     let v = virtqueueIn (a .q) in
     let step = entered (countersOf (v .direction)) v (takingOf v (a .m .now) (k .number .given .0 .0 .0)) in
     record {
-      run = λ host. t .run host ∙ ap step (idle-run _ _ (a .f) (a .m .now) host (back18 .before .pre .1)) ∙ sym (next-taken (virtqueueIn (a .q)) (a .list .now) (a .m .now) host (a .f) _ h);
+      run = λ host. t .run host ∙ ap step (idle-run _ _ (a .f) (a .m .now) host (back18 .before .pre .1))
+          ∙ sym (next-taken (virtqueueIn (a .q)) (a .list .now) (a .m .now) host (a .f) _ h);
       message = t .message;
       moved = t .moved;
       long = t .long;

@@ -27,7 +27,8 @@ returns c =
     let a = s .args in
     let f = a .f in
     let k : Completion =
-    answeredOf (directionOf (a .q .direction)) (a .m .now) (a .q .page) (f .counters .completed) (a .taken .head .0) (rangesOf (a .list .now) (a .taken .reply)) (statusIn (a .status)) (a .q .latency) 0 in
+    answeredOf (directionOf (a .q .direction)) (a .m .now) (a .q .page) (f .counters .completed) (a .taken .head .0)
+    (rangesOf (a .list .now) (a .taken .reply)) (statusIn (a .status)) (a .q .latency) 0 in
     let e : completion (c .before .before .before .before .answer .last .0) (c .before .before .before .before .answer .result) ≡ k = c .before .before .before .before .answer .ensures in
     let em : c .before .before .before .before .answer .last .0 ≡ k .memory = ap (λ (x : Completion). x .memory) e in
     let ec : c .before .before .before .before .answer .result .completed ≡ k .completed = ap (λ (x : Completion). x .completed) e in
@@ -35,7 +36,8 @@ returns c =
     λ free.
     record {
       run = λ host. rw (c .either .ensures, c .before .wrapping-add-u16 .ensures, em, ec, ei)
-          (refused-run (virtqueueIn (a .q)) (takingIn (a .list .now) (a .taken)) (statusIn (a .status)) (a .list .now) (a .m .now) host f free (s .pre .2));
+          (refused-run (virtqueueIn (a .q)) (takingIn (a .list .now) (a .taken)) (statusIn (a .status)) (a .list .now)
+          (a .m .now) host f free (s .pre .2));
       message = s .pre .1;
       moved = refl;
       long = c .before .before .before .before .answer .kept .0;

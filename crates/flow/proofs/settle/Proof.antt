@@ -15,7 +15,8 @@ returns c =
     let s = c .before .before .before .before .before in
     let a = s .args in
     record {
-      run = λ host. sym (settled-later (virtqueueIn (a .q)) (a .list .now) (a .m .now) host (a .f) (s .pre .0) (s .pre .1) (rw (← (c .before .waiting .ensures)) (c .if1 .taken)));
+      run = λ host. sym (settled-later (virtqueueIn (a .q)) (a .list .now) (a .m .now) host (a .f) (s .pre .0) (s .pre .1)
+          (rw (← (c .before .waiting .ensures)) (c .if1 .taken)));
       message = s .pre .1;
       moved = refl;
       long = refl;
@@ -35,7 +36,8 @@ returns-2 c =
     let t = c .before .before .end-message .ensures .steps in
     let none-waits : c .before .before .before .before .before .waiting .result ≡ 0 = omega arith in
     record {
-      run = λ host. t .run host ∙ sym (settled-now (virtqueueIn (a .q)) (a .list .now) (a .m .now) host (a .f) (s .pre .0) (s .pre .1) (sym (c .before .before .before .before .before .waiting .ensures) ∙ none-waits));
+      run = λ host. t .run host ∙ sym (settled-now (virtqueueIn (a .q)) (a .list .now) (a .m .now) host (a .f) (s .pre .0) (s .pre .1)
+          (sym (c .before .before .before .before .before .waiting .ensures) ∙ none-waits));
       message = t .message;
       moved = t .moved;
       long = t .long;

@@ -48,7 +48,8 @@ returns-3 c =
     let h = c .before .before .before .before .before .before .fill in
     let t = c .before .before .settle .ensures in
     let busy = one-left (a .f .message .count) (s .pre .1 .message .one) (back6 .before .before .if2 .left) in
-    let w = worked-busy (virtqueueAs rules.input (a .q)) (a .list .now) (a .m .now) (a .host .now) (a .f) (back6 .before .before .before .before .if1 .left) busy in
+    let w = worked-busy (virtqueueAs rules.input (a .q)) (a .list .now) (a .m .now) (a .host .now) (a .f)
+    (back6 .before .before .before .before .if1 .left) busy in
     record {
       run = rw (w, ← (h .ensures .0)) (rw (s .pre .0) at (t .run (a .host .now)));
       fit = fit-beside _ _ _ _ (c .before .before .settle .result) (rw (h .kept .0) at (t .message)) (t .moved) (h .ensures .2 .inside);

@@ -51,7 +51,8 @@ returns-3 c =
     let h = c .before .before .before .before .before .before .hand-on in
     let t = c .before .before .settle .ensures in
     let busy = one-left (a .f .message .count) (s .pre .1 .message .one) (back6 .before .before .before .if2 .left) in
-    let w = worked-busy (virtqueueAs rules.output (a .q)) (a .list .now) (a .m .now) (a .host .now) (a .f) (back6 .before .before .before .before .before .if1 .left) busy in
+    let w = worked-busy (virtqueueAs rules.output (a .q)) (a .list .now) (a .m .now) (a .host .now) (a .f)
+    (back6 .before .before .before .before .before .if1 .left) busy in
     record {
       run = rw (w, ← (h .ensures .0)) (rw (s .pre .0) at (t .run (h .last .1 .1 .0)));
       fit = fit-beside _ _ _ _ (c .before .before .settle .result) (t .message) (t .moved) (h .ensures .2 .inside);

@@ -14,7 +14,8 @@ use Rattle.information.proofs.write_zeros.Tie as tie
 abbrev Inv-loop : tie.InvT-loop
 Inv-loop m₀ list reply start n run at₀ left₀ m at left =
     (length m ≡ length m₀) × (at + left ≤ 4294967295)
-    × (putAt m (drop at (places (rangesOf list reply))) (replicate left 0) ≡ putAt m₀ (drop start (places (rangesOf list reply))) (replicate n 0))
+    × (putAt m (drop at (places (rangesOf list reply))) (replicate left 0)
+    ≡ putAt m₀ (drop start (places (rangesOf list reply))) (replicate n 0))
 
 abbrev μ-loop : tie.MeasureT-loop
 μ-loop m₀ list reply start n run at₀ left₀ m at left = left

@@ -52,8 +52,15 @@ returns-2 c =
     let s = back12 .before .before in
     let a = s .args in
     rw (back6 .before .before .before .status .given .1) (c .before .before .complete .ensures
-    ∙ rw (back6 .before .before .before .before .before .queue-size .ensures, c .before .before .before .before .before .used-length .ensures, c .before .before .before .before .before .before .last-eight .ensures, back6 .before .status-bytes .ensures, s .pre .0)
-    (completed-answer (directionOf (a .q .direction)) (a .m .now) (a .q .page) (a .completed) (a .head) (rangesOf (a .list .now) (a .reply)) _ (a .q .latency) (a .recorded)))
+    ∙ rw (
+      back6 .before .before .before .before .before .queue-size .ensures,
+      c .before .before .before .before .before .used-length .ensures,
+      c .before .before .before .before .before .before .last-eight .ensures,
+      back6 .before .status-bytes .ensures,
+      s .pre .0,
+    )
+    (completed-answer (directionOf (a .q .direction)) (a .m .now) (a .q .page) (a .completed) (a .head)
+    (rangesOf (a .list .now) (a .reply)) _ (a .q .latency) (a .recorded)))
 
 pub answer-spec : {M : Type 1} → statement M
 answer-spec =

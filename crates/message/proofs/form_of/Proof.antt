@@ -17,7 +17,11 @@ returns-2 : tie.Need-returns-2
 unfolding formOf
 returns-2 c =
     let p = c .before .before .before .before .before .before .pre in
-    rw (sym (c .before .before .before .all-inside .ensures) ∙ not-false _ (c .before .before .if1 .left), ← (p .1), lt-leb _ _ (c .if2 .taken))
+    rw (
+      sym (c .before .before .before .all-inside .ensures) ∙ not-false _ (c .before .before .if1 .left),
+      ← (p .1),
+      lt-leb _ _ (c .if2 .taken),
+    )
 
 all-inside-requires-2 : tie.Need-all-inside-requires-2
 all-inside-requires-2 c κs = search needs

@@ -23,7 +23,8 @@ walk-requires c κs = search needs
 walked :
     (c : tie.After-walk)
     → let a = c .before .before .before .before .before .before .args in
-    outcomeOf (c .walk .last .1 .0) (c .walk .result) ≡ walkOf (a .m .now) (baseOf (a .q .page)) (rules.queueSize (virtqueueIn (a .q))) (a .head .0) (a .q .indirect)
+    outcomeOf (c .walk .last .1 .0) (c .walk .result) ≡ walkOf (a .m .now) (baseOf (a .q .page)) (rules.queueSize (virtqueueIn (a .q)))
+    (a .head .0) (a .q .indirect)
 walked c = rw (c .before .before .address .ensures, c .before .queue-size .ensures) at (c .walk .ensures .outcome)
 
 enum-known-end : tie.Need-enum-known-end

@@ -84,8 +84,11 @@ enum-known-new c = search needs
 
 capture-requires : tie.Need-capture-requires
 capture-requires c κs =
-    let k = c .before .before .before .before .before .before in
-    (rw (k .before .before .before .before .before .before .virtqueue .ensures), in-work-fit (tested k), omega (arith, start (tested k) .pre .capture .room))
+    let k = c .before .before .before .before .before .before in (
+      rw (k .before .before .before .before .before .before .virtqueue .ensures),
+      in-work-fit (tested k),
+      omega (arith, start (tested k) .pre .capture .room),
+    )
 
 transferred-requires : tie.Need-transferred-requires
 transferred-requires c κs = search needs

@@ -85,8 +85,11 @@ enum-known-new c = search needs
 play-requires : tie.Need-play-requires
 play-requires c κs =
     let back6 = c .before .before .before .before .before .before in
-    let k = back6 .before in
-    (rw (k .before .before .before .before .before .before .virtqueue .ensures), in-work-fit (tested k), omega (arith, start (tested k) .pre .play .room))
+    let k = back6 .before in (
+      rw (k .before .before .before .before .before .before .virtqueue .ensures),
+      in-work-fit (tested k),
+      omega (arith, start (tested k) .pre .play .room),
+    )
 
 transferred-requires : tie.Need-transferred-requires
 transferred-requires c κs = search needs

@@ -9,7 +9,8 @@ use Rattle.ranges.proofs.all_inside.Statement.{statement}
 use Rattle.ranges.proofs.all_inside.Tie as tie
 
 abbrev Inv-loop : tie.InvT-loop
-Inv-loop len list i₀ more₀ i more = (i + more ≤ 8589934591) × (allInside len (rangesIn list i more) ≡ allInside len (rangesIn list i₀ more₀))
+Inv-loop len list i₀ more₀ i more = (i + more ≤ 8589934591) × (allInside len (rangesIn list i more)
+    ≡ allInside len (rangesIn list i₀ more₀))
 
 abbrev μ-loop : tie.MeasureT-loop
 μ-loop len list i₀ more₀ i more = more

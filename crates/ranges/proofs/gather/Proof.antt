@@ -6,7 +6,8 @@ use native.Mathlib.Omega.{arith}
 use lib.ListN.{length, take, drop}
 use lib.Seq.{sets}
 use Rattle.ranges.specs.Ranges.{rangesIn, places, bytesAt}
-use Rattle.ranges.proofs.Laws.{sets-past, places-next, places-none, gather-next, gather-room, room-next, rangesIn-none, rangesIn-more}
+use Rattle.ranges.proofs.Laws.{sets-past, places-next, places-none, gather-next, gather-room, room-next, rangesIn-none}
+use Rattle.ranges.proofs.Laws.{rangesIn-more}
 use Rattle.ranges.proofs.gather.Statement.{statement}
 use Rattle.ranges.proofs.gather.Tie as tie
 
@@ -20,7 +21,10 @@ abbrev μ-loop : tie.MeasureT-loop
 μ-loop m list offset dst₀ at n more₀ left₀ skip₀ d₀ i₀ dst more left skip d i = more
 
 returns : tie.Need-returns Inv-loop μ-loop
-returns c = let past : length (c .before .before .before .before .args .dst .now) ≤ c .before .before .before .before .args .at = c .if1 .taken in rw sets-past
+returns c =
+    let a = c .before .before .before .before .args in
+    let past : length (a .dst .now) ≤ a .at = c .if1 .taken in
+    rw sets-past
 
 sub-least : tie.Need-sub-least Inv-loop μ-loop
 sub-least c = omega arith
@@ -33,8 +37,13 @@ cast-i c = omega arith
 
 loop-holds : tie.Need-loop-holds Inv-loop μ-loop
 loop-holds c =
-    let a = c .before .before .before .before .before .before .args in
-    (omega arith, refl, omega arith, gather-room (a .m .now) (a .n) (c .before .least .result) _ (a .dst .now) (a .at) (c .before .least .ensures))
+    let a = c .before .before .before .before .before .before .args in (
+      omega arith,
+      refl,
+      omega arith,
+      gather-room (a .m .now) (a .n) (c .before .least .result) _ (a .dst .now) (a .at)
+          (c .before .least .ensures),
+    )
 
 same-length : tie.Need-same-length Inv-loop μ-loop
 same-length c = omega arith

@@ -5,7 +5,8 @@ use Prim.Native.Nat.{_+_, _-_, _≤_}
 use native.Mathlib.Omega.{arith}
 use lib.ListN.{length, take, drop, drop-of-length-le}
 use Rattle.ranges.specs.Ranges.{rangesIn, places, putAt}
-use Rattle.ranges.proofs.Laws.{putAt-nil, places-next, places-none, scatter-next, scatter-room, room-next, rangesIn-none, rangesIn-more}
+use Rattle.ranges.proofs.Laws.{putAt-nil, places-next, places-none, scatter-next, scatter-room, room-next, rangesIn-none}
+use Rattle.ranges.proofs.Laws.{rangesIn-more}
 use Rattle.ranges.proofs.scatter.Statement.{statement}
 use Rattle.ranges.proofs.scatter.Tie as tie
 
@@ -34,8 +35,13 @@ cast-i c = omega arith
 
 loop-holds : tie.Need-loop-holds Inv-loop μ-loop
 loop-holds c =
-    let a = c .before .before .before .before .before .before .args in
-    (omega arith, refl, omega arith, scatter-room (a .m .now) (a .n) (c .before .least .result) _ (a .src .now) (a .from) (c .before .least .ensures))
+    let a = c .before .before .before .before .before .before .args in (
+      omega arith,
+      refl,
+      omega arith,
+      scatter-room (a .m .now) (a .n) (c .before .least .result) _ (a .src .now) (a .from)
+          (c .before .least .ensures),
+    )
 
 same-length : tie.Need-same-length Inv-loop μ-loop
 same-length c = omega arith

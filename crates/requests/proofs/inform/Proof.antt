@@ -14,7 +14,8 @@ use Rattle.requests.proofs.inform.Statement.{statement}
 use Rattle.requests.proofs.inform.Tie as tie
 
 sized : (c : tie.After-enum-told) →
-    let back7 = c .before .before .before .before .before .before .before in
+    let mid-back7 = c .before .before .before .before .before .before in
+    let back7 = mid-back7 .before in
     let start = back7 .before .before in
     spaced (word (start .args .request .now) 2) (word (start .args .request .now) 3) ≡ true
 sized c =

@@ -16,7 +16,8 @@ use Rattle.requests.proofs.remap.Tie as tie
 -- the jack that was found is the one asked for
 the-jack : (c : tie.After-known-told) →
     let at-i = c .before in
-    let start = at-i .before .before .before .before .before .before .before in
+    let mid-start = at-i .before .before .before .before .before .before in
+    let start = mid-start .before in
     at-i .i .given .0 .0 ≡ word (start .args .request .now) 1
 the-jack c =
     let at-i = c .before in
@@ -27,7 +28,8 @@ the-jack c =
     (sym (at-find .find .ensures) ∙ at-i .i .given .1) .1 ∙ at-number32 .number32 .ensures
 
 there : (c : tie.After-known-told) →
-    let back7 = c .before .before .before .before .before .before .before in
+    let mid-back7 = c .before .before .before .before .before .before in
+    let back7 = mid-back7 .before in
     let start = back7 .before in
     ltb (word (start .args .request .now) 1) (start .args .t3 .«jack_count») ≡ true
 there c =
@@ -38,7 +40,8 @@ there c =
 
 inside : (c : tie.After-known-told) →
     let at-i = c .before in
-    let start = at-i .before .before .before .before .before .before .before in
+    let mid-start = at-i .before .before .before .before .before .before in
+    let start = mid-start .before in
     at-i .i .given .0 .0 < start .args .t3 .«jack_count»
 inside c = rw (the-jack c) (ltb-true _ _ (there c))
 
@@ -108,7 +111,8 @@ returns-2 c =
     let at-enum-told3 = at-answer2 .before .before in
     let at-is-remappable = at-enum-told3 .before .before in
     let at-known-told = at-is-remappable .before .before in
-    let back15 = at-known-told .before .before .before .before .before .before .before in
+    let mid-back15 = at-known-told .before .before .before .before .before .before in
+    let back15 = mid-back15 .before in
     let start = back15 .before in
     let a = start .args in
     let lacking : remappable (getD (a .t3 .jacks) (word (a .request .now) 1) noJack) ≡ false = rw (← (the-jack at-known-told))
@@ -127,7 +131,8 @@ remap-jack-requires : tie.Need-remap-jack-requires
 remap-jack-requires c κs =
     let back6 = c .before .before .before .before .before .before in
     let at-known-told = back6 .before in
-    let back14 = at-known-told .before .before .before .before .before .before .before in
+    let mid-back14 = at-known-told .before .before .before .before .before .before in
+    let back14 = mid-back14 .before in
     let start = back14 .before in
     (start .pre, inside at-known-told)
 
@@ -142,7 +147,8 @@ returns-3 c =
     let at-enum-told2 = at-number322 .before in
     let at-is-remappable = at-enum-told2 .before .before in
     let at-known-told = at-is-remappable .before .before in
-    let back17 = at-known-told .before .before .before .before .before .before .before in
+    let mid-back17 = at-known-told .before .before .before .before .before .before in
+    let back17 = mid-back17 .before in
     let start = back17 .before in
     let a = start .args in
     let able : remappable (getD (a .t3 .jacks) (word (a .request .now) 1) noJack) ≡ true = rw (← (the-jack at-known-told))

@@ -107,7 +107,8 @@ returns-3 c =
     let own = queue-fit (a .card) (a .direction) (s .pre .0) .room in
     let room = f .release .kept .1 .0 ∙ ap length (w .words-of .ensures) ∙ own in
     rw (c .with-flow .ensures)
-    (empties-new (a .card) (a .direction) (a .latency) (a .m .now) (s .pre .0) (new .new .given .0 .0) (sym (checks k) ∙ new .new .given .1) (s .pre .1) _ _
+    (empties-new (a .card) (a .direction) (a .latency) (a .m .now) (s .pre .0) (new .new .given .0 .0)
+    (sym (checks k) ∙ new .new .given .1) (s .pre .1) _ _
     (f .release .result) t room)
 
 words-of-requires : tie.Need-words-of-requires

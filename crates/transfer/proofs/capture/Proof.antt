@@ -11,7 +11,10 @@ begun-flow-requires : tie.Need-begun-flow-requires
 begun-flow-requires c κs = search needs
 
 work-capture-requires : tie.Need-work-capture-requires
-work-capture-requires c κs = let s = c .before .before .before .before .before .before in (s .pre .0, rw (c .begun-flow .ensures) (fresh-fit _ _ _ _ _ (s .pre .1)))
+work-capture-requires c κs = let s = c .before .before .before .before .before .before in (
+  s .pre .0,
+  rw (c .begun-flow .ensures) (fresh-fit _ _ _ _ _ (s .pre .1)),
+)
 
 capture-rest-requires : tie.Need-capture-rest-requires
 capture-rest-requires c κs =

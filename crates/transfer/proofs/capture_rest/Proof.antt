@@ -38,7 +38,8 @@ returns c =
     let a = back6 .before .args in
     let l = c .before .before .before .loop in
     record {
-      run = sym (rest-stop (virtqueueAs rules.input (a .q)) (l .list) (l .m) (a .host .now) (l .g) (l .left) (sym (c .before .transfer-more .ensures) ∙ not-true _ (c .if1 .taken))) ∙ l .inv .0;
+      run = sym (rest-stop (virtqueueAs rules.input (a .q)) (l .list) (l .m) (a .host .now) (l .g) (l .left)
+          (sym (c .before .transfer-more .ensures) ∙ not-true _ (c .if1 .taken))) ∙ l .inv .0;
       fit = l .inv .1;
       long = l .inv .2;
       host-long = refl;
@@ -51,7 +52,8 @@ capture-turn-requires c κs =
     let l = c .before .before .before .before .before .loop in
     let a = s .args in (
       s .pre .0,
-      goes-idle (l .g) (length (a .host .now)) (sym (c .before .before .before .transfer-more .ensures) ∙ not-false _ (c .before .before .if1 .left)),
+      goes-idle (l .g) (length (a .host .now)) (sym (c .before .before .before .transfer-more .ensures)
+          ∙ not-false _ (c .before .before .if1 .left)),
       rw (l .inv .2) (l .inv .1),
       rw (l .inv .3) (s .pre .2),
     )
@@ -72,7 +74,8 @@ loop-again c =
     let t = c .before .before .before .before .capture-turn .ensures in (
       rw (
         t .run,
-        ← (rest-more (virtqueueAs rules.input (a .q)) (l .list) (l .m) (a .host .now) (l .g) (l .left) (l .left - 1) (omega (arith, back6 .before .before .before .loop-test .taken))
+        ← (rest-more (virtqueueAs rules.input (a .q)) (l .list) (l .m) (a .host .now) (l .g) (l .left) (l .left - 1)
+            (omega (arith, back6 .before .before .before .loop-test .taken))
             (sym (back6 .before .before .transfer-more .ensures) ∙ not-false _ (back6 .before .if1 .left))),
       )
           (l .inv .0),

@@ -12,8 +12,11 @@ work-capture-requires : tie.Need-work-capture-requires
 work-capture-requires c κs =
     let back6 = c .before .before .before .before .before .before in
     let s = back6 .before .before .before .before .before .before in
-    let n = c .before .before .before .before .before .before .meet .ensures in
-    (s .pre .0, fit-beside _ _ _ _ (c .before .before .before .before .before .before .meet .result) (rw (n .long) (n .message)) (n .moved) (s .pre .2 .inside))
+    let n = c .before .before .before .before .before .before .meet .ensures in (
+      s .pre .0,
+      fit-beside _ _ _ _ (c .before .before .before .before .before .before .meet .result) (rw (n .long) (n .message))
+          (n .moved) (s .pre .2 .inside),
+    )
 
 same-length : tie.Need-same-length
 same-length c = search needs

@@ -42,7 +42,8 @@ returns c =
     let a = back6 .before .args in
     let l = c .before .before .before .loop in
     record {
-      run = sym (rest-stop (virtqueueAs rules.output (a .q)) (l .list) (l .m) (l .host) (l .g) (l .left) (sym (c .before .transfer-more .ensures) ∙ not-true _ (c .if1 .taken))) ∙ l .inv .0;
+      run = sym (rest-stop (virtqueueAs rules.output (a .q)) (l .list) (l .m) (l .host) (l .g) (l .left)
+          (sym (c .before .transfer-more .ensures) ∙ not-true _ (c .if1 .taken))) ∙ l .inv .0;
       fit = l .inv .1;
       long = l .inv .2;
       host-long = l .inv .3;
@@ -55,7 +56,8 @@ play-turn-requires c κs =
     let l = c .before .before .before .before .before .before .loop in
     let a = s .args in (
       s .pre .0,
-      goes-idle (l .g) (length (l .host)) (sym (c .before .before .before .before .transfer-more .ensures) ∙ not-false _ (c .before .before .before .if1 .left)),
+      goes-idle (l .g) (length (l .host)) (sym (c .before .before .before .before .transfer-more .ensures)
+          ∙ not-false _ (c .before .before .before .if1 .left)),
       rw (l .inv .2, l .inv .3) (l .inv .1),
       rw (l .inv .4) (s .pre .2),
     )
@@ -76,8 +78,10 @@ loop-again c =
     let t = c .before .before .before .before .before .before .play-turn .ensures in (
       rw (
         t .run,
-        ← (rest-more (virtqueueAs rules.output (a .q)) (l .list) (l .m) (l .host) (l .g) (l .left) (l .left - 1) (omega (arith, back6 .before .before .before .before .before .before .loop-test .taken))
-            (sym (back6 .before .before .before .before .before .transfer-more .ensures) ∙ not-false _ (back6 .before .before .before .before .if1 .left))),
+        ← (rest-more (virtqueueAs rules.output (a .q)) (l .list) (l .m) (l .host) (l .g) (l .left) (l .left - 1)
+            (omega (arith, back6 .before .before .before .before .before .before .loop-test .taken))
+            (sym (back6 .before .before .before .before .before .transfer-more .ensures)
+            ∙ not-false _ (back6 .before .before .before .before .if1 .left))),
       )
           (l .inv .0),
       rw (l .inv .2, l .inv .3) at (t .fit),

@@ -15,7 +15,10 @@ give-up-requires c κs = rw (c .begun-flow .ensures) (c .before .before .before 
 release-rest-requires : tie.Need-release-rest-requires
 release-rest-requires c κs =
     let back6 = c .before .before .before .before .before .before in
-    let w = c .before .before .before .before .give-up .ensures in (rw (w .long) (w .message), back6 .before .before .before .before .pre .1)
+    let w = c .before .before .before .before .give-up .ensures in (
+      rw (w .long) (w .message),
+      back6 .before .before .before .before .pre .1,
+    )
 
 same-length : tie.Need-same-length
 same-length c = search needs

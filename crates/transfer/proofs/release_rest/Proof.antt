@@ -40,7 +40,8 @@ returns c =
     let a = c .before .before .before .before .before .before .args in
     let l = c .before .before .before .loop in
     record {
-      run = λ host. sym (release-stop (virtqueueIn (a .q)) (l .list) (l .m) host (l .g) (l .left) (sym (c .before .release-more .ensures) ∙ not-true _ (c .if1 .taken))) ∙ l .inv .0 host;
+      run = λ host. sym (release-stop (virtqueueIn (a .q)) (l .list) (l .m) host (l .g) (l .left)
+          (sym (c .before .release-more .ensures) ∙ not-true _ (c .if1 .taken))) ∙ l .inv .0 host;
       message = l .inv .1;
       moved = l .inv .3;
       long = l .inv .2;
@@ -49,8 +50,11 @@ returns c =
 release-turn-requires : tie.Need-release-turn-requires Inv-loop μ-loop
 release-turn-requires c κs =
     let back6 = c .before .before .before .before .before .before in
-    let l = c .before .before .before .before .before .loop in
-    (release-goes-idle (l .g) (sym (c .before .before .before .release-more .ensures) ∙ not-false _ (c .before .before .if1 .left)), rw (l .inv .2) (l .inv .1), rw (l .inv .4) (back6 .before .before .pre .1))
+    let l = c .before .before .before .before .before .loop in (
+      release-goes-idle (l .g) (sym (c .before .before .before .release-more .ensures) ∙ not-false _ (c .before .before .if1 .left)),
+      rw (l .inv .2) (l .inv .1),
+      rw (l .inv .4) (back6 .before .before .pre .1),
+    )
 
 sub-left : tie.Need-sub-left Inv-loop μ-loop
 sub-left c = omega arith
@@ -67,7 +71,8 @@ loop-again c =
     let t = c .before .before .before .before .release-turn .ensures in (
       λ host. rw (
         t .run host,
-        ← (release-more (virtqueueIn (a .q)) (l .list) (l .m) host (l .g) (l .left) (l .left - 1) (omega (arith, back6 .before .before .before .loop-test .taken))
+        ← (release-more (virtqueueIn (a .q)) (l .list) (l .m) host (l .g) (l .left) (l .left - 1)
+            (omega (arith, back6 .before .before .before .loop-test .taken))
             (sym (back6 .before .before .release-more .ensures) ∙ not-false _ (back6 .before .if1 .left))),
       )
           (l .inv .0 host),

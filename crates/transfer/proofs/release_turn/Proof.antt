@@ -8,7 +8,8 @@ meet-requires : tie.Need-meet-requires
 meet-requires c κs = search needs
 
 give-up-requires : tie.Need-give-up-requires
-give-up-requires c κs = rw (c .before .before .before .before .before .before .meet .ensures .long) (c .before .before .before .before .before .before .meet .ensures .message)
+give-up-requires c κs = rw (c .before .before .before .before .before .before .meet .ensures .long)
+    (c .before .before .before .before .before .before .meet .ensures .message)
 
 same-length : tie.Need-same-length
 same-length c = search needs
