@@ -198,14 +198,18 @@ use {R}·proofs.proofs.{fn}.Code.Mir.{{table}}
     fld = lambda f: f'fld ! {{τ = {ftype(f)}}} {{d = {starts[f]}}} (at-{f} 𝓤 H {ls}) (stop !)'
     part = lambda f: f'sub ! {{τs = after-fields}} {at_field(f)} {{τ = {ftype(f)}}} {{d = {starts[f]}}} refl (whole !)'
 
-    def stay(i):
-        if i in muts:
-            return f'gave-slice ({slices.index(i) + 1} ∷ []) tt (plain (λ _. u8))'
-        if i in slices:
-            return f'stay-dropped (shrSliceOf ({slices.index(i) + 1} ∷ []) tt (plain (λ _. u8))) yes'
-        return f'stay-none (λ _. {P[i][1]}) yes'
+    def by_kind(gave, other, end):
+        """A term for each parameter: a `&mut [u8]` is given up; a `&[u8]` is dropped, and of a number there is nothing to drop."""
+        def term(i):
+            if i in muts:
+                return f'{gave(slices.index(i) + 1)} tt (plain (λ _. u8))'
+            if i in slices:
+                return f'{other("dropped")} (shrSliceOf ({slices.index(i) + 1} ∷ []) tt (plain (λ _. u8))) yes{end}'
+            return f'{other("none")} (λ _. {P[i][1]}) yes{end}'
+        return [term(i) for i in range(k)]
     w('abbrev stayed : Stays (f.ended .signature .params) (f.ended .kept)')
-    w('stayed = ' + tup(['stay-ref (0 ∷ []) tt (plain (λ _. T.the-row))'] + [stay(i) for i in range(k)]) + '\n')
+    w('stayed = ' + tup(['stay-ref (0 ∷ []) tt (plain (λ _. T.the-row))']
+                        + by_kind(lambda j: f'gave-slice ({j} ∷ [])', lambda what: f'stay-{what}', '')) + '\n')
     w('-- the contract that the proof cites')
     w('abbrev By : {M : Type 1} (𝓤 : URA M) (H : Heap 𝓤) (A : Atoms 𝓤) (at-mem : Memory → SProp 𝓤) (run : Routine → Fun 𝓤) → Contract 𝓤')
     w('By 𝓤 H A at-mem run = tripleOf 𝓤 H A g.signature (g.spec 𝓤 H A at-mem run)\n')
@@ -343,16 +347,10 @@ use {R}·proofs.proofs.{fn}.Code.Mir.{{table}}
                     + [f'{kp(j + 1)} {qp(j + 1)}' for j in range(len(slices))] + [f'({a_part(i)})' for i in range(k)] + [f'({are(i)} .1)' for i in nums])
     w(f'      (λ κs qs bounds a g are. needs 𝓤 (Fit (a .0 .now)) _ (λ fit. walk 𝓤 H A W at-mem run {call} C Λ fm known '
       + ' '.join(f'({are(i)} .0 .1)' for i in slices) + ' fit))\n')
-    n = len(slices) + 1
-
-    def goes(i):
-        if i in muts:
-            return f'goes-gave-slice 𝓤 H A W {n} {slices.index(i) + 1} tt (plain (λ _. u8))'
-        if i in slices:
-            return f'goes-dropped 𝓤 H A W {n} (shrSliceOf ({slices.index(i) + 1} ∷ []) tt (plain (λ _. u8))) yes (λ κs x f. refl)'
-        return f'goes-none 𝓤 H A W {n} (λ _. {P[i][1]}) yes (λ κs x f. refl)'
-    w(f'  goes : AllGo 𝓤 H A W {n} (f.signature .params) (f.ended .kept) stayed')
-    w('  goes = ' + tup([f'goes-ref 𝓤 H A W {n} 0 tt (plain (λ _. T.the-row))'] + [goes(i) for i in range(k)]) + '\n')
+    world = f'𝓤 H A W {len(slices) + 1}'
+    w(f'  goes : AllGo {world} (f.signature .params) (f.ended .kept) stayed')
+    w('  goes = ' + tup([f'goes-ref {world} 0 tt (plain (λ _. T.the-row))']
+                        + by_kind(lambda j: f'goes-gave-slice {world} {j}', lambda what: f'goes-{what} {world}', ' (λ κs x f. refl)')) + '\n')
     w(MEETS)
     w(f'''pub {dash(fn)}-spec : {{M : Type 1}} → stated.statement M
 unfolding code.routine tablesOf
