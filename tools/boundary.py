@@ -141,6 +141,7 @@ def proof(e):
     w(f'''use Rattle.card.specs.declared.Card.{{Card}}
 use {LIB}.specs.declared.{AFTER}.{{{AFTER}}}
 use {R}·specs.specs.declared.{RESULT}.{{{RESULT}}}
+use {R}·proofs.proofs.Typed.{{typed-as}}
 use Rattle.card.proofs.Card as T
 use Rattle.card.proofs.Card.Laws as T′
 use {LIB}.proofs.{AFTER} as S
@@ -190,7 +191,16 @@ use {R}·proofs.proofs.{fn}.Code.Mir.{{table}}
         tys = f'(tcons {ftype(f)} {tys})'
     w("-- how what the callee returns lies in memory; the locals, by their places")
     w(f'abbrev after-fields : Tys\nafter-fields = {tys[1:-1]}\n')
-    w('after-is : S′.mir ≡ tyStruct (S.struct .name) after-fields\nafter-is = refl\n')
+    spelt_as = lambda x: f'spell table (tyNamed ({x}.struct .name, []))'
+    w(f'after-is : {spelt_as("S")} ≡ tyStruct (S.struct .name) after-fields\nafter-is = refl\n')
+    w('-- the types of `before` and `after`, as the code spells them')
+    for x, name in (('T', 'card'), ('S', 'after')):
+        w(f'{name}-spelt : {spelt_as(x)} ∷ [] ≡ {x}.the-row .mir\n{name}-spelt = refl\n')
+
+    def typed(x, name, value, at, holds, v0=''):
+        """What a store of a value of the struct x asks, written out: left to be found, the checker compares the value field by field."""
+        mean = f'typed-as 𝓤 H A {x}.the-row (LL.lawful {x}.the-type {x}′.the-laws 𝓤 H A W) ({spelt_as(x)}) {name}-spelt {value[0]} ({value[1]}) {holds}'
+        return f'{{τ = {spelt_as(x)}}} {{b = {at[0]}}} {{o = {at[1]}}} {v0}{{v = {value[1]}}} refl ({mean})'
     w('module _ {M : Type 1} (𝓤 : URA M) (H : Heap 𝓤) (' + ls + ' : ℕ) where')
     w('  abbrev locals : Env 𝓤 H\n  locals = ' + ' ∷ '.join(f'(spell table ({mir(i)}), l{i})' for i in range(N)) + ' ∷ []\n')
     for f in names:
@@ -271,7 +281,7 @@ use {R}·proofs.proofs.{fn}.Code.Mir.{{table}}
     w(I + "-- [the card's cell; what it owns; the open borrow; obs; auth; the locals, the last first, each with what frees it;")
     w(I + f'--  what the other parameters own ({5 + 2 * N}); the other tokens]')
     w(I + f'assigns ! (of-opd ! (load ! (from ! (hop ! (look ! {5 + pos(1)} refl) (stop !))) (look-raw ! 0 refl))) (from ! (stop !))'
-      f' (init ! {5 + pos(BEFORE)} refl (LL.lawful T.the-type T′.the-laws 𝓤 H A W .typed h _ was .0)) $')
+      f' (init ! {5 + pos(BEFORE)} ' + typed('T', 'card', ('h', 'mach h'), (f'l{BEFORE}', 0), 'was') + ') $')
     for i in muts:
         p, t = 5 + pos(2 + i), temp[i]
         w(I + f'assigns ! (addr ! (from ! (fld ! refl (hop ! (look-in ! {p} (sub ! 0 refl (whole !))) (stop !))))) (from ! (stop !))'
@@ -307,13 +317,13 @@ use {R}·proofs.proofs.{fn}.Code.Mir.{{table}}
     w(I + 'let fields = LL.owed S.the-type S′.the-laws r (w ∷ []) is in')
     field = lambda f: 'fields' + ' .1' * at_field(f) + ' .0'
     B = 6 + m
-    w(I + f'land ! (from ! (stop !)) (init ! {B + pos(LAFTER)} refl (LL.lawful S.the-type S′.the-laws 𝓤 H A W .typed r _ is .0)) $')
-    w(I + f'rewrite ! {B + pos(LAFTER)} (λ (v : Val). ‵ (fat fullShare S′.mir l{LAFTER} 0 v))'
+    w(I + f'land ! (from ! (stop !)) (init ! {B + pos(LAFTER)} ' + typed('S', 'after', ('r', 'w'), (f'l{LAFTER}', 0), 'is') + ') $')
+    w(I + f'rewrite ! {B + pos(LAFTER)} (λ (v : Val). ‵ (fat fullShare ({spelt_as("S")}) l{LAFTER} 0 v))'
       ' (ap only (LL.tells S.the-type S′.the-laws r (w ∷ []) is)) refl $')
     w(I + f'rewrite ! {B + pos(LAFTER)} (λ (τ : Ty). ‵ (fat fullShare τ l{LAFTER} 0 (LL.val S.the-type S′.the-laws r))) after-is refl $')
     w(I + f'assigns ! (of-opd ! (load ! (from ! ({fld("card")})) (look-in ! {B + pos(LAFTER)} ({part("card")}))))'
       f' (from ! (hop ! (look ! {B + pos(1)} refl) (stop !)))'
-      f' (store-raw ! {2 + m} refl (LL.lawful T.the-type T′.the-laws 𝓤 H A W .typed (r .card) _ ({field("card")}) .0)) $')
+      f' (store-raw ! {2 + m} ' + typed('T', 'card', ('(r .card)', 'mach (r .card)'), ('b', 'o'), f'({field("card")})', '{v₀ = mach h} ') + ') $')
     loads = '(no-more !)'
     for f in reversed(e['holds']):
         value = f'load ! (from ! ({fld(f)})) (look-in ! {B + pos(LAFTER)} ({part(f)}))' if f in loaded else 'lit ! tt'

@@ -1,3 +1,2 @@
--- Laws of the boundary to C.
-pub mod Sizes
-pub mod Demand3
+-- What the walks share.
+mod Typed

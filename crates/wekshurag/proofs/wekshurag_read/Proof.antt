@@ -70,6 +70,7 @@ use Rattle.card.specs.Fit.{Fit}
 use Rattle.card.specs.declared.Card.{Card}
 use Rattle.card.specs.declared.ReadAnswer.{ReadAnswer}
 use Rattle.wekshurag.specs.declared.ReadResult.{ReadResult}
+use Rattle.wekshurag.proofs.Typed.{typed-as}
 use Rattle.card.proofs.Card as T
 use Rattle.card.proofs.Card.Laws as T′
 use Rattle.card.proofs.ReadAnswer as S
@@ -90,8 +91,15 @@ use Rattle.wekshurag.proofs.wekshurag_read.Code.Mir.{table}
 abbrev after-fields : Tys
 after-fields = tcons (tyInt w8) (tcons (tyInt w32) (tcons T′.mir tnil))
 
-after-is : S′.mir ≡ tyStruct (S.struct .name) after-fields
+after-is : spell table (tyNamed (S.struct .name, [])) ≡ tyStruct (S.struct .name) after-fields
 after-is = refl
+
+-- the types of `before` and `after`, as the code spells them
+card-spelt : spell table (tyNamed (T.struct .name, [])) ∷ [] ≡ T.the-row .mir
+card-spelt = refl
+
+after-spelt : spell table (tyNamed (S.struct .name, [])) ∷ [] ≡ S.the-row .mir
+after-spelt = refl
 
 module _ {M : Type 1} (𝓤 : URA M) (H : Heap 𝓤) (l0 l1 l2 l3 l4 l5 : ℕ) where
   abbrev locals : Env 𝓤 H
@@ -196,8 +204,9 @@ module _ {M : Type 1} (𝓤 : URA M) (H : Heap 𝓤) (A : Atoms 𝓤) (W : Given
         ∷ 0 ∷ []) $
         -- [the card's cell; what it owns; the open borrow; obs; auth; the locals, the last first, each with what frees it;
         --  what the other parameters own (17); the other tokens]
-        assigns ! (of-opd ! (load ! (from ! (hop ! (look ! 13 refl) (stop !))) (look-raw ! 0 refl))) (from ! (stop !)) (init ! 7 refl
-        (LL.lawful T.the-type T′.the-laws 𝓤 H A W .typed h _ was .0)) $
+        assigns ! (of-opd ! (load ! (from ! (hop ! (look ! 13 refl) (stop !))) (look-raw ! 0 refl))) (from ! (stop !)) (init ! 7 {τ =
+        spell table (tyNamed (T.struct .name, []))} {b = l4} {o = 0} {v = mach h} refl (typed-as 𝓤 H A T.the-row (LL.lawful T.the-type
+        T′.the-laws 𝓤 H A W) (spell table (tyNamed (T.struct .name, []))) card-spelt h (mach h) was)) $
         move ! (1 ∷ 17 ∷ []) $ fjoin ! $ move ! (17 ∷ 0 ∷ []) $ use2 W (raw (By 𝓤 H A at-mem run .pre to)) (goes-by fit) $
         calls-at ! fm (By 𝓤 H A at-mem run) known to (and-then ! (load ! (from ! (stop !)) (look ! 7 refl)) (and-then ! (load ! (from !
         (stop !)) (look ! 11 refl)) (and-then ! (load ! (from ! (stop !)) (look ! 9 refl)) (no-more !)))) (λ w.
@@ -215,12 +224,16 @@ module _ {M : Type 1} (𝓤 : URA M) (H : Heap 𝓤) (A : Atoms 𝓤) (W : Given
         -- [the last lists, the last first; the tokens and the result; the card's cell; the open borrow; obs; auth; the locals]
         move ! (0 ∷ []) $ split ! $ move ! (1 ∷ []) $ peeks ! S.the-row (Is S.the-row) (shows 𝓤 H A S.the-row) r (w ∷ []) (λ is.
         let fields = LL.owed S.the-type S′.the-laws r (w ∷ []) is in
-        land ! (from ! (stop !)) (init ! 6 refl (LL.lawful S.the-type S′.the-laws 𝓤 H A W .typed r _ is .0)) $
-        rewrite ! 6 (λ (v : Val). ‵ (fat fullShare S′.mir l5 0 v)) (ap only (LL.tells S.the-type S′.the-laws r (w ∷ []) is)) refl $
+        land ! (from ! (stop !)) (init ! 6 {τ = spell table (tyNamed (S.struct .name, []))} {b = l5} {o = 0} {v = w} refl (typed-as 𝓤 H A
+        S.the-row (LL.lawful S.the-type S′.the-laws 𝓤 H A W) (spell table (tyNamed (S.struct .name, []))) after-spelt r (w) is)) $
+        rewrite ! 6 (λ (v : Val). ‵ (fat fullShare (spell table (tyNamed (S.struct .name, []))) l5 0 v)) (ap only (LL.tells S.the-type
+        S′.the-laws r (w ∷ []) is)) refl $
         rewrite ! 6 (λ (τ : Ty). ‵ (fat fullShare τ l5 0 (LL.val S.the-type S′.the-laws r))) after-is refl $
         assigns ! (of-opd ! (load ! (from ! (fld ! {τ = T′.mir} {d = 8} (at-card 𝓤 H l0 l1 l2 l3 l4 l5) (stop !))) (look-in ! 6 (sub ! {τs
-        = after-fields} 2 {τ = T′.mir} {d = 8} refl (whole !))))) (from ! (hop ! (look ! 14 refl) (stop !))) (store-raw ! 2 refl
-        (LL.lawful T.the-type T′.the-laws 𝓤 H A W .typed (r .card) _ (fields .1 .1 .0) .0)) $
+        = after-fields} 2 {τ = T′.mir} {d = 8} refl (whole !))))) (from ! (hop ! (look ! 14 refl) (stop !))) (store-raw ! 2 {τ = spell
+        table (tyNamed (T.struct .name, []))} {b = b} {o = o} {v₀ = mach h} {v = mach (r .card)} refl (typed-as 𝓤 H A T.the-row (LL.lawful
+        T.the-type T′.the-laws 𝓤 H A W) (spell table (tyNamed (T.struct .name, []))) card-spelt (r .card) (mach (r .card)) (fields .1 .1
+        .0))) $
         assigns ! (agg ! (and-then ! (load ! (from ! (fld ! {τ = (tyInt w8)} {d = 0} (at-answer 𝓤 H l0 l1 l2 l3 l4 l5) (stop !))) (look-in
         ! 6 (sub ! {τs = after-fields} 0 {τ = (tyInt w8)} {d = 0} refl (whole !)))) (and-then ! (load ! (from ! (fld ! {τ = (tyInt w32)}
         {d = 4} (at-value 𝓤 H l0 l1 l2 l3 l4 l5) (stop !))) (look-in ! 6 (sub ! {τs = after-fields} 1 {τ = (tyInt w32)} {d = 4} refl

@@ -1,0 +1,3 @@
+-- What the header for C says.
+pub mod Sizes
+pub mod Demand3
