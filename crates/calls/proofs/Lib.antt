@@ -1,3 +1,4 @@
 -- The entries' calls follow the rules and the account; demand 3.
 pub mod Tied
+pub mod Reached
 pub mod Demand3

@@ -19,4 +19,5 @@ pub mod Release
 pub mod Drained
 pub mod Lifecycle
 pub mod Causes
+pub mod Reached
 pub mod Table

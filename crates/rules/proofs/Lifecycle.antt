@@ -20,7 +20,7 @@ some-same : (a b : ℕ) → some a ≡ some b → a ≡ b
 unfolding valueOr
 some-same a b h = ap (valueOr 0) h
 
-none-some : (t : ℕ) → none ≡ some t → ⊥
+pub none-some : (t : ℕ) → none ≡ some t → ⊥
 unfolding valueOr
 none-some t h =
     let z : suc t ≡ t = ap (valueOr (suc t)) h in

@@ -12,4 +12,5 @@ pub mod Histories
 pub mod Account
 pub mod Claim
 pub mod Causes
+pub mod Reached
 pub mod Table

@@ -1,0 +1,15 @@
+-- What calls can make of a card's described parts, of any list of calls from power-up.
+use Prim.Native.Nat.{ℕ}
+use mathlib.Core.List.{List}
+use Rattle.description.specs.declared.Description.{Description}
+use Rattle.card.specs.declared.Card.{Card}
+use Rattle.meaning.specs.Card.{deviceOf}
+use Rattle.rules.specs.Calls.{Call, Told}
+use Rattle.rules.specs.Claim.{card}
+use Rattle.rules.specs.Reached.{Reached}
+use Rattle.rules.proofs.Reached.{reached}
+use Rattle.calls.specs.Tied.{Tied}
+
+pub card-reached : (d : Description) (len : ℕ) (cs : List Call) (ts : List Told) (last : Card) → Tied d len cs ts last
+    → Reached (deviceOf last .rest)
+card-reached d len cs ts last t = rw (t .follows .state) (reached card d len cs)
