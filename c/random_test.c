@@ -142,7 +142,7 @@ static struct wekshurag_result make(struct call c, struct wekshurag_card *on, ui
 }
 
 /* Whether a call of this kind can find this queue broken: a RELEASE looks at its stream's too. */
-static bool names(char kind, unsigned queue)
+static bool can_break(char kind, unsigned queue)
 {
     switch (kind) {
     case 'p':
@@ -175,7 +175,7 @@ static struct wekshurag_result call(struct call c)
     check(!refused || memcmp(ram_before, ram, ram_len) == 0, "a refused call wrote memory");
     broken = r.answer == WEKSHURAG_REGION_PAST_RAM || r.answer == WEKSHURAG_TOO_MANY_ENTRIES || r.answer == WEKSHURAG_HEAD_PAST_TABLE;
     check(r.count == 0 || r.answer == 0 || broken, "a refused call counts");
-    check(broken ? names(c.kind, r.queue) : r.queue == WEKSHURAG_NO_QUEUE, "the queue that an answer names");
+    check(broken ? can_break(c.kind, r.queue) : r.queue == WEKSHURAG_NO_QUEUE, "the queue that an answer names");
     check(r.count <= (c.kind == 'k' ? 1 : c.kind == 'e' ? 0 : c.host_len), "a count");
     if (c.kind == 'p')
         check(memcmp(host_before + r.count, host_pages.at + r.count, c.host_len - r.count) == 0, "host bytes past the count");
