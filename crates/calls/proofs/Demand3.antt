@@ -23,11 +23,12 @@ use Rattle.meaning.specs.Card.{deviceOf}
 use Rattle.meaning.proofs.Steps.{power-start}
 use Rattle.rules.specs.Account.{takingAt, entryAt, startsAnew, Answers, finishedOk, releasedIoErr, illFormedIoErr, illFormedMute, AnsweredBy, Book}
 use Rattle.rules.specs.Calls.{Call, Told, Step, step}
-use Rattle.rules.specs.Claim.{start, after, countFor, bytesFor, heard, counted, Good, queueOf, shownAs, card, account}
+use Rattle.rules.specs.Claim.{start, after, countFor, bytesFor, heard, counted, Good, queueOf, shownAs, card, account, toldBy}
 use Rattle.rules.specs.Device.{Direction, output, Taking, Ending, finished, released, illFormed, Device, Queue}
 use Rattle.rules.specs.Histories.{History, unanswered, number}
 use Rattle.rules.specs.Numbers.{sIoErr}
 use Rattle.rules.specs.Transfer.{isWell, payloadOf}
+use Rattle.rules.proofs.Backlog.{remembers}
 use Rattle.rules.proofs.Anew.{anew-clears}
 use Rattle.rules.proofs.Calls.{low}
 use Rattle.rules.proofs.Drained as drained
@@ -112,14 +113,15 @@ record Went (w : Direction → List ℕ) (b : Device History) (ks : List Call) (
   book : Book (after account b ks .play)
   shown : deviceOf last ≡ shownAs queueOf (after account b ks)
   counts : countsSince (length (w output)) b ks ts ≡ length (bytesSince (w output) b ks ts)
+  told : ts ≡ toldBy account b ks
 
 went :
     (w : Direction → List ℕ) (b : Device History) (c last : Card) (ks : List Call) (ts : List Told)
     → Runs c ks ts last
     → Going w b c
     → Went w b ks ts last
-unfolding after bytesSince countsSince
-went w b c _ _ _ none i = record { good = i .good output; book = i .book; shown = i .shown; counts = refl }
+unfolding after bytesSince countsSince toldBy
+went w b c _ _ _ none i = record { good = i .good output; book = i .book; shown = i .shown; counts = refl; told = refl }
 went w b c last _ _ (next {n = n} {k = k} {t = t} {ks = ks} {ts = ts} d r) i =
     let o = went (then w b k) (step account b k .state) n last ks ts r (going-on w b c n k t i d) in
     record {
@@ -127,6 +129,7 @@ went w b c last _ _ (next {n = n} {k = k} {t = t} {ks = ks} {ts = ts} d r) i =
       book = o .book;
       shown = o .shown;
       counts = rw (counts-then w b c n k t i d, bytes-then w b c n k t i d) (o .counts);
+      told = rw (accounted w b c n k t i d .told, o .told);
     }
 
 -- ---- positions
@@ -188,5 +191,6 @@ demand-3 d len p (e, f) ok ks ts last r =
       given-up = λ t l. let x = lost-by-release output _ h g t l in (x, io-err h (o .book) t x (leb (number h) t) refl);
       bytes = sym (g .bytes);
       counts = rw (o .counts, ← (g .bytes), length-map);
+      remembered = λ id. rw (o .told) (remembers account d len ks id);
       rollover = λ made lo hi. rw (o .shown) (omega arith);
     }

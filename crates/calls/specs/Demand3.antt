@@ -5,7 +5,8 @@
 --   its length; no chain is answered twice, and only the one in work is not answered yet;
 --   every byte that a play handed on is the byte that guest memory then held at its place of the chain's payload; all places are handed
 --   on once and in order, but for those that a Release gave up, whose chain it answered IO_ERR, and those of the chain in work that wait;
---   the plays' counts add up to the places handed on; and no rollover of the 16-bit index makes a buffer new that was played.
+--   the plays' counts add up to the places handed on; the latency that a Release tells is that of the last play that was answered 0, since
+--   reset; and no rollover of the 16-bit index makes a buffer new that was played.
 -- The account (rules/specs/Account, rules/specs/Histories) is fed what power-up is given, then each call's arguments and the memory lent to
 -- it. `Demand3` is the claim; the theorem is `demand-3` of proofs/Demand3.
 use mathlib.Core.Path.{_≡_}
@@ -21,9 +22,10 @@ use Rattle.ring.specs.Rules.{newOf, indexOf}
 use Rattle.card.specs.declared.Card.{Card}
 use Rattle.meaning.specs.Card.{deviceOf}
 use Rattle.rules.specs.Account.{takingAt, entryAt, startsAnew, Turn, Book}
+use Rattle.rules.specs.Backlog.{lastBacklog}
 use Rattle.rules.specs.Calls.{Control, Play, Call, Told, ReleaseFirst, Pending, orderOf, step}
 use Rattle.rules.specs.Claim.{start, after, countFor, bytesFor, waitingOf, queueOf, shownAs, account}
-use Rattle.rules.specs.Device.{output, Taking, released, Device, pageOf}
+use Rattle.rules.specs.Device.{output, Taking, released, Device, pageOf, streamAt}
 use Rattle.rules.specs.Histories.{Note, History, number, handedOf, lostOf}
 use Rattle.rules.specs.Numbers.{playQueue, sIoErr}
 use Rattle.rules.specs.Transfer.{isWell}
@@ -96,6 +98,9 @@ pub record Demand3 (d : Description) (len : ℕ) {c last : Card} (ks : List Call
   -- the bytes told are those noted, in order, and the counts add up to the positions handed on
   pub bytes : bytesSince [] (start account d len) ks ts ≡ map (λ (x : Note). x .byte) (h .notes)
   pub counts : countsSince 0 (start account d len) ks ts ≡ length (h .notes)
+  -- order 5: the backlog that a Release's statuses carry (`releaseQueue`), by what the calls told: "the backlog of the last such call on
+  -- that stream since reset that answered 0, else 0"
+  pub remembered : (id : ℕ) → streamAt (after account (start account d len) ks .rest) id .backlog ≡ lastBacklog id 0 ks ts
   -- the field report: of a driver that has made `made` buffers available in all, the card sees exactly those not taken yet
   pub rollover :
       (made : ℕ)

@@ -19,51 +19,56 @@ use Rattle.rules.specs.Calls.{Request, ReadRegister, WriteRegister, Cont
 use Rattle.rules.specs.Claim.{clears}
 use Rattle.rules.specs.Device.{output, Rest}
 
--- a write leaves the play queue's histories alone
-abbrev Keeps : Written → Type 0
-Keeps w = clearsQueue output (w .effect) ≡ false
+-- an effect that no write has but one of STATUS or QUEUE_PFN
+module _ (F : Effect → Bool) (nothing : F Effect.Nothing ≡ false) (rung : (q : ℕ) → F (Effect.Rung q) ≡ false) (r : Registers) (v : ℕ) where
+  abbrev Spared : Written → Type 0
+  Spared w = F (w .effect) ≡ false
 
-module _ (r : Registers) (v : ℕ) where
   abbrev Other : Register → Type 0
-  Other x = Keeps (writeRegister r v x)
+  Other x = Spared (writeRegister r v x)
 
   features-other : Other GuestFeatures
   unfolding wroteFeatures
-  features-other = by-cond Keeps (ltb v (256 ^ 4)) (λ e. refl) (λ e. refl)
+  features-other = by-cond Spared (ltb v (256 ^ 4)) (λ e. nothing) (λ e. nothing)
 
   selector-other : Other QueueSel
   unfolding wroteSelector
-  selector-other = by-cond Keeps (ltb v (256 ^ 2)) (λ e. refl) (λ e. refl)
+  selector-other = by-cond Spared (ltb v (256 ^ 2)) (λ e. nothing) (λ e. nothing)
 
   notify-other : Other QueueNotify
   unfolding wroteNotify
   notify-other =
-      by-cond Keeps (ltb v (256 ^ 2)) (λ e. by-cond (λ (x : Effect). clearsQueue output x ≡ false) (ltb v 4) (λ e. refl) (λ e. refl)) (λ e. refl)
+      by-cond Spared (ltb v (256 ^ 2)) (λ e. by-cond (λ (x : Effect). F x ≡ false) (ltb v 4) (λ e. rung v) (λ e. nothing)) (λ e. nothing)
 
   config-other : (offset width : ℕ) → Other (configAt offset width)
   unfolding configAt
   config-other offset width =
       by-cond Other (leb 20 offset && leb (offset + width) 256 && (eqb width 1 || eqb width 2 || eqb width 4))
-      {x = DeviceConfig (offset - 20)} {y = Absent} (λ e. refl) (λ e. refl)
+      {x = DeviceConfig (offset - 20)} {y = Absent} (λ e. nothing) (λ e. nothing)
 
   -- every register but these two
-  register-other : (offset width : ℕ) → (offset ≡ 8 → ⊥) → (offset ≡ 18 → ⊥) → Other (registerAt offset width)
+  pub register-other : (offset width : ℕ) → (offset ≡ 8 → ⊥) → (offset ≡ 18 → ⊥) → Other (registerAt offset width)
   unfolding registerAt
   register-other offset width m n =
       rw (ne-eqb offset 8 m, ne-eqb offset 18 n)
-      (by-cond Other (eqb offset 0) (λ e. by-cond Other (eqb width 4) (λ e. refl) (λ e. refl))
+      (by-cond Other (eqb offset 0) (λ e. by-cond Other (eqb width 4) (λ e. nothing) (λ e. nothing))
       (λ e.
-      by-cond Other (eqb offset 4) (λ e. by-cond Other (eqb width 4) (λ e. features-other) (λ e. refl))
+      by-cond Other (eqb offset 4) (λ e. by-cond Other (eqb width 4) (λ e. features-other) (λ e. nothing))
       (λ e.
-      by-cond Other (eqb offset 12) (λ e. by-cond Other (eqb width 2) (λ e. refl) (λ e. refl))
+      by-cond Other (eqb offset 12) (λ e. by-cond Other (eqb width 2) (λ e. nothing) (λ e. nothing))
       (λ e.
-      by-cond Other (eqb offset 14) (λ e. by-cond Other (eqb width 2) (λ e. selector-other) (λ e. refl))
+      by-cond Other (eqb offset 14) (λ e. by-cond Other (eqb width 2) (λ e. selector-other) (λ e. nothing))
       (λ e.
-      by-cond Other (eqb offset 16) (λ e. by-cond Other (eqb width 2) (λ e. notify-other) (λ e. refl))
+      by-cond Other (eqb offset 16) (λ e. by-cond Other (eqb width 2) (λ e. notify-other) (λ e. nothing))
       (λ e.
-      by-cond Other (eqb offset 19) (λ e. by-cond Other (eqb width 1) (λ e. refl) (λ e. refl))
+      by-cond Other (eqb offset 19) (λ e. by-cond Other (eqb width 1) (λ e. nothing) (λ e. nothing))
       (λ e. config-other offset width)))))))
 
+-- a write leaves the play queue's histories alone
+abbrev Keeps : Written → Type 0
+Keeps w = clearsQueue output (w .effect) ≡ false
+
+module _ (r : Registers) (v : ℕ) where
   -- STATUS: a write of 0
   status-clears : Dec (v ≡ 0) → clearsQueue output (writeRegister r v Status .effect) ≡ eqb v 0
   unfolding wroteStatus
@@ -105,7 +110,7 @@ module _ (r : Registers) (v : ℕ) where
           ≡ (b && ltb v (2 ^ 32) && eqb (r .selector) 2 && not (driverOk r))
       go true = page-clears (ltb v (256 ^ 4)) refl
       go false = refl
-  write-clears offset width (no n) (no k) = register-other offset width k n ∙ sym none
+  write-clears offset width (no n) (no k) = register-other (clearsQueue output) refl (λ q. refl) r v offset width k n ∙ sym none
     where
       none :
           ((eqb offset 18 && eqb width 1 && eqb v 0)

@@ -19,5 +19,7 @@ pub mod Release
 pub mod Drained
 pub mod Lifecycle
 pub mod Causes
+pub mod Closed
 pub mod Reached
+pub mod Backlog
 pub mod Table

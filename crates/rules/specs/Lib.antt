@@ -13,4 +13,5 @@ pub mod Account
 pub mod Claim
 pub mod Causes
 pub mod Reached
+pub mod Backlog
 pub mod Table
