@@ -66,12 +66,27 @@ enum wekshurag_queue {
 
 /*
  * A card. The monitor owns it: a static, on the stack or on the heap. Its words mean nothing to the monitor; it may be copied as a
- * whole, and a copy is a card of its own.
+ * whole, and a copy is a card of its own. Its pieces stand apart so that a call is lent no more than it may touch: what every call
+ * touches, the parts, and for each stream's queue the chain that is in work.
  */
-struct wekshurag_card {
-    uint64_t words[193];
+#define WEKSHURAG_CHAIN_WORDS 68
+
+struct wekshurag_live {
+    uint64_t words[18];
 };
-WEKSHURAG_ASSERT(sizeof(struct wekshurag_card) == 1544, "the card's size");
+WEKSHURAG_ASSERT(sizeof(struct wekshurag_live) == 144, "what every call touches");
+
+struct wekshurag_board {
+    struct wekshurag_live live;
+    uint64_t words[43];
+};
+WEKSHURAG_ASSERT(sizeof(struct wekshurag_board) == 488, "the same with the parts");
+
+struct wekshurag_card {
+    struct wekshurag_board board;
+    uint64_t play_chain[WEKSHURAG_CHAIN_WORDS];
+    uint64_t capture_chain[WEKSHURAG_CHAIN_WORDS];
+};
 
 /* ---- what a card is made of ------------------------------------------------------------------------------------------------ */
 
@@ -115,6 +130,41 @@ struct wekshurag_description {
 };
 WEKSHURAG_ASSERT(sizeof(struct wekshurag_description) == 256, "the description's size");
 
+/* ---- the archive's own functions: the functions below pass them the card's pieces, and nothing else ------------------------------ */
+
+struct wekshurag_read_result {
+    uint8_t answer;
+    uint32_t value; /* 0 unless the answer is WEKSHURAG_DONE */
+};
+WEKSHURAG_ASSERT(sizeof(struct wekshurag_read_result) == 8, "what a read answers");
+
+struct wekshurag_write_result {
+    uint8_t answer;
+    uint8_t rung; /* the queue that the guest rang, an enum wekshurag_queue; WEKSHURAG_NO_QUEUE if none */
+};
+WEKSHURAG_ASSERT(sizeof(struct wekshurag_write_result) == 2, "what a write answers");
+
+struct wekshurag_result {
+    uint8_t answer;
+    uint8_t queue; /* the broken queue, an enum wekshurag_queue; WEKSHURAG_NO_QUEUE if none is, with all answers but 9, 11 and 12 */
+    size_t count;  /* control messages completed, or bytes; 0 for an event */
+};
+WEKSHURAG_ASSERT(sizeof(struct wekshurag_result) == 16, "what a call answers");
+
+uint8_t wekshurag_card_power_up(struct wekshurag_board *board, const struct wekshurag_description *description, size_t ram_len);
+struct wekshurag_read_result wekshurag_card_read(struct wekshurag_live *live, uint64_t offset, uint64_t width);
+struct wekshurag_write_result wekshurag_card_write(struct wekshurag_live *live, uint64_t offset, uint64_t width, uint64_t value);
+bool wekshurag_card_interrupt_line(const struct wekshurag_live *live);
+struct wekshurag_result wekshurag_card_control(struct wekshurag_board *board, uint64_t *play_chain, size_t play_words,
+                                               uint64_t *capture_chain, size_t capture_words, uint8_t *ram, size_t ram_len);
+struct wekshurag_result wekshurag_card_play(struct wekshurag_live *live, uint64_t *chain, size_t words, uint8_t *ram, size_t ram_len,
+                                            uint8_t *host, size_t host_len, uint32_t backlog);
+struct wekshurag_result wekshurag_card_capture(struct wekshurag_live *live, uint64_t *chain, size_t words, uint8_t *ram, size_t ram_len,
+                                               const uint8_t *host, size_t host_len, uint32_t backlog);
+struct wekshurag_result wekshurag_card_event(struct wekshurag_board *board, uint8_t *ram, size_t ram_len, uint32_t code, uint32_t data);
+
+/* ---- power-up ------------------------------------------------------------------------------------------------------------------ */
+
 /*
  * Makes *card a card with these parts, as at power-up: reset, not live. `ram_len` is the length of the guest's memory, address 0
  * first; each call that is lent memory is lent so much. *card may hold anything before; *description is only read.
@@ -122,15 +172,12 @@ WEKSHURAG_ASSERT(sizeof(struct wekshurag_description) == 256, "the description's
  * Answers WEKSHURAG_DONE, or WEKSHURAG_BAD_DESCRIPTION where a count or a number is not as above; *card is then a card with no part and
  * no memory, which may be used and refuses what it is asked.
  */
-uint8_t wekshurag_power_up(struct wekshurag_card *card, const struct wekshurag_description *description, size_t ram_len);
+static inline uint8_t wekshurag_power_up(struct wekshurag_card *card, const struct wekshurag_description *description, size_t ram_len)
+{
+    return wekshurag_card_power_up(&card->board, description, ram_len);
+}
 
 /* ---- the guest's accesses to the registers ---------------------------------------------------------------------------------- */
-
-struct wekshurag_read_result {
-    uint8_t answer;
-    uint32_t value; /* 0 unless the answer is WEKSHURAG_DONE */
-};
-WEKSHURAG_ASSERT(sizeof(struct wekshurag_read_result) == 8, "what a read answers");
 
 /*
  * The guest reads `width` bytes (1, 2 or 4) at `offset` of the card's I/O space: HOST_FEATURES 0 (4 bytes), QUEUE_PFN 8 (4), QUEUE_NUM 12
@@ -139,13 +186,10 @@ WEKSHURAG_ASSERT(sizeof(struct wekshurag_read_result) == 8, "what a read answers
  * Answers WEKSHURAG_DONE and the value; or WEKSHURAG_NO_SUCH_ACCESS, WEKSHURAG_WRONG_DIRECTION. What to hand to the guest then is the
  * monitor's choice; a bus with nothing on it reads as all ones.
  */
-struct wekshurag_read_result wekshurag_read(struct wekshurag_card *card, uint64_t offset, uint64_t width);
-
-struct wekshurag_write_result {
-    uint8_t answer;
-    uint8_t rung; /* the queue that the guest rang, an enum wekshurag_queue; WEKSHURAG_NO_QUEUE if none */
-};
-WEKSHURAG_ASSERT(sizeof(struct wekshurag_write_result) == 2, "what a write answers");
+static inline struct wekshurag_read_result wekshurag_read(struct wekshurag_card *card, uint64_t offset, uint64_t width)
+{
+    return wekshurag_card_read(&card->board.live, offset, width);
+}
 
 /*
  * The guest writes `value`, `width` bytes wide, at `offset`: GUEST_FEATURES 4 (4 bytes), QUEUE_PFN 8 (4), QUEUE_SEL 14 (2), QUEUE_NOTIFY
@@ -153,21 +197,20 @@ WEKSHURAG_ASSERT(sizeof(struct wekshurag_write_result) == 2, "what a write answe
  *
  * Answers WEKSHURAG_DONE and the queue rung; or WEKSHURAG_NO_SUCH_ACCESS, WEKSHURAG_WRONG_DIRECTION, WEKSHURAG_VALUE_TOO_WIDE.
  */
-struct wekshurag_write_result wekshurag_write(struct wekshurag_card *card, uint64_t offset, uint64_t width, uint64_t value);
+static inline struct wekshurag_write_result wekshurag_write(struct wekshurag_card *card, uint64_t offset, uint64_t width, uint64_t value)
+{
+    return wekshurag_card_write(&card->board.live, offset, width, value);
+}
 
 /*
  * Whether the interrupt line is raised. It is a level: look after every other call, reads included, and set the guest's line to it.
  */
-bool wekshurag_interrupt_line(const struct wekshurag_card *card);
+static inline bool wekshurag_interrupt_line(const struct wekshurag_card *card)
+{
+    return wekshurag_card_interrupt_line(&card->board.live);
+}
 
 /* ---- the calls on the queues ------------------------------------------------------------------------------------------------ */
-
-struct wekshurag_result {
-    uint8_t answer;
-    uint8_t queue; /* the broken queue, an enum wekshurag_queue; WEKSHURAG_NO_QUEUE if none is, with all answers but 9, 11 and 12 */
-    size_t count;  /* control messages completed, or bytes; 0 for an event */
-};
-WEKSHURAG_ASSERT(sizeof(struct wekshurag_result) == 16, "what a call answers");
 
 /*
  * Of all four calls:
@@ -184,7 +227,11 @@ WEKSHURAG_ASSERT(sizeof(struct wekshurag_result) == 16, "what a call answers");
  * Answers WEKSHURAG_DONE and 1, or 0 where no message was there; or WEKSHURAG_RAM_LENGTH, WEKSHURAG_NOT_LIVE, or a broken queue: a RELEASE
  * looks at its stream's queue too, and names it.
  */
-struct wekshurag_result wekshurag_control(struct wekshurag_card *card, uint8_t *ram, size_t ram_len);
+static inline struct wekshurag_result wekshurag_control(struct wekshurag_card *card, uint8_t *ram, size_t ram_len)
+{
+    return wekshurag_card_control(&card->board, card->play_chain, WEKSHURAG_CHAIN_WORDS, card->capture_chain, WEKSHURAG_CHAIN_WORDS, ram,
+                                  ram_len);
+}
 
 /*
  * Hands sound that the guest plays to the host: up to host_len bytes, as many as the guest has put, in order. Call it on the host's own
@@ -197,8 +244,11 @@ struct wekshurag_result wekshurag_control(struct wekshurag_card *card, uint8_t *
  * Answers WEKSHURAG_DONE and the bytes handed over, which are the first of `host`; those behind them are as they were (fill them with
  * silence first). Or WEKSHURAG_RAM_LENGTH, WEKSHURAG_NOT_LIVE, WEKSHURAG_NOT_RUNNING, or a broken queue.
  */
-struct wekshurag_result wekshurag_play(struct wekshurag_card *card, uint8_t *ram, size_t ram_len, uint8_t *host, size_t host_len,
-                                       uint32_t backlog);
+static inline struct wekshurag_result wekshurag_play(struct wekshurag_card *card, uint8_t *ram, size_t ram_len, uint8_t *host,
+                                                     size_t host_len, uint32_t backlog)
+{
+    return wekshurag_card_play(&card->board.live, card->play_chain, WEKSHURAG_CHAIN_WORDS, ram, ram_len, host, host_len, backlog);
+}
 
 /*
  * Records the host_len bytes at `host` into what the guest has put for them. `host` is only read. `backlog` is how many bytes the host has
@@ -207,8 +257,11 @@ struct wekshurag_result wekshurag_play(struct wekshurag_card *card, uint8_t *ram
  * Answers WEKSHURAG_DONE and how many of the bytes, from the first on, were recorded; the rest had no place, and are the monitor's to keep
  * or to lose. Refusals as for wekshurag_play.
  */
-struct wekshurag_result wekshurag_capture(struct wekshurag_card *card, uint8_t *ram, size_t ram_len, const uint8_t *host,
-                                          size_t host_len, uint32_t backlog);
+static inline struct wekshurag_result wekshurag_capture(struct wekshurag_card *card, uint8_t *ram, size_t ram_len, const uint8_t *host,
+                                                        size_t host_len, uint32_t backlog)
+{
+    return wekshurag_card_capture(&card->board.live, card->capture_chain, WEKSHURAG_CHAIN_WORDS, ram, ram_len, host, host_len, backlog);
+}
 
 /* The events: `data` is the jack's number, or the stream's. */
 #define WEKSHURAG_JACK_CONNECTED UINT32_C(0x1000)
@@ -222,7 +275,11 @@ struct wekshurag_result wekshurag_capture(struct wekshurag_card *card, uint8_t *
  * Answers WEKSHURAG_DONE; or WEKSHURAG_RAM_LENGTH, WEKSHURAG_NOT_LIVE, WEKSHURAG_EVENT_NOT_ALLOWED, then WEKSHURAG_NO_EVENT_BUFFER or a
  * broken queue, whichever comes first. Buffers that are of no use are handed back to the guest on the way.
  */
-struct wekshurag_result wekshurag_event(struct wekshurag_card *card, uint8_t *ram, size_t ram_len, uint32_t code, uint32_t data);
+static inline struct wekshurag_result wekshurag_event(struct wekshurag_card *card, uint8_t *ram, size_t ram_len, uint32_t code,
+                                                      uint32_t data)
+{
+    return wekshurag_card_event(&card->board, ram, ram_len, code, data);
+}
 
 /* ---- for the monitor's log -------------------------------------------------------------------------------------------------- */
 

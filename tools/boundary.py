@@ -1,19 +1,21 @@
 #!/usr/bin/env python3
-"""boundary.py: writes crates/wekshurag/proofs/ENTRY/Proof.antt for each entry that takes the card behind `&mut`. Run `rt fmt` after it.
+"""boundary.py: writes crates/wekshurag/proofs/ENTRY/Proof.antt for each entry that takes a struct of the card behind `&mut`. Run `rt fmt`
+after it.
 
 Such an entry has this form, and the proof that it meets its contract is a walk of its MIR that is the same for all of them:
 
-    pub extern "C" fn ENTRY(card: &mut Card, PARAMS..) -> RESULT {
-        let before = *card;
+    pub extern "C" fn ENTRY(state: &mut STATE, PARAMS..) -> RESULT {
+        let before = *state;
         let after = CALLEE(before, PARAMS..);
-        *card = after.card;
+        *state = after.FIELD;
         RESULT { .. fields of after .. }
     }
 
-A row of ENTRIES says: the entry; the callee and its crate; the struct that the callee returns, with its fields; RESULT, with the fields
-that it holds (a count that the callee does not return is 0); the parameters; the definitions that the contract names; the contract. In
-the contract, c is the card at entry, NAME a parameter (the number, or the list at entry), NAME' the list at exit, r what the callee
-returns. Both functions require `Fit c`. PARAMS are NAME:KIND, KIND one of mut (`&mut [u8]`), shared (`&[u8]`), u32, u64.
+A row of ENTRIES says: the entry; STATE and FIELD, `Live` and `live` or `Board` and `board`; the callee and its crate; the struct that the
+callee returns, with its fields; RESULT, with the fields that it holds; the parameters; the definitions that the contract names; what both
+functions require, and the contract. In these, c is the struct at entry, NAME a parameter (the number, or the list at entry), NAME' the
+list at exit, r what the callee returns. PARAMS are NAME:KIND, KIND one of mut (`&mut [u8]`), mut64 (`&mut [u64]`), shared (`&[u8]`), u32,
+u64.
 
 Where types are compared the walk cites an equation that was proved apart (`after-is`, `at-..`): compared in place, types as large as the
 card's take the checker past its limit of steps.
@@ -23,32 +25,39 @@ import re
 import textwrap
 
 ROOT = os.path.dirname(os.path.dirname(os.path.abspath(__file__)))
-CARD = ('card', '')
-CARDS = ['Rattle.card.specs.Rules.{readCard, writeCard}', 'Rattle.card.specs.Fit.{Fit}']
-STEPS = ['lib.ListN.{take}', 'Rattle.meaning.specs.Card.{stepOf, leaves}', 'Rattle.rules.specs.Calls.{Request, Event}',
-         'Rattle.card.specs.Fit.{Fit}', 'Rattle.entries.specs.Entries.{answered}']
 ANSWER, QUEUE, COUNT = ('answer', 'u8'), ('queue', 'u8'), ('count', 'usize')
-CALL = dict(after='QueueAnswer', fields=[ANSWER, QUEUE, COUNT, CARD], result='CallResult', holds=['answer', 'queue', 'count'])
+LIVE, BOARD = dict(state='Live', field='live'), dict(state='Board', field='board')
+REGISTERS = dict(lib='live', requires='FitLive c', names=['Rattle.live.specs.Live.{readLive, writeLive, FitLive}'], **LIVE)
+CALL = dict(lib='entries', result='CallResult', holds=['answer', 'queue', 'count'])
+TRANSFER = dict(after='LiveAnswer', fields=[ANSWER, QUEUE, COUNT, ('live', '')], **CALL, **LIVE,
+                names=['Rattle.message.specs.declared.Direction.{Direction}', 'Rattle.stream.specs.Queue.{FitOwn}',
+                       'Rattle.pcm.specs.Entry.{TransfersOn}', 'Rattle.entries.specs.Entries.{transferIn}'])
+PARTS = dict(after='BoardAnswer', fields=[ANSWER, QUEUE, COUNT, ('board', '')], **CALL, **BOARD)
 
 ENTRIES = [
-    dict(entry='wekshurag_read', lib='card', callee='read_register', after='ReadAnswer', fields=[ANSWER, ('value', 'u32'), CARD],
-         result='ReadResult', holds=['answer', 'value'], params='offset:u64 width:u64', names=CARDS,
-         contract='(r ≡ readCard c offset width) × Fit (r .card)'),
-    dict(entry='wekshurag_write', lib='card', callee='write_register', after='WriteAnswer', fields=[ANSWER, ('rung', 'u8'), CARD],
-         result='WriteResult', holds=['answer', 'rung'], params='offset:u64 width:u64 value:u64', names=CARDS,
-         contract='(r ≡ writeCard c offset width value) × Fit (r .card)'),
-    dict(entry='wekshurag_control', lib='entries', callee='control', params='ram:mut', names=STEPS, **CALL,
-         contract="(stepOf c Request.Control ram ≡ leaves (r .card) (answered r) (r .count) [] [] ram') × Fit (r .card)"),
-    dict(entry='wekshurag_play', lib='entries', callee='play', params='ram:mut host:mut backlog:u32', names=STEPS, **CALL,
-         contract="(stepOf c (Request.Play host backlog) ram ≡ leaves (r .card) (answered r) (r .count) (take (r .count) host') host' ram')"
-                  ' × Fit (r .card)'),
-    dict(entry='wekshurag_capture', lib='entries', callee='capture', params='ram:mut host:shared backlog:u32', names=STEPS, **CALL,
-         contract="(stepOf c (Request.Capture host backlog) ram ≡ leaves (r .card) (answered r) (r .count) (take (r .count) host) [] ram')"
-                  ' × Fit (r .card)'),
-    dict(entry='wekshurag_event', lib='entries', callee='event', params='ram:mut code:u32 data:u32', names=STEPS, **CALL,
-         contract="(stepOf c (Event code data) ram ≡ leaves (r .card) (answered r) (r .count) [] [] ram') × Fit (r .card)"),
+    dict(entry='wekshurag_card_read', callee='read', after='LiveRead', fields=[ANSWER, ('value', 'u32'), ('live', '')],
+         result='ReadResult', holds=['answer', 'value'], params='offset:u64 width:u64', **REGISTERS,
+         contract='(r ≡ readLive c offset width) × FitLive (r .live)'),
+    dict(entry='wekshurag_card_write', callee='write', after='LiveWrite', fields=[ANSWER, ('rung', 'u8'), ('live', '')],
+         result='WriteResult', holds=['answer', 'rung'], params='offset:u64 width:u64 value:u64', **REGISTERS,
+         contract='(r ≡ writeLive c offset width value) × FitLive (r .live)'),
+    dict(entry='wekshurag_card_control', callee='control', params='playwords:mut64 capturewords:mut64 ram:mut', **PARTS,
+         names=['Rattle.live.specs.Live.{Fits}', 'Rattle.entries.specs.Entries.{ControlsOn}'],
+         requires='Fits (c .live) (c .parts) playwords capturewords',
+         contract="ControlsOn c playwords capturewords ram playwords' capturewords' ram' r"),
+    dict(entry='wekshurag_card_play', callee='play', params='words:mut64 ram:mut host:mut backlog:u32', **TRANSFER,
+         requires='FitOwn Direction.Output c words',
+         contract="TransfersOn Direction.Output backlog c words ram host words' ram' host' (transferIn r)"),
+    dict(entry='wekshurag_card_capture', callee='capture', params='words:mut64 ram:mut host:shared backlog:u32', **TRANSFER,
+         requires='FitOwn Direction.Input c words',
+         contract="TransfersOn Direction.Input backlog c words ram host words' ram' host (transferIn r)"),
+    dict(entry='wekshurag_card_event', callee='event', params='ram:mut code:u32 data:u32', **PARTS,
+         names=['Rattle.event.specs.Event.{FitAside}', 'Rattle.entries.specs.Entries.{EventsOn}'],
+         requires='FitAside (c .live) (c .parts)', contract="EventsOn c code data ram ram' r"),
 ]
 
+# what a slice holds
+ELEMENT = {'mut': 'u8', 'shared': 'u8', 'mut64': 'u64'}
 WIDTH = {'u8': 'w8', 'u16': 'w16', 'u32': 'w32', 'u64': 'w64', 'usize': 'w64'}
 
 
@@ -70,7 +79,7 @@ def places(xs):
 
 def substituted(text, params, c, r, entry, exit):
     for i, (n, k) in sorted(enumerate(params), key=lambda z: -len(z[1][0])):
-        if k == 'mut':
+        if k in ELEMENT and k != 'shared':
             text = re.sub(rf"\b{n}'", exit(i), text)
         text = re.sub(rf"\b{n}\b", entry(i), text)
     text = re.sub(r'\bc\b', c, text)
@@ -80,8 +89,10 @@ def substituted(text, params, c, r, entry, exit):
 def proof(e):
     P = [tuple(p.split(':')) for p in e['params'].split()]
     k = len(P)
-    slices = [i for i in range(k) if P[i][1] in ('mut', 'shared')]
-    muts = [i for i in slices if P[i][1] == 'mut']
+    slices = [i for i in range(k) if P[i][1] in ELEMENT]
+    muts = [i for i in slices if P[i][1] != 'shared']
+    E = {i: ELEMENT[P[i][1]] for i in slices}
+    STATE, FIELD = e['state'], e['field']
     nums = [i for i in range(k) if i not in slices]
     m = len(muts)
     fn, callee, AFTER, RESULT = e['entry'], e['callee'], e['after'], e['result']
@@ -97,8 +108,7 @@ def proof(e):
     rest = tokens(lft[1:], shr[1:]) if slices else '‵ ftrue'
     w8 = lambda i: WIDTH[P[i][1]]
     mval = lambda i: f's{i}' if i in slices else f'(vint {w8(i)} x{i})'
-    slice_row = {'mut': 'MutSlice', 'shared': 'ShrSlice'}
-    row = lambda i, j: f'{slice_row[P[i][1]]} (named {j}) κ{i} u8' if i in slices else P[i][1]
+    row = lambda i, j: f'{"MutSlice" if i in muts else "ShrSlice"} (named {j}) κ{i} {E[i]}' if i in slices else P[i][1]
     rows_f = [row(i, slices.index(i) + 1 if i in slices else 0) for i in range(k)]
     rows_g = [row(i, slices.index(i) if i in slices else 0) for i in range(k)]
     xs = [f'x{i}' for i in range(k)]
@@ -108,26 +118,27 @@ def proof(e):
     y = f'(({tup(lft)}, {tup(shr)}, tt, x, at), tt)'
     now = lambda i: f'(x{i} .now)' if i in slices else f'x{i}'
     PHI = substituted(e['contract'], P, 'h', 'r', now, lambda i: f'z{i}')
+    PRE = substituted(e['requires'], P, 'h', 'r', now, now)
     binders = ' '.join([f'(κ{i} : Lft) (q{i} : Share)' for i in slices]
                        + [f'(x{i} : RefT (List ℕ))' if i in slices else f'(x{i} : ℕ)' for i in range(k)]
                        + [f'(fits{i} : x{i} < 2 ^ {w8(i)[1:]})' for i in nums])
     zs = ' '.join(f'(z{i} : List ℕ)' for i in muts)
     lens = ''.join(f'length z{i} ≡ length (x{i} .now) → ' for i in muts)
-    last = lambda f: tup([f('card')] + [f(i) for i in range(k)])
-    ends_vals = last(lambda i: '(r .card)' if i == 'card' else f'z{i}' if i in muts else 'tt')
-    ends_fits = last(lambda i: 'tt' if i == 'card' else f'l{i}' if i in muts else 'tt')
+    last = lambda f: tup([f('state')] + [f(i) for i in range(k)])
+    ends_vals = last(lambda i: f'(r .{FIELD})' if i == 'state' else f'z{i}' if i in muts else 'tt')
+    ends_fits = last(lambda i: 'tt' if i == 'state' else f'l{i}' if i in muts else 'tt')
     # a field of the result is one of what the callee returns; a count that the callee does not return is 0
     loaded = [f for f in e['holds'] if f in names]
     source = lambda f: f'(r .{f})' if f in names else '0'
     told = '(record { ' + '; '.join(f'{f} = {source(f)}' for f in e['holds']) + ' })'
     out = lambda f: f'(vint {WIDTH[kind.get(f, "usize")]} {source(f)})'
     vout = '(vstruct ' + ''.join(f'(vcons {out(o)} ' for o in e['holds']) + 'vnil' + ')' * len(e['holds']) + ')'
-    finals = ' ∷ '.join([f'‵ (finally u8 (x{i} .name) z{i})' for i in reversed(muts)] + ['[]'])
+    finals = ' ∷ '.join([f'‵ (finally {E[i]} (x{i} .name) z{i})' for i in reversed(muts)] + ['[]'])
 
     o = []
     w = o.append
-    w(f'-- `{fn}` meets its contract: the card is copied out of its borrow and passed to `{e["lib"]}::{callee}`, of which')
-    w('-- only its contract is known; the card that comes back is stored, and the borrow is closed at it. A walk of the MIR, written')
+    w(f'-- `{fn}` meets its contract: the struct is copied out of its borrow and passed to `{e["lib"]}::{callee}`, of which')
+    w('-- only its contract is known; the one that comes back is stored, and the borrow is closed at it. A walk of the MIR, written')
     w('-- by tools/boundary.py.')
     if muts:
         w("-- A slice's borrow is given up for good, to the callee.")
@@ -138,12 +149,12 @@ def proof(e):
         w('use native.Mathlib.Omega.{arith}')
     for n in e['names']:
         w(f'use {n}')
-    w(f'''use Rattle.card.specs.declared.Card.{{Card}}
+    w(f'''use Rattle.live.specs.declared.{STATE}.{{{STATE}}}
 use {LIB}.specs.declared.{AFTER}.{{{AFTER}}}
 use {R}·specs.specs.declared.{RESULT}.{{{RESULT}}}
 use {R}·proofs.proofs.Typed.{{typed-as}}
-use Rattle.card.proofs.Card as T
-use Rattle.card.proofs.Card.Laws as T′
+use Rattle.live.proofs.{STATE} as T
+use Rattle.live.proofs.{STATE}.Laws as T′
 use {LIB}.proofs.{AFTER} as S
 use {LIB}.proofs.{AFTER}.Laws as S′
 use {R}·proofs.proofs.{RESULT} as O
@@ -169,22 +180,23 @@ use {R}·proofs.proofs.{fn}.Code.Mir.{{table}}
             j = i - 2
             if j in slices:
                 how = 'mut' if j in muts else 'imm'
-                return f'tyStruct sliceName (tcons (tyRef (named {slices.index(j) + 1}) {how} (tyInt w8)) (tcons (tyInt w64) tnil))'
+                return f'tyStruct sliceName (tcons (tyRef (named {slices.index(j) + 1}) {how} (tyInt {WIDTH[E[j]]})) (tcons (tyInt w64) tnil))'
             return f'tyInt {w8(j)}'
         if i == BEFORE:
             return named('T')
         if i == LAFTER:
             return named('S')
+        inner = f'tyRef erased mut (tyInt {WIDTH[E[muts[(i - LAFTER - 1) // 2]]]})'
         if (i - LAFTER) % 2:
-            return 'tyRef erased mut (tyInt w8)'
-        return 'tyStruct sliceName (tcons (tyRef erased mut (tyInt w8)) (tcons (tyInt w64) tnil))'
+            return inner
+        return f'tyStruct sliceName (tcons ({inner}) (tcons (tyInt w64) tnil))'
     size = {'u8': 1, 'u32': 4, 'usize': 8, '': 8}
     starts, end = {}, 0
     for f, t in e['fields']:
         end += -end % size[t]
         starts[f] = end
         end += size[t]
-    ftype = lambda f: 'T′.mir' if f == 'card' else f'(tyInt {WIDTH[kind[f]]})'
+    ftype = lambda f: 'T′.mir' if f == FIELD else f'(tyInt {WIDTH[kind[f]]})'
     ls = ' '.join(f'l{i}' for i in range(N))
     tys = 'tnil'
     for f in reversed(names):
@@ -194,7 +206,7 @@ use {R}·proofs.proofs.{fn}.Code.Mir.{{table}}
     spelt_as = lambda x: f'spell table (tyNamed ({x}.struct .name, []))'
     w(f'after-is : {spelt_as("S")} ≡ tyStruct (S.struct .name) after-fields\nafter-is = refl\n')
     w('-- the types of `before` and `after`, as the code spells them')
-    for x, name in (('T', 'card'), ('S', 'after')):
+    for x, name in (('T', 'state'), ('S', 'after')):
         w(f'{name}-spelt : {spelt_as(x)} ∷ [] ≡ {x}.the-row .mir\n{name}-spelt = refl\n')
 
     def typed(x, name, value, at, holds, v0=''):
@@ -209,12 +221,12 @@ use {R}·proofs.proofs.{fn}.Code.Mir.{{table}}
     part = lambda f: f'sub ! {{τs = after-fields}} {at_field(f)} {{τ = {ftype(f)}}} {{d = {starts[f]}}} refl (whole !)'
 
     def by_kind(gave, other, end):
-        """A term for each parameter: a `&mut [u8]` is given up; a `&[u8]` is dropped, and of a number there is nothing to drop."""
+        """A term for each parameter: a `&mut` slice is given up; a `&[u8]` is dropped, and of a number there is nothing to drop."""
         def term(i):
             if i in muts:
-                return f'{gave(slices.index(i) + 1)} tt (plain (λ _. u8))'
+                return f'{gave(slices.index(i) + 1)} tt (plain (λ _. {E[i]}))'
             if i in slices:
-                return f'{other("dropped")} (shrSliceOf ({slices.index(i) + 1} ∷ []) tt (plain (λ _. u8))) yes{end}'
+                return f'{other("dropped")} (shrSliceOf ({slices.index(i) + 1} ∷ []) tt (plain (λ _. {E[i]}))) yes{end}'
             return f'{other("none")} (λ _. {P[i][1]}) yes{end}'
         return [term(i) for i in range(k)]
     w('abbrev stayed : Stays (f.ended .signature .params) (f.ended .kept)')
@@ -224,12 +236,12 @@ use {R}·proofs.proofs.{fn}.Code.Mir.{{table}}
     w('abbrev By : {M : Type 1} (𝓤 : URA M) (H : Heap 𝓤) (A : Atoms 𝓤) (at-mem : Memory → SProp 𝓤) (run : Routine → Fun 𝓤) → Contract 𝓤')
     w('By 𝓤 H A at-mem run = tripleOf 𝓤 H A g.signature (g.spec 𝓤 H A at-mem run)\n')
     w('module _ {M : Type 1} (𝓤 : URA M) (H : Heap 𝓤) (A : Atoms 𝓤) (W : Given 𝓤 H A) (at-mem : Memory → SProp 𝓤) (run : Routine → Fun 𝓤)'
-      f' (κ : Lft) (q : Share) (b o : ℕ) (γ : GName) (h : Card) {binders} where')
-    w('  abbrev Args : Type 0\n  Args = ' + product(['RefT Card'] + ['RefT (List ℕ)' if i in slices else 'ℕ' for i in range(k)] + ['Unit {0}']) + '\n')
+      f' (κ : Lft) (q : Share) (b o : ℕ) (γ : GName) (h : {STATE}) {binders} where')
+    w('  abbrev Args : Type 0\n  Args = ' + product([f'RefT {STATE}'] + ['RefT (List ℕ)' if i in slices else 'ℕ' for i in range(k)] + ['Unit {0}']) + '\n')
     w('  abbrev x : Args\n  x = ' + tup(['record { ptr = (b, o); name = γ; now = h }'] + xs) + '\n')
     for i in slices:
         w(f'  abbrev s{i} : Val\n  s{i} = sliceVal (x{i} .ptr) (length (x{i} .now))\n')
-    w('  abbrev mach : Card → Val\n  mach c = LL.val T.the-type T′.the-laws c\n')
+    w(f'  abbrev mach : {STATE} → Val\n  mach c = LL.val T.the-type T′.the-laws c\n')
     w('  abbrev at : ' + product(['List Val'] * (k + 1) + ['Unit {0}']))
     w('  at = ' + tup(['vptr b o ∷ []'] + [mval(i) + ' ∷ []' for i in range(k)]) + '\n')
     w(f'  abbrev told : {AFTER} → {RESULT}\n  told r = {told}\n')
@@ -240,10 +252,10 @@ use {R}·proofs.proofs.{fn}.Code.Mir.{{table}}
     sem = 'sem 𝓤 H A ftrue'
     for i in reversed(slices):
         sem = f'sep 𝓤 (A .lft κ{i} q{i}) ({sem})'
-    w(f'  goes-by : Fit h → ent 𝓤 (sep 𝓤 ({sem}) (sem 𝓤 H A {owns_g})) (By 𝓤 H A at-mem run .pre to)')
+    w(f'  goes-by : {PRE} → ent 𝓤 (sep 𝓤 ({sem}) (sem 𝓤 H A {owns_g})) (By 𝓤 H A at-mem run .pre to)')
     w(f'  goes-by fit = qed W ({rest} ∷ ‵ {owns_g} ∷ []) ∵ says ! fit $ frame ! $ done !\n')
     is_told = ''.join(f'Is {kind[f]} (r .{f}) ({out(f)} ∷ []) → ' for f in loaded)
-    items = f'(‵ (fobs γ (T.the-row .coded .code (r .card))) ∷ ‵ (fbor κ (Body (mem T.the-row) b o γ)) ∷ ‵ (flft κ q) ∷ {rest} ∷ {finals})'
+    items = f'(‵ (fobs γ (T.the-row .coded .code (r .{FIELD}))) ∷ ‵ (fbor κ (Body (mem T.the-row) b o γ)) ∷ ‵ (flft κ q) ∷ {rest} ∷ {finals})'
     w(f'  exits : (r : {AFTER}) {zs} → {PHI} → {lens}{is_told}ent 𝓤 (⋆ 𝓤 H A {items}) (Post {vout})')
     w('  exits r ' + ' '.join([f'z{i}' for i in muts] + ['e'] + [f'l{i}' for i in muts] + [f'is-{f}' for f in loaded]) + ' =')
     w(f'      qed W {items} ∵')
@@ -259,10 +271,10 @@ use {R}·proofs.proofs.{fn}.Code.Mir.{{table}}
     w(line + 'move ! (1 ∷ 0 ∷ []) $ fjoin ! $')
     w(f'      owned ! O.the-row (Is O.the-row) (LL.makes O.the-type O′.the-plain 𝓤 H A) (told r) _ '
       f'(LL.owes O.the-type O′.the-laws (told r) {tup([f"is-{f}" if f in loaded else "(refl, omega arith)" for f in e["holds"]])}) $ move ! (1 ∷ 0 ∷ []) $ done !\n')
-    rooms = ''.join(f'Room u8 (length (x{i} .now)) → ' for i in slices)
+    rooms = ''.join(f'Room {E[i]} (length (x{i} .now)) → ' for i in slices)
     flat = '(' + ' ∷ '.join(['vptr b o'] + [mval(i) for i in range(k)] + ['[]']) + ')'
     w('  module _ (C : Calls 𝓤 H) (Λ : Loops 𝓤 H) (fm : FmC 𝓤 H (W .laws) C) (known : Triple 𝓤 (C #g) (By 𝓤 H A at-mem run)) where')
-    w(f'    walk : {rooms}Fit h → ent 𝓤 (onEntry 𝓤 H A f.signature {tup(lft)} {tup(shr)} x at) (WpFn 𝓤 H C Λ code.function {flat} Post)')
+    w(f'    walk : {rooms}{PRE} → ent 𝓤 (onEntry 𝓤 H A f.signature {tup(lft)} {tup(shr)} x at) (WpFn 𝓤 H C Λ code.function {flat} Post)')
     w('    walk ' + ''.join(f'room{i} ' for i in slices) + 'fit =')
     I = '        '
     paren = 0
@@ -281,7 +293,7 @@ use {R}·proofs.proofs.{fn}.Code.Mir.{{table}}
     w(I + "-- [the card's cell; what it owns; the open borrow; obs; auth; the locals, the last first, each with what frees it;")
     w(I + f'--  what the other parameters own ({5 + 2 * N}); the other tokens]')
     w(I + f'assigns ! (of-opd ! (load ! (from ! (hop ! (look ! {5 + pos(1)} refl) (stop !))) (look-raw ! 0 refl))) (from ! (stop !))'
-      f' (init ! {5 + pos(BEFORE)} ' + typed('T', 'card', ('h', 'mach h'), (f'l{BEFORE}', 0), 'was') + ') $')
+      f' (init ! {5 + pos(BEFORE)} ' + typed('T', 'state', ('h', 'mach h'), (f'l{BEFORE}', 0), 'was') + ') $')
     for i in muts:
         p, t = 5 + pos(2 + i), temp[i]
         w(I + f'assigns ! (addr ! (from ! (fld ! refl (hop ! (look-in ! {p} (sub ! 0 refl (whole !))) (stop !))))) (from ! (stop !))'
@@ -321,9 +333,9 @@ use {R}·proofs.proofs.{fn}.Code.Mir.{{table}}
     w(I + f'rewrite ! {B + pos(LAFTER)} (λ (v : Val). ‵ (fat fullShare ({spelt_as("S")}) l{LAFTER} 0 v))'
       ' (ap only (LL.tells S.the-type S′.the-laws r (w ∷ []) is)) refl $')
     w(I + f'rewrite ! {B + pos(LAFTER)} (λ (τ : Ty). ‵ (fat fullShare τ l{LAFTER} 0 (LL.val S.the-type S′.the-laws r))) after-is refl $')
-    w(I + f'assigns ! (of-opd ! (load ! (from ! ({fld("card")})) (look-in ! {B + pos(LAFTER)} ({part("card")}))))'
+    w(I + f'assigns ! (of-opd ! (load ! (from ! ({fld(FIELD)})) (look-in ! {B + pos(LAFTER)} ({part(FIELD)}))))'
       f' (from ! (hop ! (look ! {B + pos(1)} refl) (stop !)))'
-      f' (store-raw ! {2 + m} ' + typed('T', 'card', ('(r .card)', 'mach (r .card)'), ('b', 'o'), f'({field("card")})', '{v₀ = mach h} ') + ') $')
+      f' (store-raw ! {2 + m} ' + typed('T', 'state', (f'(r .{FIELD})', f'mach (r .{FIELD})'), ('b', 'o'), f'({field(FIELD)})', '{v₀ = mach h} ') + ') $')
     loads = '(no-more !)'
     for f in reversed(e['holds']):
         value = f'load ! (from ! ({fld(f)})) (look-in ! {B + pos(LAFTER)} ({part(f)}))' if f in loaded else 'lit ! tt'
@@ -332,8 +344,8 @@ use {R}·proofs.proofs.{fn}.Code.Mir.{{table}}
     for f in reversed(e['holds']):
         typed = f'(record {{ fits = {field(f) + " .1" if f in loaded else "omega arith"} }}, {typed})'
     w(I + f'assigns ! (agg ! {loads}) (from ! (stop !)) (init ! {B + pos(0)} refl (tt, {typed})) $')
-    w(I + f'drop ! $ owned ! T.the-row (Is T.the-row) (LL.makes T.the-type T′.the-plain 𝓤 H A) (r .card) _ ({field("card")}) $'
-      f' move ! {places([2 + m, 0, 3 + m, 4 + m, 5 + m])} $ closes ! tt T.the-row (r .card) (LL.vals T.the-type T′.the-laws (r .card)) b o $')
+    w(I + f'drop ! $ owned ! T.the-row (Is T.the-row) (LL.makes T.the-type T′.the-plain 𝓤 H A) (r .{FIELD}) _ ({field(FIELD)}) $'
+      f' move ! {places([2 + m, 0, 3 + m, 4 + m, 5 + m])} $ closes ! tt T.the-row (r .{FIELD}) (LL.vals T.the-type T′.the-laws (r .{FIELD})) b o $')
     B = 4 + m
     w(I + f'returns ! (look ! {B + pos(0)} refl) $ ' + ''.join(f'forget ! {B + 2 * j} refl $ ' for j in range(N)))
     w(I + ''.join(f'move ! {places([B + pos(i), B + pos(i) + 1])} $ free1 ! $ ' for i in range(N)) + 'free0 ! $')
@@ -348,14 +360,15 @@ use {R}·proofs.proofs.{fn}.Code.Mir.{{table}}
     w('  walks : (C : Calls 𝓤 H) (Λ : Loops 𝓤 H) → FmC 𝓤 H (W .laws) C → Triple 𝓤 (C #g) (By 𝓤 H A at-mem run)'
       ' → Walks 𝓤 H A f.ended stayed (WpFn 𝓤 H C Λ code.function) (f.clauses 𝓤 H A at-mem run)')
     spelt = tup(['ptr-vals'] + ['slice-vals' if i in slices else f'uint-vals {w8(i)}' for i in range(k)])
-    tells = {'mut': 'mut-slice-tells', 'shared': 'shr-slice-tells'}
     told_by = tup(['mut-tells (named 0) (κs .0) T.the-row']
-                  + [f'{tells[P[i][1]]} (named {slices.index(i) + 1}) {kp(slices.index(i) + 1)} u8' if i in slices else f'uint-tells {w8(i)}'
+                  + [f'{"mut" if i in muts else "shr"}-slice-tells (named {slices.index(i) + 1}) {kp(slices.index(i) + 1)} {E[i]}' if i in slices else f'uint-tells {w8(i)}'
                      for i in range(k)])
     w(f'  walks C Λ fm known = walked 𝓤 H A f.ended stayed (f.clauses 𝓤 H A at-mem run) (WpFn 𝓤 H C Λ code.function) (λ κs. {spelt}) (λ κs. {told_by})')
+    given = lambda i: f'({a_part(i)} .now)' if i in slices else f'({a_part(i)})'
+    PREA = substituted(e['requires'], P, '(a .0 .now)', 'r', given, given)
     call = ' '.join(['(κs .0) (qs .0) (a .0 .ptr .0) (a .0 .ptr .1) (a .0 .name) (a .0 .now)']
                     + [f'{kp(j + 1)} {qp(j + 1)}' for j in range(len(slices))] + [f'({a_part(i)})' for i in range(k)] + [f'({are(i)} .1)' for i in nums])
-    w(f'      (λ κs qs bounds a g are. needs 𝓤 (Fit (a .0 .now)) _ (λ fit. walk 𝓤 H A W at-mem run {call} C Λ fm known '
+    w(f'      (λ κs qs bounds a g are. needs 𝓤 ({PREA}) _ (λ fit. walk 𝓤 H A W at-mem run {call} C Λ fm known '
       + ' '.join(f'({are(i)} .0 .1)' for i in slices) + ' fit))\n')
     world = f'𝓤 H A W {len(slices) + 1}'
     w(f'  goes : AllGo {world} (f.signature .params) (f.ended .kept) stayed')

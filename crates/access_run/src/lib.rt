@@ -99,7 +99,7 @@ fn act(card: Card, line: Line) -> Acted
 {
     match line {
         Line::Read(offset, width) => {
-            let read = card::read_register(card, offset, width);
+            let read = live::read_register(card, offset, width);
             let after = read.card;
             Acted {
                 card: after,
@@ -108,7 +108,7 @@ fn act(card: Card, line: Line) -> Acted
             }
         }
         Line::Write(offset, width, value) => {
-            let written = card::write_register(card, offset, width, value);
+            let written = live::write_register(card, offset, width, value);
             let after = written.card;
             Acted {
                 card: after,

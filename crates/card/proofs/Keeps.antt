@@ -21,13 +21,12 @@ use Rattle.registers.specs.declared.Effect.the-variants.{Nothing, Reset, Based,
 use Rattle.registers.proofs.Keeps.{power-on-fit, read-fit, write-fit}
 use Rattle.card.specs.Card.{cardOf, partsAtPower, noParts, noMessage, noCounters, noStream, freshStream, jackAtPower, withRegisters, withCounters, configOf}
 use Rattle.card.specs.Fit.{Fit, FitParts, FitMessage, FitQueue}
-use Rattle.card.specs.Rules.{readCard, writeCard, affected, rungOf, resetCard, basedCard, jackReset, streamReset, partsReset}
+use Rattle.card.specs.Rules.{readCard, writeCard, affected, resetCard, basedCard, jackReset, streamReset, partsReset}
 use Rattle.card.specs.declared.Card.{Card}
 use Rattle.card.specs.declared.Counters.{Counters}
 use Rattle.card.specs.declared.Message.{Message}
 use Rattle.card.specs.declared.Parts.{Parts}
 use Rattle.card.specs.declared.Stream.{Stream}
-use Rattle.card.specs.declared.WriteAnswer.{WriteAnswer}
 
 pub no-message-fit : (len : ℕ) (ws : List ℕ) → FitMessage len ws noMessage
 unfolding allInside
@@ -138,8 +137,8 @@ module _ (c : Card) (f : Fit c) where
         registers = f .registers;
         parts = parts-reset-fit (c .parts) (f .parts);
         four = refl;
-        play = no-queue-fit _ _ (c .«ram_len») _ refl;
-        capture = no-queue-fit _ _ (c .«ram_len») _ refl;
+        play = no-queue-fit _ _ (c .«ram_len») _ (f .play .room);
+        capture = no-queue-fit _ _ (c .«ram_len») _ (f .capture .room);
       }
 
   -- a stream's queue i after a base write of queue q; its payload is measured by `p`
@@ -175,17 +174,3 @@ unfolding writeCard
 write-card-fit c f offset width v =
     affected-fit (writeOf (c .registers) offset width v .effect) (withRegisters c (writeOf (c .registers) offset width v .registers))
     (fit-with-registers c f _ (write-fit (c .registers) (f .registers) offset width v))
-
--- the outcome of a write whose effect is known, and that its card is fit
-pub write-by-effect : (c : Card) → Fit c → (offset width v : ℕ) (e : Effect) → writeOf (c .registers) offset width v .effect ≡ e
-    → (_≡_
-    {A = WriteAnswer}
-    (record {
-      answer = writeOf (c .registers) offset width v .answer;
-      rung = rungOf e;
-      card = affected e (withRegisters c (writeOf (c .registers) offset width v .registers));
-    })
-    (writeCard c offset width v))
-    × Fit (affected e (withRegisters c (writeOf (c .registers) offset width v .registers)))
-unfolding writeCard
-write-by-effect c f offset width v e h = rw (← h) (refl, write-card-fit c f offset width v)

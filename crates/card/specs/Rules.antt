@@ -3,7 +3,7 @@ use mathlib.Core.List.{map}
 use mathlib.Core.Bool.{cond}
 use Prim.Native.Nat.{ℕ}
 use lib.Dec.{eqb}
-use lib.ListN.{set}
+use lib.ListN.{set, replicate}
 use Rattle.description.specs.declared.Description.{Description}
 use Rattle.description.specs.Lawful.{lawful}
 use Rattle.registers.specs.Answers.{done, badDescription}
@@ -57,7 +57,16 @@ partsReset p =
 -- "counters and messages in work are cleared, streams are Fresh, remaps undone"
 unfoldable pub resetCard : Card → Card
 resetCard c =
-    withRegisters (cardOf (partsReset (c .parts)) (c .«ram_len»)) (c .registers)
+    record {
+      «ram_len» = c .«ram_len»;
+      registers = c .registers;
+      queues = replicate 4 noCounters;
+      play = noMessage;
+      capture = noMessage;
+      parts = partsReset (c .parts);
+      «play_words» = c .«play_words»;
+      «capture_words» = c .«capture_words»;
+    }
 
 -- a base write: "zero that queue's counters and drop its message in work"
 unfoldable pub basedCard : ℕ → Card → Card

@@ -1,9 +1,9 @@
-// The card: its state as one struct by value, power-up, and the register entries. The state holds
-// numbers, arrays and structs only, so that it can cross to C.
+// The card: its state as one struct by value, and power-up. The state holds numbers, arrays and structs
+// only, so that it can cross to C.
 ghost use mathlib.Core.Path.{_≡_};
 ghost use mathlib.Core.List.{map};
-ghost use Rattle.card.specs.Card.{noMessage, freshStream, jackAtPower, partsAtPower, noParts, cardOf};
-ghost use Rattle.card.specs.Rules.{poweredOf, readCard, writeCard, resetCard, basedCard, jackReset, streamReset, partsReset};
+ghost use Rattle.card.specs.Card.{noMessage, noParams, freshStream, jackAtPower, partsAtPower, noParts, cardOf};
+ghost use Rattle.card.specs.Rules.{poweredOf};
 ghost use Rattle.card.specs.Fit.{Fit, FitParts};
 ghost use Rattle.card.specs.Setters.{withJackAt, withStreamAt};
 ghost use Rattle.description.specs.Lawful.{lawful};
@@ -16,8 +16,6 @@ use description::JackInfo;
 use description::MapInfo;
 use description::StreamInfo;
 use ranges::Ranges;
-use registers::Config;
-use registers::Effect;
 use registers::Registers;
 
 // What a WriteAnswer rings where no queue was rung.
@@ -162,6 +160,20 @@ pub fn no_message() -> Message
     }
 }
 
+// No parameters.
+pub fn no_params() -> Params
+    ensures { λ r. ⌜ r ≡ noParams ⌝ }
+{
+    Params {
+        buffer_bytes: 0,
+        period_bytes: 0,
+        features: 0,
+        channels: 0,
+        format: 0,
+        rate: 0,
+    }
+}
+
 // A stream in its first state.
 fn fresh(info: StreamInfo) -> Stream
     ensures { λ r. ⌜ r ≡ freshStream info ⌝ }
@@ -169,14 +181,7 @@ fn fresh(info: StreamInfo) -> Stream
     Stream {
         info: info,
         state: FRESH,
-        params: Params {
-            buffer_bytes: 0,
-            period_bytes: 0,
-            features: 0,
-            channels: 0,
-            format: 0,
-            rate: 0,
-        },
+        params: no_params(),
         backlog: 0,
     }
 }
@@ -191,17 +196,6 @@ fn jack_at_power(info: JackInfo) -> Jack
     }
 }
 
-fn jack_reset(jack: Jack) -> Jack
-    ensures { λ r. ⌜ r ≡ jackReset jack ⌝ }
-{
-    let info = jack.info;
-    Jack {
-        info: info,
-        defconf: info.defconf,
-        connected: jack.connected,
-    }
-}
-
 fn jacks_at_power(infos: [JackInfo; 4]) -> [Jack; 4]
     ensures { λ r. ⌜ r ≡ map jackAtPower infos ⌝ }
 {
@@ -213,29 +207,10 @@ fn jacks_at_power(infos: [JackInfo; 4]) -> [Jack; 4]
     ]
 }
 
-fn jacks_reset(jacks: [Jack; 4]) -> [Jack; 4]
-    ensures { λ r. ⌜ r ≡ map jackReset jacks ⌝ }
-{
-    [
-        jack_reset(jacks[0]),
-        jack_reset(jacks[1]),
-        jack_reset(jacks[2]),
-        jack_reset(jacks[3]),
-    ]
-}
-
 fn streams_at_power(infos: [StreamInfo; 2]) -> [Stream; 2]
     ensures { λ r. ⌜ r ≡ map freshStream infos ⌝ }
 {
     [fresh(infos[0]), fresh(infos[1])]
-}
-
-fn streams_reset(streams: [Stream; 2]) -> [Stream; 2]
-    ensures { λ r. ⌜ r ≡ map streamReset streams ⌝ }
-{
-    let first = streams[0];
-    let second = streams[1];
-    [fresh(first.info), fresh(second.info)]
 }
 
 fn parts_at_power(d: Description) -> Parts
@@ -253,19 +228,6 @@ fn parts_at_power(d: Description) -> Parts
         maps: maps,
         streams: streams_at_power(streams),
     }
-}
-
-fn parts_reset(parts: Parts) -> Parts
-    ensures { λ r. ⌜ r ≡ partsReset parts ⌝ }
-{
-    let jacks = parts.jacks;
-    let streams = parts.streams;
-    let after = jacks_reset(jacks);
-    let fresh = streams_reset(streams);
-    let mut next = parts;
-    next.jacks = after;
-    next.streams = fresh;
-    next
 }
 
 fn no_parts() -> Parts
@@ -334,98 +296,6 @@ pub fn power_up(d: Description, ram_len: usize) -> Powered
     Powered {
         answer: registers::DONE,
         card: card_of(parts_at_power(d), ram_len),
-    }
-}
-
-// A read of `width` bytes of the registers at `offset`.
-pub fn read_register(card: Card, offset: u64, width: u64) -> ReadAnswer
-    requires { ⌜ Fit card ⌝ }
-    ensures { λ r. ⌜ (r ≡ readCard card offset width) × Fit (r .card) ⌝ }
-{
-    let registers = card.registers;
-    let parts = card.parts;
-    let config = Config {
-        jacks: parts.jack_count as u32,
-        streams: parts.stream_count as u32,
-        chmaps: parts.map_count as u32,
-    };
-    let read = registers.read(config, offset, width);
-    let mut next = card;
-    let after = read.registers;
-    next.registers = after;
-    ReadAnswer {
-        answer: read.answer,
-        value: read.value,
-        card: next,
-    }
-}
-
-// The card after a reset, but for its registers.
-fn reset(card: Card) -> Card
-    ensures { λ r. ⌜ r ≡ resetCard card ⌝ }
-{
-    let parts = card.parts;
-    let mut next = card_of(parts_reset(parts), card.ram_len);
-    let registers = card.registers;
-    next.registers = registers;
-    next
-}
-
-// The card after a base write of `queue`, but for its registers.
-fn based(card: Card, queue: u16) -> Card
-    requires { ⌜ queue < 4 ⌝ }
-    ensures { λ r. ⌜ r ≡ basedCard queue card ⌝ }
-{
-    let mut next = card;
-    let at = queue as usize;
-    next.queues[at] = Counters {
-        taken: 0,
-        completed: 0,
-    };
-    if queue == 2 {
-        next.play = no_message();
-        return next;
-    }
-    if queue == 3 {
-        next.capture = no_message();
-        return next;
-    }
-    next
-}
-
-// A write of `value`, `width` bytes wide, to the registers at `offset`.
-pub fn write_register(card: Card, offset: u64, width: u64, value: u64) -> WriteAnswer
-    requires { ⌜ Fit card ⌝ }
-    ensures { λ r. ⌜ (r ≡ writeCard card offset width value) × Fit (r .card) ⌝ }
-{
-    let registers = card.registers;
-    let written = registers.write(offset, width, value);
-    let answer = written.answer;
-    let effect = written.effect;
-    let mut next = card;
-    let after = written.registers;
-    next.registers = after;
-    match effect {
-        Effect::Nothing => WriteAnswer {
-            answer: answer,
-            rung: NO_QUEUE,
-            card: next,
-        },
-        Effect::Reset => WriteAnswer {
-            answer: answer,
-            rung: NO_QUEUE,
-            card: reset(next),
-        },
-        Effect::Based(queue) => WriteAnswer {
-            answer: answer,
-            rung: NO_QUEUE,
-            card: based(next, queue),
-        },
-        Effect::Rung(queue) => WriteAnswer {
-            answer: answer,
-            rung: queue as u8,
-            card: next,
-        },
     }
 }
 

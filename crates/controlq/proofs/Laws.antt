@@ -4,59 +4,67 @@ use mathlib.Core.Bool.{Bool, true, false, cond, _&&_}
 use mathlib.Core.List.{List, []}
 use Prim.Native.Nat.{ℕ, zero, suc, _≤_, _<_}
 use native.Mathlib.Omega.{arith}
-use borrow.Author.Tests.{eq-eqb, ne-eqb}
-use lib.Dec.{eqb, leb}
-use lib.ListN.{length, getD, take, length-take}
-use lib.Seq.{getD-set-same, getD-set-other, length-take-le, set-out, take-set-lt}
+use borrow.Author.Tests.{ltb-true, ltb-false}
+use lib.Dec.{eqb, leb, ltb}
+use lib.ListN.{length, getD, take, length-take, length-set}
+use lib.Seq.{getD-set-same, getD-set-other, set-out, take-set-lt}
 use Rattle.counts.specs.declared.DescriptorNumber.{DescriptorNumber}
 use Rattle.counts.specs.declared.PageNumber.{PageNumber}
-use Rattle.ranges.specs.Ranges.{rangesOf, places, bytesAt, total, allInside}
+use Rattle.ranges.specs.Ranges.{noRanges, rangesOf, places, bytesAt, total, allInside}
 use Rattle.ranges.specs.declared.Range.{Range}
 use Rattle.ranges.specs.declared.Ranges.{Ranges}
+use Rattle.ranges.proofs.Laws.{putAt-nil}
 use Rattle.registers.specs.Answers.{done, lengthDiffers, notLive, plain}
 use Rattle.registers.specs.Fit.{FitRegisters}
 use Rattle.registers.specs.Map.{sizeOf}
-use Rattle.registers.specs.Rules.{live, hasBit}
+use Rattle.registers.specs.Rules as registers
+use Rattle.registers.specs.Rules.{broken, hasBit}
+use Rattle.registers.specs.declared.Config.{Config}
 use Rattle.registers.specs.declared.Registers.{Registers}
+use Rattle.registers.proofs.Keeps.{broken-fit}
 use Rattle.ring.specs.Rules as ring
-use Rattle.ring.specs.Rules.{Completion, completion, checkOf, postOf, completedOf}
+use Rattle.ring.specs.Rules.{Completion, completion, checkOf, postOf}
 use Rattle.ring.specs.declared.Cause.{Cause}
 use Rattle.ring.specs.declared.Check.{Check}
 use Rattle.ring.specs.declared.Head.{Head}
 use Rattle.ring.specs.declared.Posted.{Posted}
 use Rattle.ring.specs.declared.Stop.{Stop}
 use Rattle.card.specs.Card as card
-use Rattle.card.specs.Card.{noCounters, noStream, releasedState}
-use Rattle.card.proofs.Keeps.{fit-with-registers, fit-with-counters}
-use Rattle.card.specs.Fit.{Fit}
+use Rattle.card.specs.Card.{noStream, releasedState}
+use Rattle.card.proofs.Keeps.{fit-with-registers}
+use Rattle.card.proofs.Setters.{fit-with-parts, fit-with-stream}
+use Rattle.card.specs.Setters.{withParts, withStreamAt}
 use Rattle.card.specs.declared.Card.{Card}
-use Rattle.card.specs.declared.Counters.{Counters}
+use Rattle.card.specs.declared.Parts.{Parts}
 use Rattle.card.specs.declared.Stream.{Stream}
+use Rattle.live.proofs.Laws.{fits-card, card-fits, parts-kept}
+use Rattle.live.specs.Live as live
+use Rattle.live.specs.Live.{partsNow, cardIn, configIn, keptLive, Fits}
+use Rattle.live.specs.declared.Live.{Live}
+use Rattle.meaning.proofs.Streams.{stream-at}
 use Rattle.meaning.specs.Card.{countersAt, partsOf, restOf, deviceOf, stepOf, leaves}
+use Rattle.rules.specs.Answers.{brokenAnswer}
 use Rattle.rules.specs.Calls as calls
-use Rattle.rules.specs.Calls.{Result, Order, Pending, Step, ended, releaseQueue, releasedOf, acted, Done, ReleaseFirst, Control, releaseStep}
-use Rattle.rules.specs.Calls.{refused, broke, replied, withRest, ordered, orderOf, controlFound, indirect}
+use Rattle.rules.specs.Calls.{Result, Order, Pending, Step, ended, releaseQueue, releasedOf, acted, Done, ReleaseFirst, Control}
+use Rattle.rules.specs.Calls.{releaseStep, refused, broke, replied, withRest, ordered, orderOf, controlFound, indirect}
 use Rattle.rules.specs.Control as rules
 use Rattle.rules.specs.Control.{status, withState}
 use Rattle.rules.specs.Counters.{countersOf}
 use Rattle.rules.specs.Device.{Device, Queue, Rest, Direction, output, input, queueNumber, directionOf, queueFor, withQueue, withRegisters}
-use Rattle.rules.specs.Device.{withControl, pageOf, streamAt, signalledIf, oneTaken}
+use Rattle.rules.specs.Device.{withControl, pageOf, signalledIf, oneTaken}
 use Rattle.rules.specs.Numbers.{controlQueue, sOk, sBadMsg}
-use Rattle.card.specs.Setters.{withParts, withStreamAt}
-use Rattle.card.proofs.Setters.{fit-with-parts, fit-with-stream}
 use Rattle.reply.specs.Reply.{Outcome, Serves, completionOf, closedOf, postedBy}
 use Rattle.reply.specs.declared.Kind.{Kind}
 use Rattle.reply.specs.declared.Kind.the-variants as kinds
 use Rattle.reply.specs.declared.Served.{Served}
-use Rattle.reply.proofs.Laws.{putAt-front, stream-at}
-use Rattle.stream.specs.Queue as stream
-use Rattle.stream.specs.Queue.{Empties}
 use Rattle.stream.specs.declared.Emptied.{Emptied}
 use Rattle.stream.proofs.Fits.{signal-fit}
+use Rattle.stream.proofs.Held.{held-device, held-fits}
 use Rattle.stream.proofs.Released.{released-ordered}
+use Rattle.controlq.specs.declared.Ending.the-variants.{Broke, Completed}
 use Rattle.controlq.specs.declared.Side.the-variants.{Usable, Unusable}
-use Rattle.controlq.specs.Control.{sideOf, servedChain, pendingOf, pendingIn, endsOn, says, holding, takenCard, countedOf}
-use Rattle.controlq.specs.Control.{untouchedBy, brokenDown, markedOf, walkedAt, headOf}
+use Rattle.controlq.specs.Control.{sideOf, servedChain, pendingOf, pendingIn, endsOn, walkedAt, headOf}
+use Rattle.controlq.specs.Control.{takenLive, finishOf, Ends, EmptiesFor, markedOf, markedLive, releasedLive}
 
 -- ---- the card
 
@@ -84,104 +92,182 @@ resultOn c k =
       mem = k .memory;
     }
 
-replied-by : (c : Card) (head : DescriptorNumber) (ws : List ℕ) (reply : Ranges) (bytes m : List ℕ)
-    → replied (pendingOf c head (rangesOf ws reply)) bytes m ≡ resultOn c (completionOf ws (pendingIn c head reply) bytes m)
-unfolding replied closedOf postOf resultOn restOf
-replied-by c head ws reply bytes m = refl
+-- a message without a reply
+pub mute : (l : Live) (head : DescriptorNumber) (ws : List ℕ) (reply : Ranges) (m : List ℕ)
+    → closedOf (pendingIn l head noRanges) 0 m ≡ completionOf ws (pendingIn l head reply) [] m
+unfolding closedOf
+mute l head ws reply m = rw (putAt-nil m (places (rangesOf ws reply)))
 
--- the first n bytes as a reply
-pub completed-front : (c : Card) (head : DescriptorNumber) (ws : List ℕ) (reply : Ranges) (bytes : List ℕ) (n : ℕ) (m : List ℕ)
-    → n ≤ length bytes
-    → completedOf m (pageIn c) (sizeOf controlQueue) (countersAt c controlQueue .completed) head n (rangesOf ws reply) 0 bytes n
-    ≡ completionOf ws (pendingIn c head reply) (take n bytes) m
-unfolding completedOf closedOf
-completed-front c head ws reply bytes n m h = rw (length-take-le n bytes h, putAt-front n m (places (rangesOf ws reply)) bytes)
+-- ---- the card in pieces
 
-module _ (c : Card) (f : Fit c) where
-  pub held-device : (g : Registers) (q : Counters)
-      → deviceOf (holding g q c) ≡ record { rest = withRegisters g (withControl q (restOf c)); play = deviceOf c .play; capture = deviceOf c .capture }
-  unfolding restOf deviceOf
-  held-device g q =
-      rw (
-        getD-set-same (c .queues) 0 q noCounters (omega (arith, f .four)),
-        getD-set-other (c .queues) 0 1 q noCounters (λ e. omega arith),
-        getD-set-other (c .queues) 0 2 q noCounters (λ e. omega arith),
-        getD-set-other (c .queues) 0 3 q noCounters (λ e. omega arith),
+-- a message completed on it, or a queue broken
+module _ (l : Live) (p : Parts) (pw cw : List ℕ) (f : Fits l p pw cw) where
+  abbrev own : Card
+  own = cardIn l p pw cw
+
+  replied-by : (head : DescriptorNumber) (ws : List ℕ) (reply : Ranges) (bytes m : List ℕ)
+      → replied (pendingOf own head (rangesOf ws reply)) bytes m ≡ resultOn own (completionOf ws (pendingIn l head reply) bytes m)
+  unfolding replied closedOf postOf resultOn restOf
+  replied-by head ws reply bytes m = refl
+
+  pub counted-ends : (head : DescriptorNumber) (ws : List ℕ) (reply : Ranges) (bytes m after : List ℕ) (t : Posted)
+      → completion after t ≡ completionOf ws (pendingIn l head reply) bytes m
+      → Ends (endsOn own (replied (pendingOf own head (rangesOf ws reply)) bytes m)) (finishOf (Completed t) l p) pw cw after
+  unfolding resultOn
+  counted-ends head ws reply bytes m after t e =
+      let g : Registers = signalledIf (t .interrupt) (l .registers) in (
+        ap (endsOn own) (replied-by head ws reply bytes m ∙ ap (resultOn own) (sym e))
+            ∙ rw (held-device own (fits-card l p pw cw f) g _ controlQueue (omega arith)),
+        held-fits l p pw cw f g _ (signal-fit (t .interrupt) (l .registers) (f .live .registers)) controlQueue (omega arith),
       )
 
-  pub held-fit : (g : Registers) (q : Counters) → FitRegisters g → Fit (holding g q c)
-  held-fit g q h = fit-with-counters (card.withRegisters c g) (fit-with-registers c f g h) controlQueue q (omega arith)
+  registers-fits : (g : Registers) → FitRegisters g → Fits (live.withRegisters g l) p pw cw
+  registers-fits g k =
+      card-fits (live.withRegisters g l) p pw cw (fit-with-registers own (fits-card l p pw cw f) g k)
+      (f .live .states) (f .live .backlogs) (f .counts)
 
-  -- a completion, counted
-  pub counted-says : (head : DescriptorNumber) (ws : List ℕ) (reply : Ranges) (bytes m after : List ℕ) (p : Posted)
-      → completion after p ≡ completionOf ws (pendingIn c head reply) bytes m
-      → endsOn c (replied (pendingOf c head (rangesOf ws reply)) bytes m) ≡ says (countedOf c p) after
-  unfolding resultOn
-  counted-says head ws reply bytes m after p e =
-      ap (endsOn c) (replied-by c head ws reply bytes m ∙ ap (resultOn c) (sym e))
-      ∙ rw (held-device (signalledIf (p .interrupt) (c .registers)) (record { taken = countersAt c controlQueue .taken; completed = p .completed }))
+  pub broken-fits : Fits (live.withRegisters (broken (l .registers)) l) p pw cw
+  broken-fits = registers-fits (broken (l .registers)) (broken-fit (l .registers) (f .live .registers))
 
-  pub counted-fit : (p : Posted) → Fit (countedOf c p .card)
-  counted-fit p = held-fit _ _ (signal-fit (p .interrupt) (c .registers) (f .registers))
-
-  -- a breakdown
-  pub broken-says : (cause : Cause) (m : List ℕ)
-      → ordered countersOf (Done (broke controlQueue cause (restOf c) m)) (deviceOf c) m ≡ says (brokenDown controlQueue cause c) m
+  broken-ends : (cause : Cause) (m : List ℕ)
+      → Ends (ordered countersOf (Done (broke controlQueue cause (restOf own) m)) (deviceOf own) m)
+      (finishOf (Broke controlQueue cause) l p) pw cw m
   unfolding restOf deviceOf
-  broken-says cause m = refl
+  broken-ends cause m = (refl, broken-fits)
+
+  signalled-fits : (wanted : Bool) → Fits (live.withRegisters (signalledIf wanted (l .registers)) l) p pw cw
+  signalled-fits wanted = registers-fits _ (signal-fit wanted (l .registers) (f .live .registers))
 
 -- ---- a stream Released
 
-module _ (c : Card) (id : ℕ) (f : Fit c) where
-  pub marked-absent : c .parts .«stream_count» ≤ id → deviceOf c ≡ markedOf id (deviceOf c)
+module _ (l : Live) (p : Parts) (pw cw : List ℕ) (f : Fits l p pw cw) where
+  abbrev streams-counted : l .config .streams ≡ p .«stream_count»
+  streams-counted = ap (λ (c : Config). c .streams) (f .counts)
+
+  pub few-streams : l .config .streams ≤ 2
+  few-streams = omega (arith, streams-counted, f .parts .streams)
+
+module _ (l : Live) (p : Parts) (pw cw : List ℕ) (f : Fits l p pw cw) (id : ℕ) where
+  abbrev unmarked : Card
+  unmarked = cardIn l p pw cw
+
+  abbrev counted : l .config .streams ≡ p .«stream_count»
+  counted = streams-counted l p pw cw f
+
+  marked-absent : l .config .streams ≤ id → deviceOf unmarked ≡ markedOf id (deviceOf unmarked)
   unfolding restOf deviceOf
-  marked-absent h = rw (set-out (take (c .parts .«stream_count») (c .parts .streams)) id _ (rw length-take (omega (arith, f .parts .streams, f .parts .two-streams))))
+  marked-absent h =
+      rw (set-out (take (p .«stream_count») (partsNow l p .streams)) id _ (rw length-take (omega (arith, counted, f .parts .streams))))
 
-  module _ (h : id < c .parts .«stream_count») where
-    -- the stream with its new state
-    abbrev pub changed : Stream
-    changed = withState releasedState (getD (c .parts .streams) id noStream)
+  -- the stream with its new state
+  abbrev changed : Stream
+  changed = withState releasedState (getD (partsNow l p .streams) id noStream)
 
-    pub marked-there : deviceOf (withParts (withStreamAt id changed (c .parts)) c) ≡ markedOf id (deviceOf c)
-    unfolding deviceOf restOf
-    marked-there = rw (take-set-lt (c .parts .«stream_count») (c .parts .streams) id changed h, stream-at (c .parts) id h)
+  marked-card : (i : ℕ) → i < 2
+      → partsNow (releasedLive i l) p ≡ withStreamAt i (withState releasedState (getD (partsNow l p .streams) i noStream)) (partsNow l p)
+  marked-card zero h =
+      rw (
+        getD-set-same (l .states) 0 releasedState 0 (omega (arith, f .live .states)),
+        getD-set-other (l .states) 0 1 releasedState 0 (λ e. omega arith),
+      )
+  marked-card (suc zero) h =
+      rw (
+        getD-set-same (l .states) 1 releasedState 0 (omega (arith, f .live .states)),
+        getD-set-other (l .states) 1 0 releasedState 0 (λ e. omega arith),
+      )
+  marked-card (suc (suc i)) h = absurd (omega arith)
 
-    pub marked-fit : Fit (withParts (withStreamAt id changed (c .parts)) c)
-    marked-fit = fit-with-parts c (withStreamAt id changed (c .parts)) f (fit-with-stream id changed (omega arith) (c .parts) (f .parts))
+  marked-there : id < l .config .streams
+      → (deviceOf (cardIn (releasedLive id l) p pw cw) ≡ markedOf id (deviceOf unmarked)) × Fits (releasedLive id l) p pw cw
+  unfolding deviceOf restOf
+  marked-there h =
+      let e = marked-card id (omega (arith, few-streams l p pw cw f)) in
+      let there : id < p .«stream_count» = omega (arith, counted) in (
+        ap (λ (q : Parts). deviceOf (withParts q unmarked)) e
+            ∙ rw (take-set-lt (p .«stream_count») (partsNow l p .streams) id changed there, stream-at (partsNow l p) id there),
+        record {
+          live =
+              record {
+                registers = f .live .registers;
+                four = f .live .four;
+                states = length-set (l .states) id releasedState ∙ f .live .states;
+                backlogs = f .live .backlogs;
+              };
+          play = f .play;
+          capture = f .capture;
+          parts = rw e (fit-with-stream id changed (omega arith) (partsNow l p) (f .parts));
+          counts = f .counts;
+        },
+      )
+
+  pub marked-in : (deviceOf (cardIn (markedLive id l) p pw cw) ≡ markedOf id (deviceOf unmarked)) × Fits (markedLive id l) p pw cw
+  marked-in = by (ltb id (l .config .streams)) refl where
+    by : (b : Bool) → ltb id (l .config .streams) ≡ b
+        → (deviceOf (cardIn (markedLive id l) p pw cw) ≡ markedOf id (deviceOf unmarked)) × Fits (markedLive id l) p pw cw
+    by true e = rw e (marked-there (ltb-true id (l .config .streams) e))
+    by false e = rw e (marked-absent (omega (arith, ltb-false id (l .config .streams) e)), f)
 
 -- what a Release leaves to do, by what its queue's emptying left
 module _ (c : Card) (head : DescriptorNumber) (reply : List Range) (id : ℕ) (signal : Bool) (m : List ℕ) where
   -- the card with the signal
-  abbrev pub signalledCard : Card
-  signalledCard = stream.withRegisters (signalledIf signal (c .registers)) c
+  abbrev signalledCard : Card
+  signalledCard = card.withRegisters c (signalledIf signal (c .registers))
 
-  pub end-broken : (cause : Cause)
+  end-broken : (cause : Cause)
       → endsOn c (releasedOf id (pendingOf c head reply) m (Stop.Broke cause) signal)
-      ≡ says (brokenDown (queueNumber (directionOf id)) cause signalledCard) m
+      ≡ leaves (card.withRegisters signalledCard (broken (signalledCard .registers)))
+      (brokenAnswer (queueNumber (directionOf id)) cause) 0 [] [] m
   unfolding releasedOf restOf deviceOf
   end-broken cause = refl
 
-  pub end-replied : (n : Card) → deviceOf n ≡ markedOf id (deviceOf signalledCard)
+  end-replied : (n : Card) → deviceOf n ≡ markedOf id (deviceOf signalledCard)
       → endsOn c (releasedOf id (pendingOf c head reply) m Stop.Going signal) ≡ endsOn n (replied (pendingOf n head reply) (status sOk) m)
   unfolding releasedOf restOf deviceOf
-  end-replied n e = ap (λ (b : Device Queue). ended (replied (record { rest = b .rest; head = head .0; reply = reply }) (status sOk) m) b) (sym e)
+  end-replied n e =
+      ap (λ (b : Device Queue). ended (replied (record { rest = b .rest; head = head .0; reply = reply }) (status sOk) m) b) (sym e)
 
--- the rules' Release of the output, and of any other stream
-module _ (c : Card) (head : DescriptorNumber) (reply : List Range) (id : ℕ) (m m′ : List ℕ) (r : Emptied) where
-  -- the backlog that the stream remembers
-  abbrev carried : ℕ
-  carried = streamAt (restOf c) id .backlog
+-- the rules' Release of a stream
+module _ (l : Live) (p : Parts) (pw cw : List ℕ) (f : Fits l p pw cw) (id : ℕ) (m pw′ cw′ m′ : List ℕ) (r : Emptied)
+    (e : EmptiesFor id l pw cw m pw′ cw′ m′ r) (head : DescriptorNumber) (ws : List ℕ) (reply : Ranges) where
+  abbrev entered : Card
+  entered = cardIn l p pw cw
 
-  abbrev pub toEnd : Step (Device Queue)
-  toEnd = endsOn (r .card) (releasedOf id (pendingOf (r .card) head reply) m′ (r .stop) (r .signal))
+  abbrev emptiedCard : Card
+  emptiedCard = cardIn (r .live) p pw′ cw′
 
-  pub release-output : (latency : ℕ) → latency ≡ carried → id ≡ 0 → Empties output latency c m m′ r
-      → ordered countersOf (ReleaseFirst id (pendingOf c head reply)) (deviceOf c) m ≡ toEnd
-  release-output latency l n e = released-ordered c m m′ r id (pendingOf c head reply) refl output (rw (eq-eqb id 0 n)) (rw l at e)
+  abbrev pub released : Step (Device Queue)
+  released = ordered countersOf (ReleaseFirst id (pendingOf entered head (rangesOf ws reply))) (deviceOf entered) m
 
-  pub release-input : (latency : ℕ) → latency ≡ carried → (id ≡ 0 → ⊥) → Empties input latency c m m′ r
-      → ordered countersOf (ReleaseFirst id (pendingOf c head reply)) (deviceOf c) m ≡ toEnd
-  release-input latency l n e = released-ordered c m m′ r id (pendingOf c head reply) refl input (rw (ne-eqb id 0 n)) (rw l at e)
+  to-end : released ≡ endsOn emptiedCard (releasedOf id (pendingOf emptiedCard head (rangesOf ws reply)) m′ (r .stop) (r .signal))
+  to-end =
+      released-ordered entered emptiedCard m m′ (r .stop) (r .signal) id (pendingOf entered head (rangesOf ws reply)) refl
+      (directionOf id) refl (e p f .0)
+
+  by-stop : (stop : Stop) → r .stop ≡ stop
+      → released ≡ endsOn emptiedCard (releasedOf id (pendingOf emptiedCard head (rangesOf ws reply)) m′ stop (r .signal))
+  by-stop stop h = rw (← h) to-end
+
+  -- the small state with its signal
+  abbrev pub signalledLive : Live
+  signalledLive = live.withRegisters (signalledIf (r .signal) (r .live .registers)) (r .live)
+
+  pub emptied-fits : Fits signalledLive p pw′ cw′
+  emptied-fits = signalled-fits (r .live) p pw′ cw′ (e p f .1) (r .signal)
+
+  pub release-broken : (cause : Cause) → r .stop ≡ Stop.Broke cause
+      → Ends released (finishOf (Broke (queueNumber (directionOf id)) cause) signalledLive p) pw′ cw′ m′
+  release-broken cause h = (
+    by-stop (Stop.Broke cause) h ∙ end-broken emptiedCard head (rangesOf ws reply) id (r .signal) m′ cause,
+    broken-fits signalledLive p pw′ cw′ emptied-fits,
+  )
+
+  pub release-going : (after : List ℕ) (t : Posted) → r .stop ≡ Stop.Going
+      → completion after t ≡ completionOf ws (pendingIn (markedLive id signalledLive) head reply) (status sOk) m′
+      → Ends released (finishOf (Completed t) (markedLive id signalledLive) p) pw′ cw′ after
+  release-going after t h k =
+      let n = marked-in signalledLive p pw′ cw′ emptied-fits id in
+      let o = counted-ends (markedLive id signalledLive) p pw′ cw′ (n .1) head ws reply (status sOk) m′ after t k in
+      (by-stop Stop.Going h ∙ end-replied emptiedCard head (rangesOf ws reply) id (r .signal) m′ _ (n .0) ∙ o .0, o .1)
 
 -- ---- a message that was walked whole
 
@@ -198,7 +284,8 @@ module _ (c : Card) (head : DescriptorNumber) (request reply : List Range) (m : 
   chain-mute h = rw (unusable (allInside (length m) reply && leb 4 (total reply)) h)
 
   module _ (h : sideOf (length m) reply ≡ Usable) where
-    pub chain-bad : sideOf (length m) request ≡ Unusable → servedChain c head request reply m ≡ Done (replied (pendingOf c head reply) (status sBadMsg) m)
+    pub chain-bad : sideOf (length m) request ≡ Unusable
+        → servedChain c head request reply m ≡ Done (replied (pendingOf c head reply) (status sBadMsg) m)
     chain-bad k =
         rw (
           usable (allInside (length m) reply && leb 4 (total reply)) h,
@@ -225,49 +312,68 @@ released-same : (n id : ℕ) → kinds.Release n ≡ kinds.Release id → n ≡ 
 released-same n id h = cc
 
 -- what a request comes to, ordered: by its kind
-module _ (c : Card) (f : Fit c) (head : DescriptorNumber) (ws : List ℕ) (reply : Ranges) (r : Served) (m after : List ℕ) where
+module _ (l : Live) (p : Parts) (pw cw : List ℕ) (f : Fits l p pw cw) (head : DescriptorNumber) (ws : List ℕ) (reply : Ranges) (r : Served)
+    (m after : List ℕ) where
+  abbrev asked : Card
+  asked = cardIn l p pw cw
+
+  abbrev asks : Pending
+  asks = pendingOf asked head (rangesOf ws reply)
+
   -- the card after it
-  abbrev pub servedCard : Card
-  servedCard = withParts (r .parts) c
+  abbrev servedLive : Live
+  servedLive = keptLive l (r .parts)
 
-  served-rest : (ps : rules.Parts) → partsOf (r .parts) ≡ ps → restOf servedCard ≡ rules.withParts ps (restOf c)
-  unfolding restOf
-  served-rest ps e = rw (← e)
+  abbrev servedCard : Card
+  servedCard = cardIn servedLive (r .parts) pw cw
 
-  served-ended : (ps : rules.Parts) (bytes : List ℕ) → partsOf (r .parts) ≡ ps
-      → ended (replied (withRest (rules.withParts ps (restOf c)) (pendingOf c head (rangesOf ws reply))) bytes m) (deviceOf c)
-      ≡ endsOn servedCard (replied (pendingOf servedCard head (rangesOf ws reply)) bytes m)
-  unfolding deviceOf
-  served-ended ps bytes e = rw (served-rest ps e)
+  module _ (ps : rules.Parts) (bytes : List ℕ)
+      (s : Serves ws (pendingIn l head reply) (partsNow l p) (rules.Reply ps bytes) r m after) where
+    kept-card : servedCard ≡ withParts (r .parts) asked
+    kept-card = ap (λ (q : Parts). withParts q asked) (parts-kept l (r .parts) (s .fit .two-streams))
+
+    kept-fits : Fits servedLive (r .parts) pw cw
+    kept-fits =
+        card-fits servedLive (r .parts) pw cw (rw kept-card (fit-with-parts asked (r .parts) (fits-card l p pw cw f) (s .fit))) refl refl
+        (f .counts ∙ sym (ap (λ (o : Outcome). configIn (o .served .parts)) (s .whole)))
+
+    served-rest : restOf servedCard ≡ rules.withParts ps (restOf asked)
+    unfolding restOf
+    served-rest = ap restOf kept-card ∙ rw (← (s .stand))
+
+    served-device : ended (replied (withRest (rules.withParts ps (restOf asked)) asks) bytes m) (deviceOf asked)
+        ≡ endsOn servedCard (replied (pendingOf servedCard head (rangesOf ws reply)) bytes m)
+    unfolding deviceOf
+    served-device = rw served-rest
 
   posted-in : Kind → Posted → Posted
-  posted-in (kinds.Completed p) d = p
+  posted-in (kinds.Completed t) d = t
   posted-in (kinds.Release id) d = d
 
   -- the message is completed
-  pub served-completed : (rule : rules.Served) (p : Posted)
-      → Serves ws (pendingIn c head reply) (c .parts) rule r m after → r .kind ≡ kinds.Completed p
-      → ordered countersOf (acted rule (pendingOf c head (rangesOf ws reply)) m) (deviceOf c) m ≡ says (countedOf servedCard p) after
+  pub served-completed : (rule : rules.Served) (t : Posted) → Serves ws (pendingIn l head reply) (partsNow l p) rule r m after
+      → r .kind ≡ kinds.Completed t
+      → Ends (ordered countersOf (acted rule asks m) (deviceOf asked) m) (finishOf (Completed t) servedLive (r .parts)) pw cw after
   unfolding posted-in
-  served-completed (rules.Reply ps bytes) p s k =
+  served-completed (rules.Reply ps bytes) t s k =
       let w = s .whole in
-      let told : kinds.Completed p ≡ kinds.Completed (postedBy (completionOf ws (pendingIn c head reply) bytes m)) =
+      let told : kinds.Completed t ≡ kinds.Completed (postedBy (completionOf ws (pendingIn l head reply) bytes m)) =
       sym k ∙ ap (λ (o : Outcome). o .served .kind) w in
-      let same : p ≡ postedBy (completionOf ws (pendingIn c head reply) bytes m) = ap (λ (x : Kind). posted-in x p) told in
-      let e : completion after p ≡ completionOf ws (pendingIn c head reply) bytes m = rw (same, ap (λ (o : Outcome). o .memory) w) in
-      served-ended ps bytes (s .stand)
-      ∙ counted-says servedCard (fit-with-parts c (r .parts) f (s .fit)) head ws reply bytes m after p e
-  served-completed (rules.Release id) p s k =
-      let told : kinds.Completed p ≡ kinds.Release id = sym k ∙ ap (λ (o : Outcome). o .served .kind) (s .whole) in
+      let same : t ≡ postedBy (completionOf ws (pendingIn l head reply) bytes m) = ap (λ (x : Kind). posted-in x t) told in
+      let e : completion after t ≡ completionOf ws (pendingIn l head reply) bytes m = rw (same, ap (λ (o : Outcome). o .memory) w) in
+      let o = counted-ends servedLive (r .parts) pw cw (kept-fits ps bytes s) head ws reply bytes m after t e in
+      (served-device ps bytes s ∙ o .0, o .1)
+  served-completed (rules.Release id) t s k =
+      let told : kinds.Completed t ≡ kinds.Release id = sym k ∙ ap (λ (o : Outcome). o .served .kind) (s .whole) in
       let z : _≡_ {A = ℕ} 0 1 = cc in
       absurd (omega arith)
 
   -- a stream is released first: memory is as it was
-  pub served-release : (rule : rules.Served) (id : ℕ)
-      → Serves ws (pendingIn c head reply) (c .parts) rule r m after → r .kind ≡ kinds.Release id
-      → (acted rule (pendingOf c head (rangesOf ws reply)) m ≡ ReleaseFirst id (pendingOf c head (rangesOf ws reply))) × (after ≡ m)
+  pub served-release : (rule : rules.Served) (id : ℕ) → Serves ws (pendingIn l head reply) (partsNow l p) rule r m after
+      → r .kind ≡ kinds.Release id
+      → (acted rule asks m ≡ ReleaseFirst id asks) × (after ≡ m)
   served-release (rules.Reply ps bytes) id s k =
-      let told : kinds.Release id ≡ kinds.Completed (postedBy (completionOf ws (pendingIn c head reply) bytes m)) =
+      let told : kinds.Release id ≡ kinds.Completed (postedBy (completionOf ws (pendingIn l head reply) bytes m)) =
       sym k ∙ ap (λ (o : Outcome). o .served .kind) (s .whole) in
       let z : _≡_ {A = ℕ} 0 1 = cc in
       absurd (omega arith)
@@ -297,31 +403,49 @@ module _ (b b′ : Device Queue) (e : SameQueues b b′) where
       let d = directionOf id in
       rw (queue-same d) (release-same id p (calls.emptied (countersOf d) (releaseQueue id (p .rest)) (queueFor d b′) m))
 
-module _ (c : Card) (f : Fit c) (m : List ℕ) where
-  taken-rest : restOf (takenCard c) ≡ withControl (oneTaken (restOf c .control)) (restOf c)
-  unfolding restOf deviceOf
-  taken-rest = ap (λ (d : Device Queue). d .rest) (held-device c f (c .registers) (oneTaken (countersAt c controlQueue)))
+module _ (l : Live) (p : Parts) (pw cw : List ℕ) (f : Fits l p pw cw) (m : List ℕ) where
+  abbrev here : Card
+  here = cardIn l p pw cw
 
-  taken-queues : SameQueues (deviceOf c) (deviceOf (takenCard c))
+  abbrev takenCard : Card
+  takenCard = cardIn (takenLive l) p pw cw
+
+  taken-device : deviceOf takenCard
+      ≡ record {
+        rest = withControl (oneTaken (restOf here .control)) (restOf here);
+        play = deviceOf here .play;
+        capture = deviceOf here .capture;
+      }
+  unfolding restOf
+  taken-device =
+      held-device here (fits-card l p pw cw f) (l .registers) (oneTaken (countersAt here controlQueue)) controlQueue (omega arith)
+
+  taken-rest : restOf takenCard ≡ withControl (oneTaken (restOf here .control)) (restOf here)
+  unfolding deviceOf
+  taken-rest = ap (λ (d : Device Queue). d .rest) taken-device
+
+  taken-queues : SameQueues (deviceOf here) (deviceOf takenCard)
   taken-queues =
-      let e = sym (held-device c f (c .registers) (oneTaken (countersAt c controlQueue))) in
+      let e = sym taken-device in
       record { play = ap (λ (d : Device Queue). d .play) e; capture = ap (λ (d : Device Queue). d .capture) e }
+
+  pub taken-fits : Fits (takenLive l) p pw cw
+  taken-fits = held-fits l p pw cw f (l .registers) _ (f .live .registers) controlQueue (omega arith)
 
   -- the head that the ring has next
   abbrev pub nextHead : Head
-  nextHead = ring.headOf m (pageIn c) (sizeOf controlQueue) (countersAt c controlQueue .taken)
+  nextHead = ring.headOf m (pageIn here) (sizeOf controlQueue) (countersAt here controlQueue .taken)
 
   pub next-broken : (cause : Cause) → nextHead ≡ Head.Broken cause
-      → ordered countersOf (headOf c m) (deviceOf c) m ≡ says (brokenDown controlQueue cause c) m
-  next-broken cause h = rw (page-in c, h) (broken-says c f cause m)
+      → Ends (ordered countersOf (headOf here m) (deviceOf here) m) (finishOf (Broke controlQueue cause) l p) pw cw m
+  next-broken cause h = rw (page-in here, h) (broken-ends l p pw cw f cause m)
 
   pub next-at : (n : DescriptorNumber) → nextHead ≡ Head.At n
-      → ordered countersOf (headOf c m) (deviceOf c) m
-      ≡ ordered countersOf (walkedAt (takenCard c) n m) (deviceOf (takenCard c)) m
+      → ordered countersOf (headOf here m) (deviceOf here) m ≡ ordered countersOf (walkedAt takenCard n m) (deviceOf takenCard) m
   next-at n h =
-      let e : headOf c m ≡ walkedAt (takenCard c) n m = rw (taken-rest, page-in c, h, page-in c) in
-      ordered-same (deviceOf c) (deviceOf (takenCard c)) taken-queues (headOf c m) m
-      ∙ ap (λ (o : Order). ordered countersOf o (deviceOf (takenCard c)) m) e
+      let e : headOf here m ≡ walkedAt takenCard n m = rw (taken-rest, page-in here, h, page-in here) in
+      ordered-same (deviceOf here) (deviceOf takenCard) taken-queues (headOf here m) m
+      ∙ ap (λ (o : Order). ordered countersOf o (deviceOf takenCard) m) e
 
 -- ---- the call
 
@@ -333,9 +457,11 @@ module _ (c : Card) (m : List ℕ) where
   -- "Control: 1, 5, 9."
   abbrev pub byTests : Bool → Bool → Order
   byTests long is-live =
-      cond long (cond is-live (controlFound (restOf c) m checkIn) (Done (refused notLive (restOf c) m))) (Done (refused lengthDiffers (restOf c) m))
+      cond long (cond is-live (controlFound (restOf c) m checkIn) (Done (refused notLive (restOf c) m)))
+      (Done (refused lengthDiffers (restOf c) m))
 
-  control-by : stepOf c Control m ≡ ordered countersOf (byTests (eqb (length m) (c .«ram_len»)) (live (c .registers))) (deviceOf c) m
+  control-by : stepOf c Control m
+      ≡ ordered countersOf (byTests (eqb (length m) (c .«ram_len»)) (registers.live (c .registers))) (deviceOf c) m
   unfolding orderOf restOf deviceOf
   control-by = refl
 
@@ -344,20 +470,21 @@ module _ (c : Card) (m : List ℕ) where
   control-long h = rw (control-by, h)
 
   module _ (long : eqb (length m) (c .«ram_len») ≡ true) where
-    pub control-dead : live (c .registers) ≡ false → stepOf c Control m ≡ leaves c (plain notLive) 0 [] [] m
+    pub control-dead : registers.live (c .registers) ≡ false → stepOf c Control m ≡ leaves c (plain notLive) 0 [] [] m
     unfolding deviceOf
     control-dead h = rw (control-by, long, h)
 
-    module _ (lives : live (c .registers) ≡ true) where
-      pub control-idle : checkIn ≡ Check.Idle → stepOf c Control m ≡ says (untouchedBy done c) m
+    module _ (lives : registers.live (c .registers) ≡ true) where
+      pub control-idle : checkIn ≡ Check.Idle → stepOf c Control m ≡ leaves c (plain done) 0 [] [] m
       unfolding deviceOf
       control-idle h = rw (control-by, long, lives, h)
 
-      pub control-none : (n : ℕ) → checkIn ≡ Check.New n → n ≡ 0 → stepOf c Control m ≡ says (untouchedBy done c) m
+      pub control-none : (n : ℕ) → checkIn ≡ Check.New n → n ≡ 0 → stepOf c Control m ≡ leaves c (plain done) 0 [] [] m
       unfolding deviceOf
       control-none n h z = rw (control-by, long, lives, h, z)
 
-      pub control-broken : (cause : Cause) → checkIn ≡ Check.Broken cause → stepOf c Control m ≡ says (brokenDown controlQueue cause c) m
+      pub control-broken : (cause : Cause) → checkIn ≡ Check.Broken cause
+          → stepOf c Control m ≡ leaves (card.withRegisters c (broken (c .registers))) (brokenAnswer controlQueue cause) 0 [] [] m
       unfolding restOf deviceOf
       control-broken cause h = rw (control-by, long, lives, h)
 

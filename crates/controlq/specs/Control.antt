@@ -1,8 +1,9 @@
--- The control call in terms of the card's struct.
+-- The control call in terms of the pieces of the card.
+use mathlib.Core.Path.{_≡_}
 use mathlib.Core.Bool.{cond, _&&_}
 use mathlib.Core.List.{List, []}
 use Prim.Native.Nat.{ℕ}
-use lib.Dec.{leb}
+use lib.Dec.{leb, ltb}
 use lib.ListN.{getD, set}
 use Rattle.chain.specs.Walk.{whole, walkOf}
 use Rattle.counts.specs.declared.DescriptorNumber.{DescriptorNumber}
@@ -12,23 +13,29 @@ use Rattle.ranges.specs.declared.Ranges.{Ranges}
 use Rattle.registers.specs.Answers.{done, plain}
 use Rattle.registers.specs.Map.{sizeOf}
 use Rattle.registers.specs.Rules.{broken}
-use Rattle.registers.specs.declared.Registers.{Registers}
 use Rattle.ring.specs.Rules.{baseOf}
 use Rattle.ring.specs.Rules as ring
-use Rattle.ring.specs.declared.Cause.{Cause}
 use Rattle.ring.specs.declared.Posted.{Posted}
-use Rattle.card.specs.Card.{releasedState}
+use Rattle.card.specs.Card.{noCounters, releasedState}
 use Rattle.card.specs.declared.Card.{Card}
 use Rattle.card.specs.declared.Counters.{Counters}
+use Rattle.card.specs.declared.Parts.{Parts}
+use Rattle.live.specs.Live.{cardIn, withRegisters, Fits}
+use Rattle.live.specs.declared.Live.{Live}
 use Rattle.meaning.specs.Card.{countersAt, restOf, deviceOf, leaves}
 use Rattle.rules.specs.Answers.{brokenAnswer}
 use Rattle.rules.specs.Calls.{Result, Step, Pending, Order, ended, indirect, readMessage, controlHead}
 use Rattle.rules.specs.Control.{withState, withStream}
-use Rattle.rules.specs.Device.{Device, Queue, pageOf, streamAt, signalledIf, oneTaken}
+use Rattle.rules.specs.Device.{Device, Queue, directionOf, pageOf, streamAt, signalledIf, oneTaken}
 use Rattle.rules.specs.Numbers.{controlQueue}
 use Rattle.reply.specs.declared.Pending as reply
-use Rattle.stream.specs.Queue.{withRegisters}
+use Rattle.stream.specs.Held.{holdingLive}
+use Rattle.stream.specs.Queue.{Empties}
+use Rattle.stream.specs.declared.Emptied.{Emptied}
 use Rattle.controlq.specs.declared.ControlAnswer.{ControlAnswer}
+use Rattle.controlq.specs.declared.Ending.{Ending}
+use Rattle.controlq.specs.declared.Ending.the-variants.{Untouched, Broke, Completed}
+use Rattle.controlq.specs.declared.Handled.{Handled}
 use Rattle.controlq.specs.declared.Side.{Side}
 use Rattle.controlq.specs.declared.Side.the-variants.{Usable, Unusable}
 
@@ -38,12 +45,16 @@ use Rattle.controlq.specs.declared.Side.the-variants.{Usable, Unusable}
 abbrev pub pendingOf : Card → DescriptorNumber → List Range → Pending
 pendingOf c head reply = record { rest = restOf c; head = head .0; reply = reply }
 
+-- the counters of the control queue
+abbrev pub countersIn : Live → Counters
+countersIn l = getD (l .queues) controlQueue noCounters
+
 -- .. and what its completion needs
-abbrev pub pendingIn : Card → DescriptorNumber → Ranges → reply.Pending
-pendingIn c head ranges =
+abbrev pub pendingIn : Live → DescriptorNumber → Ranges → reply.Pending
+pendingIn l head ranges =
     record {
-      page = getD (c .registers .pages) controlQueue (record { 0 = 0 });
-      completed = countersAt c controlQueue .completed;
+      page = getD (l .registers .pages) controlQueue (record { 0 = 0 });
+      completed = countersIn l .completed;
       head = head;
       reply = ranges;
     }
@@ -73,44 +84,67 @@ headOf c m =
 abbrev pub endsOn : Card → Result → Step (Device Queue)
 endsOn c o = ended o (deviceOf c)
 
--- what an answer tells, over memory
-abbrev pub says : ControlAnswer → List ℕ → Step (Device Queue)
-says r m = leaves (r .card) (r .answer) (r .count) [] [] m
+-- one message more taken, or completed
+abbrev pub takenLive : Live → Live
+takenLive l = holdingLive controlQueue (l .registers) (oneTaken (countersIn l)) l
 
--- a card with these registers and these counters of the control queue
-abbrev pub holding : Registers → Counters → Card → Card
-holding g q c =
-    record {
-      «ram_len» = c .«ram_len»;
-      registers = g;
-      queues = set (c .queues) controlQueue q;
-      play = c .play;
-      capture = c .capture;
-      parts = c .parts;
-      «play_words» = c .«play_words»;
-      «capture_words» = c .«capture_words»;
-    }
+abbrev pub countedLive : Posted → Live → Live
+countedLive p l =
+    holdingLive controlQueue (signalledIf (p .interrupt) (l .registers))
+    (record { taken = countersIn l .taken; completed = p .completed }) l
 
-abbrev pub takenCard : Card → Card
-takenCard c = holding (c .registers) (oneTaken (countersAt c controlQueue)) c
+-- the answer of a call, with what its end changes
+abbrev pub finishOf : Ending → Live → Parts → ControlAnswer
+finishOf (Untouched number) l p = record { answer = plain number; count = 0; live = l; parts = p }
+finishOf (Broke queue cause) l p =
+    record { answer = brokenAnswer queue cause; count = 0; live = withRegisters (broken (l .registers)) l; parts = p }
+finishOf (Completed posted) l p = record { answer = plain done; count = 1; live = countedLive posted l; parts = p }
 
-abbrev pub countedOf : Card → Posted → ControlAnswer
-countedOf c p =
-    record {
-      answer = plain done;
-      count = 1;
-      card =
-          holding (signalledIf (p .interrupt) (c .registers))
-          (record { taken = countersAt c controlQueue .taken; completed = p .completed }) c;
-    }
+abbrev pub finished : Handled → ControlAnswer
+finished h = finishOf (h .ending) (h .live) (h .parts)
 
--- nothing was done, or a queue is broken
-abbrev pub untouchedBy : ℕ → Card → ControlAnswer
-untouchedBy number c = record { answer = plain number; count = 0; card = c }
+abbrev pub untouchedBy : ℕ → Live → Parts → Handled
+untouchedBy number l p = record { ending = Untouched number; live = l; parts = p }
 
-abbrev pub brokenDown : ℕ → Cause → Card → ControlAnswer
-brokenDown queue cause c = record { answer = brokenAnswer queue cause; count = 0; card = withRegisters (broken (c .registers)) c }
+-- what an answer tells, over the words of the chains and memory, is what this step leaves; and all is fit
+abbrev pub Ends : Step (Device Queue) → ControlAnswer → List ℕ → List ℕ → List ℕ → Type 0
+Ends s r pw cw m =
+    (s ≡ leaves (cardIn (r .live) (r .parts) pw cw) (r .answer) (r .count) [] [] m) × Fits (r .live) (r .parts) pw cw
+
+-- ---- a Release
+
+-- a stream's queue emptied with statuses of the backlog that the stream remembers, in every card with this small state and these words
+abbrev pub EmptiesFor : ℕ → Live → List ℕ → List ℕ → List ℕ → List ℕ → List ℕ → List ℕ → Emptied → Type 0
+EmptiesFor id l pw cw m pw′ cw′ m′ r =
+    (p : Parts)
+    → Fits l p pw cw
+    → Empties (directionOf id) (streamAt (restOf (cardIn l p pw cw)) id .backlog) (cardIn l p pw cw) m m′ (r .stop) (r .signal)
+    (cardIn (r .live) p pw′ cw′)
+    × Fits (r .live) p pw′ cw′
 
 -- "the stream Released"
 abbrev pub markedOf : ℕ → Device Queue → Device Queue
-markedOf id b = record { rest = withStream (b .rest) id (withState releasedState (streamAt (b .rest) id)); play = b .play; capture = b .capture }
+markedOf id b =
+    record {
+      rest = withStream (b .rest) id (withState releasedState (streamAt (b .rest) id));
+      play = b .play;
+      capture = b .capture;
+    }
+
+-- .. in the small state
+abbrev pub releasedLive : ℕ → Live → Live
+releasedLive id l =
+    record {
+      «ram_len» = l .«ram_len»;
+      registers = l .registers;
+      config = l .config;
+      queues = l .queues;
+      play = l .play;
+      capture = l .capture;
+      states = set (l .states) id releasedState;
+      backlogs = l .backlogs;
+      fresh = l .fresh;
+    }
+
+abbrev pub markedLive : ℕ → Live → Live
+markedLive id l = cond (ltb id (l .config .streams)) (releasedLive id l) l

@@ -1,26 +1,28 @@
 // The control call of the card (01, "Control messages"): one message is taken from the control queue,
-// read step by step, acted on and answered. A step that fails completes the chain.
+// read step by step, acted on and answered. A step that fails completes the chain. The card is lent in
+// pieces: its small state and parts by value, the words of its chains as slices.
 ghost use mathlib.Core.Path.{_≡_};
 ghost use mathlib.Core.List.{[]};
 ghost use Prim.Native.Nat.{_≤_};
-ghost use lib.ListN.{length, take};
-ghost use Rattle.card.specs.Fit.{Fit};
-ghost use Rattle.card.specs.Setters.{withParts};
+ghost use lib.ListN.{length};
+ghost use Rattle.live.specs.Live.{FitLive, FitPlay, FitCapture, Fits, cardIn, withRegisters};
 ghost use Rattle.meaning.specs.Card.{deviceOf, stepOf, leaves};
-ghost use Rattle.ranges.specs.Ranges.{Sound, rangesOf};
+ghost use Rattle.ranges.specs.Ranges.{Sound, noRanges, rangesOf};
 ghost use Rattle.registers.specs.Map.{sizeOf};
-ghost use Rattle.rules.specs.Calls.{Request, ReleaseFirst, ordered, replied, releasedOf};
-ghost use Rattle.rules.specs.Control.{status};
+ghost use Rattle.reply.specs.Reply.{closedOf};
+ghost use Rattle.ring.specs.Rules.{completion};
+ghost use Rattle.rules.specs.Calls.{Request, ReleaseFirst, ordered};
 ghost use Rattle.rules.specs.Counters.{countersOf};
 ghost use Rattle.rules.specs.Device.{queueNumber, directionOf, signalledIf};
 ghost use Rattle.rules.specs.Numbers.{controlQueue};
-ghost use Rattle.stream.specs.Queue.{withRegisters};
-ghost use Rattle.controlq.specs.Control.{pendingOf, pendingIn, endsOn, says, sideOf, takenCard, countedOf, brokenDown, untouchedBy, markedOf, servedChain, walkedAt, headOf};
-use card::Card;
+ghost use Rattle.controlq.specs.Control.{pendingOf, pendingIn, sideOf, takenLive, countedLive, markedLive, finished, Ends};
+ghost use Rattle.controlq.specs.declared.Side.the-variants.{Usable};
+ghost use Rattle.controlq.specs.Control.{EmptiesFor, untouchedBy, servedChain, walkedAt, headOf};
 use card::Counters;
 use card::Parts;
 use chain::End;
 use counts::DescriptorNumber;
+use live::Live;
 use message::Direction;
 use ranges::Ranges;
 use registers::Answer;
@@ -39,7 +41,22 @@ const CONTROL_QUEUE: usize = 0;
 pub struct ControlAnswer {
     pub answer: Answer,
     pub count: usize,
-    pub card: Card,
+    pub live: Live,
+    pub parts: Parts,
+}
+
+// How a call ends: nothing was done, with this answer; a queue is broken; a message is completed.
+enum Ending {
+    Untouched(u8),
+    Broke(u8, Cause),
+    Completed(Posted),
+}
+
+// What a call made of the card, but for what its end changes.
+struct Handled {
+    ending: Ending,
+    live: Live,
+    parts: Parts,
 }
 
 // Whether a side of a message can be used: it lies inside RAM and has the four bytes of a header.
@@ -68,113 +85,79 @@ fn judge(len: usize, list: &[u64], ranges: Ranges) -> Side
     Side::Usable
 }
 
-// Nothing was done: a check refuses the call, or there is nothing to take.
-fn untouched(card: Card, number: u8) -> ControlAnswer
-    ensures { λ r. ⌜ r ≡ untouchedBy number card ⌝ }
-{
-    ControlAnswer {
-        answer: registers::plain(number),
-        count: 0,
-        card: card,
-    }
-}
-
-// A queue is broken.
-fn broken_down(card: Card, queue: u8, cause: Cause) -> ControlAnswer
-    ensures { λ r. ⌜ r ≡ brokenDown queue cause card ⌝ }
-{
-    let registers = card.registers;
-    let mut next = card;
-    next.registers = registers.break_down();
-    ControlAnswer {
-        answer: rules::broken_answer(queue, cause),
-        count: 0,
-        card: next,
-    }
-}
-
 // One message more is taken.
-fn take_one(card: Card) -> Card
-    requires { ⌜ Fit card ⌝ }
-    ensures { λ r. ⌜ r ≡ takenCard card ⌝ }
+fn take_one(live: Live) -> Live
+    ensures { λ r. ⌜ r ≡ takenLive live ⌝ }
 {
-    let counters = card.queues[CONTROL_QUEUE];
+    let queues = live.queues;
+    let counters = queues[CONTROL_QUEUE];
     let after = Counters {
         taken: std::num::wrapping_add_u16(counters.taken, 1),
         completed: counters.completed,
     };
-    let mut next = card;
+    let mut next = live;
     next.queues[CONTROL_QUEUE] = after;
     next
 }
 
 // One message more is completed; the guest may want an interrupt.
-fn counted(card: Card, posted: Posted) -> ControlAnswer
-    requires { ⌜ Fit card ⌝ }
-    ensures { λ r. ⌜ r ≡ countedOf card posted ⌝ }
+fn counted(live: Live, posted: Posted) -> Live
+    ensures { λ r. ⌜ r ≡ countedLive posted live ⌝ }
 {
-    let registers = card.registers;
-    let counters = card.queues[CONTROL_QUEUE];
+    let registers = live.registers;
+    let queues = live.queues;
+    let counters = queues[CONTROL_QUEUE];
     let after = Counters {
         taken: counters.taken,
         completed: posted.completed,
     };
-    let mut next = card;
+    let mut next = live;
     next.registers = stream::signal_if(posted.interrupt, registers);
     next.queues[CONTROL_QUEUE] = after;
-    ControlAnswer {
-        answer: Answer {
-            number: registers::DONE,
-            queue: registers::NO_QUEUE,
+    next
+}
+
+// The answer of a call, with what its end changes of the card.
+fn finish(handled: Handled) -> ControlAnswer
+    ensures { λ r. ⌜ r ≡ finished handled ⌝ }
+{
+    let live = handled.live;
+    let parts = handled.parts;
+    let ending = handled.ending;
+    match ending {
+        Ending::Untouched(number) => ControlAnswer {
+            answer: registers::plain(number),
+            count: 0,
+            live: live,
+            parts: parts,
         },
-        count: 1,
-        card: next,
+        Ending::Broke(queue, cause) => {
+            let registers = live.registers;
+            let mut next = live;
+            next.registers = registers.break_down();
+            ControlAnswer {
+                answer: rules::broken_answer(queue, cause),
+                count: 0,
+                live: next,
+                parts: parts,
+            }
+        }
+        Ending::Completed(posted) => ControlAnswer {
+            answer: registers::plain(registers::DONE),
+            count: 1,
+            live: counted(live, posted),
+            parts: parts,
+        },
     }
 }
 
-// The first `n` of `bytes` are the reply; then the used entry.
-fn complete(
-    m: &mut [u8],
-    list: &[u64],
-    card: Card,
-    head: DescriptorNumber,
-    reply: Ranges,
-    bytes: &[u8],
-    n: usize,
-) -> ControlAnswer
-    requires { ⌜ Fit card × (n ≤ 132) × (n ≤ length (now bytes)) ⌝ }
-    ensures { λ r. ⌜ (endsOn card
-        (replied (pendingOf card head (rangesOf (now (list .entry)) reply)) (take n (now (bytes .entry))) (now (m .entry)))
-        ≡ says r (now (m .exit))) × Fit (r .card) ⌝ }
-{
-    let registers = card.registers;
-    let page = registers.pages[CONTROL_QUEUE];
-    let counters = card.queues[CONTROL_QUEUE];
-    let size = queue_size();
-    let done = counters.completed;
-    let posted = ring::complete(
-        m,
-        page,
-        size,
-        done,
-        head,
-        n as u32,
-        list,
-        reply,
-        0,
-        bytes,
-        n,
-    );
-    counted(card, posted)
-}
-
 // What the completion of a message of the control queue needs.
-fn pending_in(card: Card, head: DescriptorNumber, reply: Ranges) -> Pending
-    requires { ⌜ Fit card ⌝ }
-    ensures { λ r. ⌜ r ≡ pendingIn card head reply ⌝ }
+fn pending_in(live: Live, head: DescriptorNumber, reply: Ranges) -> Pending
+    ensures { λ r. ⌜ r ≡ pendingIn live head reply ⌝ }
 {
-    let registers = card.registers;
-    let counters = card.queues[CONTROL_QUEUE];
+    let registers = live.registers;
+    let queues = live.queues;
+    let counters = queues[CONTROL_QUEUE];
     Pending {
         page: registers.pages[CONTROL_QUEUE],
         completed: counters.completed,
@@ -183,49 +166,45 @@ fn pending_in(card: Card, head: DescriptorNumber, reply: Ranges) -> Pending
     }
 }
 
-// A reply of four bytes.
-fn reply_status(
-    m: &mut [u8],
-    list: &[u64],
-    card: Card,
-    head: DescriptorNumber,
-    reply: Ranges,
-    code: u32,
-) -> ControlAnswer
-    requires { ⌜ Fit card ⌝ }
-    ensures { λ r. ⌜ (endsOn card (replied (pendingOf card head (rangesOf (now (list .entry)) reply)) (status code) (now (m .entry)))
-        ≡ says r (now (m .exit))) × Fit (r .card) ⌝ }
+// A message without a reply: the used entry, of length 0.
+fn complete_mute(live: Live, m: &mut [u8], head: DescriptorNumber) -> Posted
+    ensures { λ r. ⌜ completion (now (m .exit)) r ≡ closedOf (pendingIn live head noRanges) 0 (now (m .entry)) ⌝ }
 {
-    let pending = pending_in(card, head, reply);
-    let posted = reply::complete(m, list, pending, code);
-    counted(card, posted)
+    let registers = live.registers;
+    let queues = live.queues;
+    let counters = queues[CONTROL_QUEUE];
+    let size = queue_size();
+    ring::post(
+        m,
+        registers.pages[CONTROL_QUEUE],
+        size,
+        counters.completed,
+        head,
+        0,
+    )
 }
 
-// The card with ISR bit 0, where a stream's queue asked for it.
-fn signal_card(card: Card, wanted: bool) -> Card
-    ensures { λ r. ⌜ r ≡ withRegisters (signalledIf wanted (card .registers)) card ⌝ }
+// ISR bit 0, where a stream's queue asked for it.
+fn signal(live: Live, wanted: bool) -> Live
+    ensures { λ r. ⌜ r ≡ withRegisters (signalledIf wanted (live .registers)) live ⌝ }
 {
-    let registers = card.registers;
-    let mut next = card;
+    let registers = live.registers;
+    let mut next = live;
     next.registers = stream::signal_if(wanted, registers);
     next
 }
 
 // The stream is Released; a number that is no stream's changes nothing.
-fn mark_released(card: Card, id: u32) -> Card
-    requires { ⌜ Fit card ⌝ }
-    ensures { λ r. ⌜ (deviceOf r ≡ markedOf id (deviceOf card)) × Fit r ⌝ }
+fn mark_released(live: Live, id: u32) -> Live
+    requires { ⌜ FitLive live × (live .config .streams ≤ 2) ⌝ }
+    ensures { λ r. ⌜ r ≡ markedLive id live ⌝ }
 {
-    let mut parts = card.parts;
-    let at = id as usize;
-    if parts.stream_count <= at {
-        return card;
+    let config = live.config;
+    if config.streams <= id {
+        return live;
     }
-    let mut changed = parts.streams[at];
-    changed.state = card::RELEASED;
-    parts.streams[at] = changed;
-    let mut next = card;
-    next.parts = parts;
+    let mut next = live;
+    next.states[id as usize] = card::RELEASED;
     next
 }
 
@@ -239,112 +218,187 @@ fn queue_of(id: u32) -> u8
     message::queue_number(Direction::Input)
 }
 
-// A stream's queue was emptied: the stream is Released and the message answered. If the queue broke,
-// the message stays taken and the stream keeps its state.
-fn end_release(
+// A stream's queue is emptied, with statuses of the backlog that the stream remembers.
+fn empty(
+    live: Live,
+    play_words: &mut [u64],
+    capture_words: &mut [u64],
     m: &mut [u8],
-    list: &[u64],
-    emptied: Emptied,
-    head: DescriptorNumber,
-    reply: Ranges,
     id: u32,
-) -> ControlAnswer
-    requires { ⌜ Fit (emptied .card) ⌝ }
-    ensures { λ r. ⌜ (endsOn (emptied .card)
-        (releasedOf id (pendingOf (emptied .card) head (rangesOf (now (list .entry)) reply)) (now (m .entry))
-        (emptied .stop) (emptied .signal))
-        ≡ says r (now (m .exit))) × Fit (r .card) ⌝ }
+) -> Emptied
+    requires { ⌜ FitLive live × FitPlay live (now «play_words») × FitCapture live (now «capture_words»)
+        × (length (now m) ≡ live .«ram_len») ⌝ }
+    ensures { λ r. ⌜ EmptiesFor id live (now («play_words» .entry)) (now («capture_words» .entry)) (now (m .entry))
+        (now («play_words» .exit)) (now («capture_words» .exit)) (now (m .exit)) r ⌝ }
 {
-    let card = emptied.card;
-    let stop = emptied.stop;
-    let signalled = signal_card(card, emptied.signal);
-    match stop {
-        Stop::Broke(cause) => broken_down(signalled, queue_of(id), cause),
-        Stop::Going => reply_status(
-            m,
-            list,
-            mark_released(signalled, id),
-            head,
-            reply,
-            message::OK,
-        ),
-    }
-}
-
-// A stream is released: its queue first, then the reply.
-fn release(
-    m: &mut [u8],
-    list: &[u64],
-    card: Card,
-    head: DescriptorNumber,
-    reply: Ranges,
-    id: u32,
-) -> ControlAnswer
-    requires { ⌜ Fit card × (length (now m) ≡ card .«ram_len») ⌝ }
-    ensures { λ r. ⌜ (ordered countersOf (ReleaseFirst id (pendingOf card head (rangesOf (now (list .entry)) reply)))
-        (deviceOf card) (now (m .entry))
-        ≡ says r (now (m .exit))) × Fit (r .card) ⌝ }
-{
-    let latency = stream::backlog(card, id);
+    let latency = stream::backlog(live, id);
     if id == 0 {
-        let emptied = stream::empty(card, m, Direction::Output, latency);
-        return end_release(m, list, emptied, head, reply, id);
+        return stream::empty(live, play_words, m, Direction::Output, latency);
     }
-    let emptied = stream::empty(card, m, Direction::Input, latency);
-    end_release(m, list, emptied, head, reply, id)
+    stream::empty(live, capture_words, m, Direction::Input, latency)
 }
 
-// The card with other parts.
-fn with_parts(card: Card, parts: Parts) -> Card
-    ensures { λ r. ⌜ r ≡ withParts parts card ⌝ }
-{
-    let mut next = card;
-    next.parts = parts;
-    next
-}
-
-// A message that was walked whole: its sides are judged, its request is served.
-fn serve_chain(
+// A stream is released: its queue first, then the stream is Released and the message answered. If the
+// queue broke, the message stays taken and the stream keeps its state.
+fn release(
+    live: Live,
+    parts: Parts,
+    play_words: &mut [u64],
+    capture_words: &mut [u64],
     m: &mut [u8],
     list: &[u64],
-    card: Card,
+    head: DescriptorNumber,
+    reply: Ranges,
+    id: u32,
+) -> Handled
+    requires { ⌜ Fits live parts (now «play_words») (now «capture_words») × (length (now m) ≡ live .«ram_len») ⌝ }
+    ensures { λ r. ⌜ Ends
+        (ordered countersOf
+        (ReleaseFirst id
+        (pendingOf (cardIn live parts (now («play_words» .entry)) (now («capture_words» .entry))) head
+        (rangesOf (now (list .entry)) reply)))
+        (deviceOf (cardIn live parts (now («play_words» .entry)) (now («capture_words» .entry)))) (now (m .entry)))
+        (finished r) (now («play_words» .exit)) (now («capture_words» .exit)) (now (m .exit)) ⌝ }
+{
+    let emptied = empty(live, play_words, capture_words, m, id);
+    let after = emptied.live;
+    let stop = emptied.stop;
+    let signalled = signal(after, emptied.signal);
+    match stop {
+        Stop::Broke(cause) => Handled {
+            ending: Ending::Broke(queue_of(id), cause),
+            live: signalled,
+            parts: parts,
+        },
+        Stop::Going => {
+            let marked = mark_released(signalled, id);
+            let pending = pending_in(marked, head, reply);
+            let posted = reply::complete(m, list, pending, message::OK);
+            Handled {
+                ending: Ending::Completed(posted),
+                live: marked,
+                parts: parts,
+            }
+        }
+    }
+}
+
+// A message whose reply can be used: its request is judged and served.
+fn serve(
+    live: Live,
+    parts: Parts,
+    play_words: &mut [u64],
+    capture_words: &mut [u64],
+    m: &mut [u8],
+    list: &[u64],
     head: DescriptorNumber,
     request: Ranges,
     reply: Ranges,
-) -> ControlAnswer
-    requires { ⌜ Fit card × (length (now m) ≡ card .«ram_len») × Sound (now list) request × Sound (now list) reply ⌝ }
-    ensures { λ r. ⌜ (ordered countersOf
-        (servedChain card head (rangesOf (now (list .entry)) request) (rangesOf (now (list .entry)) reply) (now (m .entry)))
-        (deviceOf card) (now (m .entry))
-        ≡ says r (now (m .exit))) × Fit (r .card) ⌝ }
+) -> Handled
+    requires { ⌜ Fits live parts (now «play_words») (now «capture_words») × (length (now m) ≡ live .«ram_len»)
+        × Sound (now list) request × Sound (now list) reply
+        × (sideOf (length (now m)) (rangesOf (now list) reply) ≡ Usable) ⌝ }
+    ensures { λ r. ⌜ Ends
+        (ordered countersOf
+        (servedChain (cardIn live parts (now («play_words» .entry)) (now («capture_words» .entry))) head
+        (rangesOf (now (list .entry)) request) (rangesOf (now (list .entry)) reply) (now (m .entry)))
+        (deviceOf (cardIn live parts (now («play_words» .entry)) (now («capture_words» .entry)))) (now (m .entry)))
+        (finished r) (now («play_words» .exit)) (now («capture_words» .exit)) (now (m .exit)) ⌝ }
 {
-    let Side::Usable = judge(m.len(), list, reply) else {
-        let nothing = [0u8; 4];
-        return complete(m, list, card, head, reply, &nothing, 0);
-    };
+    let pending = pending_in(live, head, reply);
     let Side::Usable = judge(m.len(), list, request) else {
-        return reply_status(m, list, card, head, reply, rules::BAD_MSG);
+        let posted = reply::complete(m, list, pending, rules::BAD_MSG);
+        return Handled {
+            ending: Ending::Completed(posted),
+            live: live,
+            parts: parts,
+        };
     };
-    let parts = card.parts;
-    let pending = pending_in(card, head, reply);
-    let served = control::serve(m, list, parts, pending, request);
+    let current = live::parts_now(live, parts);
+    let served = control::serve(m, list, current, pending, request);
     let kind = served.kind;
     match kind {
         Kind::Completed(posted) => {
             let after = served.parts;
-            counted(with_parts(card, after), posted)
+            Handled {
+                ending: Ending::Completed(posted),
+                live: live::keep(live, after),
+                parts: after,
+            }
         }
-        Kind::Release(id) => release(m, list, card, head, reply, id),
+        Kind::Release(id) => release(
+            live,
+            parts,
+            play_words,
+            capture_words,
+            m,
+            list,
+            head,
+            reply,
+            id,
+        ),
     }
 }
 
-// The message at `head`, taken: one that can't be walked is completed with length 0.
-fn answer_chain(m: &mut [u8], card: Card, head: DescriptorNumber) -> ControlAnswer
-    requires { ⌜ Fit card × (length (now m) ≡ card .«ram_len») ⌝ }
-    ensures { λ r. ⌜ (ordered countersOf (walkedAt card head (now (m .entry))) (deviceOf card) (now (m .entry))
-        ≡ says r (now (m .exit))) × Fit (r .card) ⌝ }
+// A message that was walked whole: without a reply that can be used it is completed with length 0.
+fn serve_chain(
+    live: Live,
+    parts: Parts,
+    play_words: &mut [u64],
+    capture_words: &mut [u64],
+    m: &mut [u8],
+    list: &[u64],
+    head: DescriptorNumber,
+    request: Ranges,
+    reply: Ranges,
+) -> Handled
+    requires { ⌜ Fits live parts (now «play_words») (now «capture_words») × (length (now m) ≡ live .«ram_len»)
+        × Sound (now list) request × Sound (now list) reply ⌝ }
+    ensures { λ r. ⌜ Ends
+        (ordered countersOf
+        (servedChain (cardIn live parts (now («play_words» .entry)) (now («capture_words» .entry))) head
+        (rangesOf (now (list .entry)) request) (rangesOf (now (list .entry)) reply) (now (m .entry)))
+        (deviceOf (cardIn live parts (now («play_words» .entry)) (now («capture_words» .entry)))) (now (m .entry)))
+        (finished r) (now («play_words» .exit)) (now («capture_words» .exit)) (now (m .exit)) ⌝ }
 {
-    let registers = card.registers;
+    let Side::Usable = judge(m.len(), list, reply) else {
+        let posted = complete_mute(live, m, head);
+        return Handled {
+            ending: Ending::Completed(posted),
+            live: live,
+            parts: parts,
+        };
+    };
+    serve(
+        live,
+        parts,
+        play_words,
+        capture_words,
+        m,
+        list,
+        head,
+        request,
+        reply,
+    )
+}
+
+// The message at `head`, taken: one that can't be walked is completed with length 0.
+fn answer_chain(
+    live: Live,
+    parts: Parts,
+    play_words: &mut [u64],
+    capture_words: &mut [u64],
+    m: &mut [u8],
+    head: DescriptorNumber,
+) -> Handled
+    requires { ⌜ Fits live parts (now «play_words») (now «capture_words») × (length (now m) ≡ live .«ram_len») ⌝ }
+    ensures { λ r. ⌜ Ends
+        (ordered countersOf
+        (walkedAt (cardIn live parts (now («play_words» .entry)) (now («capture_words» .entry))) head (now (m .entry)))
+        (deviceOf (cardIn live parts (now («play_words» .entry)) (now («capture_words» .entry)))) (now (m .entry)))
+        (finished r) (now («play_words» .exit)) (now («capture_words» .exit)) (now (m .exit)) ⌝ }
+{
+    let registers = live.registers;
     let page = registers.pages[CONTROL_QUEUE];
     let indirect = registers.features / registers::HOST_FEATURES % 2 == 1;
     let size = queue_size();
@@ -352,55 +406,126 @@ fn answer_chain(m: &mut [u8], card: Card, head: DescriptorNumber) -> ControlAnsw
     let walked = chain::walk(m, &mut words, page.address(), size, head, indirect);
     let end = walked.end;
     let End::Whole = end else {
-        let nothing = [0u8; 4];
-        return complete(m, &words, card, head, Ranges::none(), &nothing, 0);
+        let posted = complete_mute(live, m, head);
+        return Handled {
+            ending: Ending::Completed(posted),
+            live: live,
+            parts: parts,
+        };
     };
     let chain = walked.chain;
     let request = chain.request;
     let reply = chain.reply;
-    serve_chain(m, &words, card, head, request, reply)
+    serve_chain(
+        live,
+        parts,
+        play_words,
+        capture_words,
+        m,
+        &words,
+        head,
+        request,
+        reply,
+    )
 }
 
 // The next message of the control queue.
-fn answer_next(m: &mut [u8], card: Card) -> ControlAnswer
-    requires { ⌜ Fit card × (length (now m) ≡ card .«ram_len») ⌝ }
-    ensures { λ r. ⌜ (ordered countersOf (headOf card (now (m .entry))) (deviceOf card) (now (m .entry))
-        ≡ says r (now (m .exit))) × Fit (r .card) ⌝ }
+fn answer_next(
+    live: Live,
+    parts: Parts,
+    play_words: &mut [u64],
+    capture_words: &mut [u64],
+    m: &mut [u8],
+) -> Handled
+    requires { ⌜ Fits live parts (now «play_words») (now «capture_words») × (length (now m) ≡ live .«ram_len») ⌝ }
+    ensures { λ r. ⌜ Ends
+        (ordered countersOf
+        (headOf (cardIn live parts (now («play_words» .entry)) (now («capture_words» .entry))) (now (m .entry)))
+        (deviceOf (cardIn live parts (now («play_words» .entry)) (now («capture_words» .entry)))) (now (m .entry)))
+        (finished r) (now («play_words» .exit)) (now («capture_words» .exit)) (now (m .exit)) ⌝ }
 {
-    let registers = card.registers;
+    let registers = live.registers;
     let page = registers.pages[CONTROL_QUEUE];
-    let counters = card.queues[CONTROL_QUEUE];
+    let queues = live.queues;
+    let counters = queues[CONTROL_QUEUE];
     let size = queue_size();
     match ring::next_head(m, page, size, counters.taken) {
-        ring::Head::Broken(cause) => broken_down(card, CONTROL_QUEUE as u8, cause),
-        ring::Head::At(head) => answer_chain(m, take_one(card), head),
+        ring::Head::Broken(cause) => Handled {
+            ending: Ending::Broke(CONTROL_QUEUE as u8, cause),
+            live: live,
+            parts: parts,
+        },
+        ring::Head::At(head) => {
+            let taken = take_one(live);
+            answer_chain(taken, parts, play_words, capture_words, m, head)
+        }
+    }
+}
+
+// Nothing was done: a check refuses the call, or there is nothing to take.
+fn untouched(live: Live, parts: Parts, number: u8) -> Handled
+    ensures { λ r. ⌜ r ≡ untouchedBy number live parts ⌝ }
+{
+    Handled {
+        ending: Ending::Untouched(number),
+        live: live,
+        parts: parts,
+    }
+}
+
+// The checks of the call, then the next message.
+fn handle(
+    live: Live,
+    parts: Parts,
+    play_words: &mut [u64],
+    capture_words: &mut [u64],
+    m: &mut [u8],
+) -> Handled
+    requires { ⌜ Fits live parts (now «play_words») (now «capture_words») ⌝ }
+    ensures { λ r. ⌜ Ends
+        (stepOf (cardIn live parts (now («play_words» .entry)) (now («capture_words» .entry))) Request.Control (now (m .entry)))
+        (finished r) (now («play_words» .exit)) (now («capture_words» .exit)) (now (m .exit)) ⌝ }
+{
+    if m.len() != live.ram_len {
+        return untouched(live, parts, registers::LENGTH_DIFFERS);
+    }
+    let registers = live.registers;
+    if !registers.is_live() {
+        return untouched(live, parts, registers::NOT_LIVE);
+    }
+    let page = registers.pages[CONTROL_QUEUE];
+    let queues = live.queues;
+    let counters = queues[CONTROL_QUEUE];
+    let size = queue_size();
+    match ring::check_queue(m, page, size, counters.taken, 0) {
+        ring::Check::Idle => untouched(live, parts, registers::DONE),
+        ring::Check::Broken(cause) => Handled {
+            ending: Ending::Broke(CONTROL_QUEUE as u8, cause),
+            live: live,
+            parts: parts,
+        },
+        ring::Check::New(new) => {
+            if new == 0 {
+                return untouched(live, parts, registers::DONE);
+            }
+            answer_next(live, parts, play_words, capture_words, m)
+        }
     }
 }
 
 // The control call: one message of the control queue.
-pub fn control(card: Card, m: &mut [u8]) -> ControlAnswer
-    requires { ⌜ Fit card ⌝ }
-    ensures { λ r. ⌜ (stepOf card Request.Control (now (m .entry))
-        ≡ leaves (r .card) (r .answer) (r .count) [] [] (now (m .exit))) × Fit (r .card) ⌝ }
+pub fn control(
+    live: Live,
+    parts: Parts,
+    play_words: &mut [u64],
+    capture_words: &mut [u64],
+    m: &mut [u8],
+) -> ControlAnswer
+    requires { ⌜ Fits live parts (now «play_words») (now «capture_words») ⌝ }
+    ensures { λ r. ⌜ (stepOf (cardIn live parts (now («play_words» .entry)) (now («capture_words» .entry))) Request.Control (now (m .entry))
+        ≡ leaves (cardIn (r .live) (r .parts) (now («play_words» .exit)) (now («capture_words» .exit))) (r .answer) (r .count) [] []
+        (now (m .exit)))
+        × Fits (r .live) (r .parts) (now («play_words» .exit)) (now («capture_words» .exit)) ⌝ }
 {
-    if m.len() != card.ram_len {
-        return untouched(card, registers::LENGTH_DIFFERS);
-    }
-    let registers = card.registers;
-    if !registers.is_live() {
-        return untouched(card, registers::NOT_LIVE);
-    }
-    let page = registers.pages[CONTROL_QUEUE];
-    let counters = card.queues[CONTROL_QUEUE];
-    let size = queue_size();
-    match ring::check_queue(m, page, size, counters.taken, 0) {
-        ring::Check::Idle => untouched(card, registers::DONE),
-        ring::Check::Broken(cause) => broken_down(card, CONTROL_QUEUE as u8, cause),
-        ring::Check::New(new) => {
-            if new == 0 {
-                return untouched(card, registers::DONE);
-            }
-            answer_next(m, card)
-        }
-    }
+    finish(handle(live, parts, play_words, capture_words, m))
 }

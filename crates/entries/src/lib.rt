@@ -1,80 +1,118 @@
 // The calls on queues as C takes them: an answer's number and queue side by side, so that every field of what a call
 // answers is a number.
-ghost use mathlib.Core.Path.{_≡_};
-ghost use mathlib.Core.List.{[]};
-ghost use lib.ListN.{take};
-ghost use Rattle.card.specs.Fit.{Fit};
-ghost use Rattle.meaning.specs.Card.{stepOf, leaves};
-ghost use Rattle.rules.specs.Calls.{Request, Event};
-ghost use Rattle.entries.specs.Entries.{answered, flat};
-use card::Card;
-use registers::Answer;
+ghost use Rattle.event.specs.Event.{FitAside};
+ghost use Rattle.live.specs.Live.{Fits};
+ghost use Rattle.message.specs.declared.Direction.{Direction};
+ghost use Rattle.pcm.specs.Entry.{TransfersOn};
+ghost use Rattle.stream.specs.Queue.{FitOwn};
+ghost use Rattle.entries.specs.Entries.{transferIn, ControlsOn, EventsOn};
+use live::Board;
+use live::Live;
 
-// What a call on a queue answers; `queue` is the one that broke, or 255.
+// What a transfer answers; `queue` is the one that broke, or 255.
 #[repr(C)]
-pub struct QueueAnswer {
+pub struct LiveAnswer {
     pub answer: u8,
     pub queue: u8,
     pub count: usize,
-    pub card: Card,
+    pub live: Live,
 }
 
-fn flattened(answer: Answer, count: usize, card: Card) -> QueueAnswer
-    ensures { λ r. ⌜ r ≡ flat answer count card ⌝ }
+// What a call that may change the parts answers.
+#[repr(C)]
+pub struct BoardAnswer {
+    pub answer: u8,
+    pub queue: u8,
+    pub count: usize,
+    pub board: Board,
+}
+
+// The play call.
+pub fn play(
+    live: Live,
+    words: &mut [u64],
+    m: &mut [u8],
+    host: &mut [u8],
+    backlog: u32,
+) -> LiveAnswer
+    requires { ⌜ FitOwn Direction.Output live (now words) ⌝ }
+    ensures { λ r. ⌜ TransfersOn Direction.Output backlog live (now (words .entry)) (now (m .entry)) (now (host .entry))
+        (now (words .exit)) (now (m .exit)) (now (host .exit)) (transferIn r) ⌝ }
 {
-    QueueAnswer {
+    let told = pcm::play(live, words, m, host, backlog);
+    let answer = told.answer;
+    let after = told.live;
+    LiveAnswer {
         answer: answer.number,
         queue: answer.queue,
-        count: count,
-        card: card,
+        count: told.count,
+        live: after,
+    }
+}
+
+// The capture call.
+pub fn capture(live: Live, words: &mut [u64], m: &mut [u8], host: &[u8], backlog: u32) -> LiveAnswer
+    requires { ⌜ FitOwn Direction.Input live (now words) ⌝ }
+    ensures { λ r. ⌜ TransfersOn Direction.Input backlog live (now (words .entry)) (now (m .entry)) (now (host .entry))
+        (now (words .exit)) (now (m .exit)) (now (host .entry)) (transferIn r) ⌝ }
+{
+    let told = pcm::capture(live, words, m, host, backlog);
+    let answer = told.answer;
+    let after = told.live;
+    LiveAnswer {
+        answer: answer.number,
+        queue: answer.queue,
+        count: told.count,
+        live: after,
     }
 }
 
 // The control call.
-pub fn control(card: Card, m: &mut [u8]) -> QueueAnswer
-    requires { ⌜ Fit card ⌝ }
-    ensures { λ r. ⌜ (stepOf card Request.Control (now (m .entry))
-        ≡ leaves (r .card) (answered r) (r .count) [] [] (now (m .exit))) × Fit (r .card) ⌝ }
+pub fn control(
+    board: Board,
+    play_words: &mut [u64],
+    capture_words: &mut [u64],
+    m: &mut [u8],
+) -> BoardAnswer
+    requires { ⌜ Fits (board .live) (board .parts) (now «play_words») (now «capture_words») ⌝ }
+    ensures { λ r. ⌜ ControlsOn board (now («play_words» .entry)) (now («capture_words» .entry)) (now (m .entry))
+        (now («play_words» .exit)) (now («capture_words» .exit)) (now (m .exit)) r ⌝ }
 {
-    let told = controlq::control(card, m);
+    let live = board.live;
+    let parts = board.parts;
+    let told = controlq::control(live, parts, play_words, capture_words, m);
     let answer = told.answer;
-    let after = told.card;
-    flattened(answer, told.count, after)
+    let live_after = told.live;
+    let parts_after = told.parts;
+    BoardAnswer {
+        answer: answer.number,
+        queue: answer.queue,
+        count: told.count,
+        board: Board {
+            live: live_after,
+            parts: parts_after,
+        },
+    }
 }
 
-// The play call.
-pub fn play(card: Card, m: &mut [u8], host: &mut [u8], backlog: u32) -> QueueAnswer
-    requires { ⌜ Fit card ⌝ }
-    ensures { λ r. ⌜ (stepOf card (Request.Play (now (host .entry)) backlog) (now (m .entry))
-        ≡ leaves (r .card) (answered r) (r .count) (take (r .count) (now (host .exit))) (now (host .exit)) (now (m .exit)))
-        × Fit (r .card) ⌝ }
+// The event call.
+pub fn event(board: Board, m: &mut [u8], code: u32, data: u32) -> BoardAnswer
+    requires { ⌜ FitAside (board .live) (board .parts) ⌝ }
+    ensures { λ r. ⌜ EventsOn board code «data» (now (m .entry)) (now (m .exit)) r ⌝ }
 {
-    let told = pcm::play(card, m, host, backlog);
+    let live = board.live;
+    let parts = board.parts;
+    let told = event::event(live, parts, m, code, data);
     let answer = told.answer;
-    let after = told.card;
-    flattened(answer, told.count, after)
-}
-
-// The capture call.
-pub fn capture(card: Card, m: &mut [u8], host: &[u8], backlog: u32) -> QueueAnswer
-    requires { ⌜ Fit card ⌝ }
-    ensures { λ r. ⌜ (stepOf card (Request.Capture (now (host .entry)) backlog) (now (m .entry))
-        ≡ leaves (r .card) (answered r) (r .count) (take (r .count) (now (host .entry))) [] (now (m .exit))) × Fit (r .card) ⌝ }
-{
-    let told = pcm::capture(card, m, host, backlog);
-    let answer = told.answer;
-    let after = told.card;
-    flattened(answer, told.count, after)
-}
-
-// The event call: it counts 0.
-pub fn event(card: Card, m: &mut [u8], code: u32, data: u32) -> QueueAnswer
-    requires { ⌜ Fit card ⌝ }
-    ensures { λ r. ⌜ (stepOf card (Event code «data») (now (m .entry))
-        ≡ leaves (r .card) (answered r) (r .count) [] [] (now (m .exit))) × Fit (r .card) ⌝ }
-{
-    let told = event::event(card, m, code, data);
-    let answer = told.answer;
-    let after = told.card;
-    flattened(answer, 0, after)
+    let live_after = told.live;
+    let parts_after = told.parts;
+    BoardAnswer {
+        answer: answer.number,
+        queue: answer.queue,
+        count: 0,
+        board: Board {
+            live: live_after,
+            parts: parts_after,
+        },
+    }
 }

@@ -1,59 +1,56 @@
--- 01, Play, capture, events, third paragraph: what an event changes of a card.
-use Prim.Native.Nat.{ℕ}
-use lib.ListN.{getD, set}
+-- 01, Play, capture, events, third paragraph: what an event changes of a card that is lent in pieces.
+use mathlib.Core.Path.{_≡_}
+use mathlib.Core.Bool.{false, cond}
+use mathlib.Core.List.{List, []}
+use Prim.Native.Nat.{ℕ, _<_}
+use lib.Dec.{eqb}
+use lib.ListN.{getD}
 use Rattle.registers.specs.Answers.{plain}
-use Rattle.registers.specs.declared.Registers.{Registers}
-use Rattle.card.specs.declared.Card.{Card}
-use Rattle.card.specs.declared.Counters.{Counters}
+use Rattle.card.specs.Fit.{FitParts}
+use Rattle.card.specs.Setters.{withJackAt}
 use Rattle.card.specs.declared.Parts.{Parts}
-use Rattle.rules.specs.Calls.{withConnected}
+use Rattle.live.specs.Live.{partsNow, cardIn, configIn, FitLive, Fits}
+use Rattle.live.specs.declared.Live.{Live}
+use Rattle.meaning.specs.Card.{restOf, stepOf, leaves}
+use Rattle.rules.specs.Calls.{Event, withConnected}
 use Rattle.rules.specs.Control.{noJack}
-use Rattle.rules.specs.Device.{Rest, Device, Queue}
-use Rattle.rules.specs.Numbers.{eventQueue}
+use Rattle.rules.specs.Device.{Rest}
+use Rattle.rules.specs.Numbers.{jackConnected, pcmXrun}
 use Rattle.event.specs.declared.EventAnswer.{EventAnswer}
 
-abbrev pub partsConnected : Parts → ℕ → ℕ → Parts
-partsConnected p i v =
-    record {
-      «jack_count» = p .«jack_count»;
-      «map_count» = p .«map_count»;
-      «stream_count» = p .«stream_count»;
-      jacks = set (p .jacks) i (withConnected v (getD (p .jacks) i noJack));
-      maps = p .maps;
-      streams = p .streams;
-    }
+-- all that a card is made of but the words of its chains
+pub record FitAside (l : Live) (p : Parts) : Type 0 where
+  pub live : FitLive l
+  pub parts : FitParts (partsNow l p)
+  pub counts : l .config ≡ configIn p
 
--- a jack's connection recorded
-abbrev pub cardConnected : Card → ℕ → ℕ → Card
-cardConnected c i v =
-    record {
-      «ram_len» = c .«ram_len»;
-      registers = c .registers;
-      queues = c .queues;
-      play = c .play;
-      capture = c .capture;
-      parts = partsConnected (c .parts) i v;
-      «play_words» = c .«play_words»;
-      «capture_words» = c .«capture_words»;
-    }
+-- the rules' rest, of which those words are no part
+abbrev pub restIn : Live → Parts → Rest
+restIn l p = restOf (cardIn l p [] [])
 
--- the registers and the event queue's counters put back
-abbrev pub cardHolding : Registers → Counters → Card → Card
-cardHolding g q c =
-    record {
-      «ram_len» = c .«ram_len»;
-      registers = g;
-      queues = set (c .queues) eventQueue q;
-      play = c .play;
-      capture = c .capture;
-      parts = c .parts;
-      «play_words» = c .«play_words»;
-      «capture_words» = c .«capture_words»;
-    }
+-- ---- what is recorded
+
+-- an event of a jack names one for which there is room
+abbrev pub NamesJack : ℕ → ℕ → Type 0
+NamesJack code i = eqb code pcmXrun ≡ false → i < 4
+
+abbrev pub connectedAt : ℕ → ℕ → Parts → Parts
+connectedAt i v p = withJackAt i (withConnected v (getD (p .jacks) i noJack)) p
+
+-- a jack's connection, or nothing
+abbrev pub recordedIn : ℕ → ℕ → Parts → Parts
+recordedIn code i p = cond (eqb code pcmXrun) p (connectedAt i (cond (eqb code jackConnected) 1 0) p)
+
+-- ---- the call
 
 -- a call that a check refuses
-abbrev pub refusedBy : ℕ → Card → EventAnswer
-refusedBy number c = record { answer = plain number; card = c }
+abbrev pub refusedBy : ℕ → Live → Parts → EventAnswer
+refusedBy number l p = record { answer = plain number; live = l; parts = p }
 
-abbrev pub withRest : Rest → Device Queue → Device Queue
-withRest r d = record { rest = r; play = d .play; capture = d .capture }
+-- the rules' event, on every card with this small state and these parts, whatever the words of its chains are
+abbrev pub TellsOn : ℕ → ℕ → Live → Parts → List ℕ → List ℕ → EventAnswer → Type 0
+TellsOn code data′ l p m m′ r =
+    (pw cw : List ℕ)
+    → Fits l p pw cw
+    → (stepOf (cardIn l p pw cw) (Event code data′) m ≡ leaves (cardIn (r .live) (r .parts) pw cw) (r .answer) 0 [] [] m′)
+    × Fits (r .live) (r .parts) pw cw

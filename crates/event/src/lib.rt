@@ -1,19 +1,17 @@
 // The event call (01, "Play, capture, events", third paragraph): a jack's connection or an XRUN, told
 // to the guest.
 ghost use mathlib.Core.Path.{_≡_};
-ghost use mathlib.Core.Bool.{true, _&&_};
-ghost use mathlib.Core.List.{[]};
-ghost use Prim.Native.Nat.{_<_};
-ghost use lib.Dec.{ltb};
-ghost use lib.ListN.{length};
+ghost use mathlib.Core.Bool.{cond, _&&_};
+ghost use lib.Dec.{eqb};
 ghost use Rattle.registers.specs.Rules.{hasBit};
-ghost use Rattle.card.specs.Fit.{Fit};
-ghost use Rattle.event_queue.specs.Attempts.{sentOf};
-ghost use Rattle.rules.specs.Calls.{Event, ended, isRunning, eventAllowed, recorded};
+ghost use Rattle.rules.specs.Calls.{isRunning, eventAllowed};
 ghost use Rattle.rules.specs.Device.{streamAt};
-ghost use Rattle.meaning.specs.Card.{restOf, deviceOf, stepOf, leaves};
-ghost use Rattle.event.specs.Event.{cardConnected, withRest, refusedBy};
-use card::Card;
+ghost use Rattle.rules.specs.Numbers.{eventQueue, jackConnected};
+ghost use Rattle.stream.specs.Held.{holdingLive};
+ghost use Rattle.event.specs.Event.{FitAside, restIn, NamesJack, recordedIn, refusedBy, TellsOn};
+use card::Parts;
+use event_queue::Attempt;
+use live::Live;
 use registers::Answer;
 
 // The codes of the events.
@@ -26,126 +24,120 @@ const PCM_XRUN: u32 = 4353;
 #[repr(C)]
 pub struct EventAnswer {
     pub answer: Answer,
-    pub card: Card,
+    pub live: Live,
+    pub parts: Parts,
 }
 
-// The event sent from the card, in which its state is recorded.
-fn send_from(card: Card, m: &mut [u8], code: u32, data: u32) -> EventAnswer
-    requires { ⌜ Fit card ⌝ }
-    ensures { λ r. ⌜ (ended (sentOf code «data» (restOf card) (now (m .entry)) .result) (deviceOf card)
-        ≡ leaves (r .card) (r .answer) 0 [] [] (now (m .exit)))
-        × Fit (r .card) ⌝ }
+// The small state with what sending changed: the registers and the event queue's counters.
+fn with_attempt(live: Live, attempt: Attempt) -> Live
+    ensures { λ r. ⌜ r ≡ holdingLive eventQueue (attempt .registers) (attempt .counters) live ⌝ }
 {
-    let registers = card.registers;
-    let counters = card.queues[event_queue::NUMBER];
-    let attempt = event_queue::send(m, registers, counters, code, data);
-    let mut next = card;
-    let after = attempt.registers;
-    let counts = attempt.counters;
-    let answer = attempt.answer;
-    next.registers = after;
-    next.queues[event_queue::NUMBER] = counts;
-    EventAnswer {
-        answer: answer,
-        card: next,
-    }
-}
-
-// Whether the card has this jack.
-fn has_jack(card: Card, jack: u32) -> bool
-    requires { ⌜ Fit card ⌝ }
-    ensures { λ r. ⌜ r ≡ ltb jack (length (restOf card .jacks)) ⌝ }
-{
-    let parts = card.parts;
-    if (jack as usize) < parts.jack_count {
-        return true;
-    }
-    false
+    let registers = attempt.registers;
+    let counters = attempt.counters;
+    let mut next = live;
+    next.registers = registers;
+    next.queues[event_queue::NUMBER] = counters;
+    next
 }
 
 // Whether the stream is there and Running, with its XRUN event selected.
-fn tells_xruns(card: Card, stream: u32) -> bool
-    requires { ⌜ Fit card ⌝ }
-    ensures { λ r. ⌜ r ≡ (isRunning (restOf card) stream && hasBit (streamAt (restOf card) stream .params .features) 4) ⌝ }
+fn tells_xruns(live: Live, parts: Parts, stream: u32) -> bool
+    requires { ⌜ FitAside live parts ⌝ }
+    ensures { λ r. ⌜ r ≡ (isRunning (restIn live parts) stream && hasBit (streamAt (restIn live parts) stream .params .features) 4) ⌝ }
 {
-    let parts = card.parts;
+    let config = live.config;
+    if config.streams <= stream {
+        return false;
+    }
     let at = stream as usize;
-    if parts.stream_count <= at {
+    let states = live.states;
+    if states[at] != card::RUNNING {
         return false;
     }
-    let one = parts.streams[at];
-    if one.state != card::RUNNING {
+    if live.fresh {
         return false;
     }
+    let streams = parts.streams;
+    let one = streams[at];
     let params = one.params;
     params.features / 16 % 2 == 1
 }
 
 // Whether the event may be sent.
-fn is_allowed(card: Card, code: u32, data: u32) -> bool
-    requires { ⌜ Fit card ⌝ }
-    ensures { λ r. ⌜ r ≡ eventAllowed (restOf card) code «data» ⌝ }
+fn is_allowed(live: Live, parts: Parts, code: u32, data: u32) -> bool
+    requires { ⌜ FitAside live parts ⌝ }
+    ensures { λ r. ⌜ r ≡ eventAllowed (restIn live parts) code «data» ⌝ }
 {
+    let config = live.config;
     match code {
-        JACK_CONNECTED => has_jack(card, data),
-        JACK_DISCONNECTED => has_jack(card, data),
-        PCM_XRUN => tells_xruns(card, data),
+        JACK_CONNECTED => data < config.jacks,
+        JACK_DISCONNECTED => data < config.jacks,
+        PCM_XRUN => tells_xruns(live, parts, data),
         _ => false,
     }
 }
 
-// A jack's connection recorded.
-fn connect(card: Card, jack: u32, connected: u8) -> Card
-    requires { ⌜ Fit card × (jack < length (restOf card .jacks)) ⌝ }
-    ensures { λ r. ⌜ r ≡ cardConnected card jack connected ⌝ }
+// The connection that a jack's event tells.
+fn connection(code: u32) -> u8
+    ensures { λ r. ⌜ r ≡ cond (eqb code jackConnected) 1 0 ⌝ }
 {
-    let at = jack as usize;
-    let mut parts = card.parts;
-    let mut changed = parts.jacks[at];
+    if code == JACK_CONNECTED {
+        return 1;
+    }
+    0
+}
+
+// The parts with the state that an event tells: a jack's connection.
+fn record_state(parts: Parts, code: u32, data: u32) -> Parts
+    requires { ⌜ NamesJack code «data» ⌝ }
+    ensures { λ r. ⌜ r ≡ recordedIn code «data» parts ⌝ }
+{
+    if code == PCM_XRUN {
+        return parts;
+    }
+    let at = data as usize;
+    let connected = connection(code);
+    let mut next = parts;
+    let mut changed = next.jacks[at];
     changed.connected = connected;
-    parts.jacks[at] = changed;
-    let mut next = card;
-    next.parts = parts;
+    next.jacks[at] = changed;
     next
 }
 
-// The card with the state that an event tells.
-fn record_state(card: Card, code: u32, data: u32) -> Card
-    requires { ⌜ Fit card × (eventAllowed (restOf card) code «data» ≡ true) ⌝ }
-    ensures { λ r. ⌜ (deviceOf r ≡ withRest (recorded (restOf card) code «data») (deviceOf card)) × Fit r ⌝ }
-{
-    match code {
-        JACK_CONNECTED => connect(card, data, 1),
-        JACK_DISCONNECTED => connect(card, data, 0),
-        _ => card,
-    }
-}
-
 // A call that a check refuses: nothing changed.
-fn refused(card: Card, number: u8) -> EventAnswer
-    ensures { λ r. ⌜ r ≡ refusedBy number card ⌝ }
+fn refused(live: Live, parts: Parts, number: u8) -> EventAnswer
+    ensures { λ r. ⌜ r ≡ refusedBy number live parts ⌝ }
 {
     EventAnswer {
         answer: registers::plain(number),
-        card: card,
+        live: live,
+        parts: parts,
     }
 }
 
 // The event call: the guest is told of an event with this code and data.
-pub fn event(card: Card, m: &mut [u8], code: u32, data: u32) -> EventAnswer
-    requires { ⌜ Fit card ⌝ }
-    ensures { λ r. ⌜ (stepOf card (Event code «data») (now (m .entry)) ≡ leaves (r .card) (r .answer) 0 [] [] (now (m .exit)))
-        × Fit (r .card) ⌝ }
+pub fn event(live: Live, parts: Parts, m: &mut [u8], code: u32, data: u32) -> EventAnswer
+    requires { ⌜ FitAside live parts ⌝ }
+    ensures { λ r. ⌜ TellsOn code «data» live parts (now (m .entry)) (now (m .exit)) r ⌝ }
 {
-    if m.len() != card.ram_len {
-        return refused(card, registers::LENGTH_DIFFERS);
+    if m.len() != live.ram_len {
+        return refused(live, parts, registers::LENGTH_DIFFERS);
     }
-    let registers = card.registers;
+    let registers = live.registers;
     if !registers.is_live() {
-        return refused(card, registers::NOT_LIVE);
+        return refused(live, parts, registers::NOT_LIVE);
     }
-    if !is_allowed(card, code, data) {
-        return refused(card, registers::EVENT_NOT_ALLOWED);
+    if !is_allowed(live, parts, code, data) {
+        return refused(live, parts, registers::EVENT_NOT_ALLOWED);
     }
-    send_from(record_state(card, code, data), m, code, data)
+    let queues = live.queues;
+    let counters = queues[event_queue::NUMBER];
+    let attempt = event_queue::send(m, registers, counters, code, data);
+    let answer = attempt.answer;
+    let after = with_attempt(live, attempt);
+    EventAnswer {
+        answer: answer,
+        live: after,
+        parts: record_state(parts, code, data),
+    }
 }

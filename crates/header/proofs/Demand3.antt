@@ -1,56 +1,117 @@
--- Each entry that C calls does what demand 3 is proved of: what its contract says of cards, memory and host buffer is a step of a list of
--- calls (`Does`), so `demand-3` holds of any list of calls through the header. Power-up is `card::power_up`, with which such a list starts.
-use mathlib.Core.Path.{_≡_, _∙_, sym, ap}
+-- Each entry that C calls does what demand 3 is proved of: what its contract says of the pieces of a card, memory and host buffer is a step
+-- of a list of calls (`Does`) on the card that the pieces stand for, so `demand-3` holds of any list of calls through the header. Power-up
+-- leaves pieces of a card from which such a list starts.
+use mathlib.Core.Path.{_≡_, _∙_, refl, sym, ap}
+use mathlib.Core.Bool.{true}
 use mathlib.Core.List.{List, []}
 use Prim.Native.Nat.{ℕ}
-use lib.ListN.{take}
+use lib.ListN.{length, take}
+use Rattle.description.specs.Lawful.{lawful}
+use Rattle.description.specs.declared.Description.{Description}
 use Rattle.card.specs.Fit.{Fit}
-use Rattle.card.specs.Rules.{readCard, writeCard}
+use Rattle.card.specs.Rules.{poweredOf, readCard, writeCard}
 use Rattle.card.specs.declared.Card.{Card}
+use Rattle.card.specs.declared.Parts.{Parts}
 use Rattle.card.specs.declared.ReadAnswer.{ReadAnswer}
 use Rattle.card.specs.declared.WriteAnswer.{WriteAnswer}
+use Rattle.live.proofs.Laws.{fits-card, read-in, read-fits, write-in, write-fits}
+use Rattle.live.specs.Live.{cardIn, readLive, writeLive, poweredBoard, Fits, Ready}
+use Rattle.live.specs.declared.Board.{Board}
+use Rattle.live.specs.declared.Live.{Live}
+use Rattle.live.specs.declared.LiveRead.{LiveRead}
+use Rattle.live.specs.declared.LiveWrite.{LiveWrite}
 use Rattle.meaning.specs.Card.{deviceOf, stepOf, leaves}
 use Rattle.meaning.proofs.Steps.{read-step, write-step}
-use Rattle.rules.specs.Calls.{Request, ReadRegister, WriteRegister, Control, Play, Capture, Event, Step, toldAll, nothingRung}
+use Rattle.message.specs.declared.Direction.the-variants.{Output, Input}
+use Rattle.rules.specs.Calls.{ReadRegister, WriteRegister, Control, Play, Capture, Event, Step, toldAll, nothingRung}
 use Rattle.registers.specs.Answers.{plain}
-use Rattle.registers.specs.declared.answers.Answer.{Answer}
 use Rattle.rules.specs.Device as rules
+use Rattle.event.specs.Event.{TellsOn}
+use Rattle.event.specs.declared.EventAnswer.{EventAnswer}
+use Rattle.pcm.specs.Entry.{TransfersOn}
+use Rattle.pcm.specs.declared.TransferAnswer.{TransferAnswer}
+use Rattle.entries.specs.Entries.{ControlsOn, EventsOn, answered}
+use Rattle.entries.specs.declared.BoardAnswer.{BoardAnswer}
 use Rattle.calls.specs.Calls.{Does}
 
-module _ (c n : Card) (m : List ℕ) where
-  -- what is left and told by a register access
-  abbrev after : Card → ℕ → ℕ → ℕ → Step (rules.Device rules.Queue)
-  after d answer value rung = record { state = deviceOf d; told = toldAll (plain answer) value rung 0 [] [] m }
+-- ---- register accesses
 
-  pub read-does : (offset width answer value : ℕ) → Fit c
-      → _≡_ {A = ReadAnswer} (record { answer = answer; value = value; card = n }) (readCard c offset width) × Fit n
-      → Does c (record { asked = ReadRegister offset width; lent = m }) (toldAll (plain answer) value nothingRung 0 [] [] m) n
-  read-does offset width answer value f e = record {
-    says = read-step c f offset width m ∙ sym (ap (λ (r : ReadAnswer). after (r .card) (r .answer) (r .value) nothingRung) (e .0));
-    fit = e .1;
-  }
+-- what is left and told by a register access
+abbrev after : List ℕ → Card → ℕ → ℕ → ℕ → Step (rules.Device rules.Queue)
+after m d answer value rung = record { state = deviceOf d; told = toldAll (plain answer) value rung 0 [] [] m }
 
-  pub write-does : (offset width value answer rung : ℕ) → Fit c
-      → _≡_ {A = WriteAnswer} (record { answer = answer; rung = rung; card = n }) (writeCard c offset width value) × Fit n
-      → Does c (record { asked = WriteRegister offset width value; lent = m }) (toldAll (plain answer) 0 rung 0 [] [] m) n
-  write-does offset width value answer rung f e = record {
-    says = write-step c f offset width value m ∙ sym (ap (λ (r : WriteAnswer). after (r .card) (r .answer) 0 (r .rung)) (e .0));
-    fit = e .1;
-  }
+module _ (l n : Live) (p : Parts) (pw cw m : List ℕ) (f : Fits l p pw cw) where
+  abbrev before : Card
+  before = cardIn l p pw cw
 
-  module _ (m′ : List ℕ) (answer : Answer) (count : ℕ) where
-    pub control-does : (stepOf c Control m ≡ leaves n answer count [] [] m′) × Fit n
-        → Does c (record { asked = Control; lent = m }) (toldAll answer 0 nothingRung count [] [] m′) n
-    control-does e = record { says = e .0; fit = e .1 }
+  pub read-does : (offset width answer value : ℕ)
+      → _≡_ {A = LiveRead} (record { answer = answer; value = value; live = n }) (readLive l offset width)
+      → Does before (record { asked = ReadRegister offset width; lent = m }) (toldAll (plain answer) value nothingRung 0 [] [] m) (cardIn n p pw cw)
+      × Fits n p pw cw
+  read-does offset width answer value e =
+      let g = fits-card l p pw cw f in
+      let k : _≡_ {A = ReadAnswer} (readCard before offset width) (record { answer = answer; value = value; card = cardIn n p pw cw }) =
+      read-in l p pw cw f offset width
+      ∙ sym (ap (λ (r : LiveRead). record { answer = r .answer; value = r .value; card = cardIn (r .live) p pw cw }) e) in
+      let fits : Fits n p pw cw = rw (ap (λ (r : LiveRead). r .live) e) (read-fits l p pw cw f offset width) in (
+        record {
+          says = read-step before g offset width m ∙ ap (λ (r : ReadAnswer). after m (r .card) (r .answer) (r .value) nothingRung) k;
+          fit = fits-card n p pw cw fits;
+        },
+        fits,
+      )
 
-    pub play-does : (host host′ : List ℕ) (backlog : ℕ) → (stepOf c (Play host backlog) m ≡ leaves n answer count (take count host′) host′ m′) × Fit n
-        → Does c (record { asked = Play host backlog; lent = m }) (toldAll answer 0 nothingRung count (take count host′) host′ m′) n
-    play-does host host′ backlog e = record { says = e .0; fit = e .1 }
+  pub write-does : (offset width v answer rung : ℕ)
+      → _≡_ {A = LiveWrite} (record { answer = answer; rung = rung; live = n }) (writeLive l offset width v)
+      → Does before (record { asked = WriteRegister offset width v; lent = m }) (toldAll (plain answer) 0 rung 0 [] [] m) (cardIn n p pw cw)
+      × Fits n p pw cw
+  write-does offset width v answer rung e =
+      let g = fits-card l p pw cw f in
+      let k : _≡_ {A = WriteAnswer} (writeCard before offset width v) (record { answer = answer; rung = rung; card = cardIn n p pw cw }) =
+      write-in p pw cw l offset width v
+      ∙ sym (ap (λ (r : LiveWrite). record { answer = r .answer; rung = r .rung; card = cardIn (r .live) p pw cw }) e) in
+      let fits : Fits n p pw cw = rw (ap (λ (r : LiveWrite). r .live) e) (write-fits p pw cw l f offset width v) in (
+        record {
+          says = write-step before g offset width v m ∙ ap (λ (r : WriteAnswer). after m (r .card) (r .answer) 0 (r .rung)) k;
+          fit = fits-card n p pw cw fits;
+        },
+        fits,
+      )
 
-    pub capture-does : (host : List ℕ) (backlog : ℕ) → (stepOf c (Capture host backlog) m ≡ leaves n answer count (take count host) [] m′) × Fit n
-        → Does c (record { asked = Capture host backlog; lent = m }) (toldAll answer 0 nothingRung count (take count host) [] m′) n
-    capture-does host backlog e = record { says = e .0; fit = e .1 }
+-- ---- calls on queues
 
-    pub event-does : (code data′ : ℕ) → (stepOf c (Event code data′) m ≡ leaves n answer count [] [] m′) × Fit n
-        → Does c (record { asked = Event code data′; lent = m }) (toldAll answer 0 nothingRung count [] [] m′) n
-    event-does code data′ e = record { says = e .0; fit = e .1 }
+module _ (l : Live) (p : Parts) (pw cw m m′ : List ℕ) (f : Fits l p pw cw) where
+  pub play-does : (backlog : ℕ) (host pw′ host′ : List ℕ) (r : TransferAnswer)
+      → TransfersOn Output backlog l pw m host pw′ m′ host′ r
+      → Does (cardIn l p pw cw) (record { asked = Play host backlog; lent = m })
+      (toldAll (r .answer) 0 nothingRung (r .count) (take (r .count) host′) host′ m′) (cardIn (r .live) p pw′ cw)
+      × Fits (r .live) p pw′ cw
+  play-does backlog host pw′ host′ r h = let e = h p cw f in (record { says = e .0; fit = fits-card (r .live) p pw′ cw (e .1) }, e .1)
+
+  pub capture-does : (backlog : ℕ) (host cw′ : List ℕ) (r : TransferAnswer)
+      → TransfersOn Input backlog l cw m host cw′ m′ host r
+      → Does (cardIn l p pw cw) (record { asked = Capture host backlog; lent = m })
+      (toldAll (r .answer) 0 nothingRung (r .count) (take (r .count) host) [] m′) (cardIn (r .live) p pw cw′)
+      × Fits (r .live) p pw cw′
+  capture-does backlog host cw′ r h = let e = h p pw f in (record { says = e .0; fit = fits-card (r .live) p pw cw′ (e .1) }, e .1)
+
+module _ (b : Board) (pw cw m m′ : List ℕ) (r : BoardAnswer) where
+  -- the card of a board and words
+  abbrev cardOn : Board → List ℕ → List ℕ → Card
+  cardOn d = cardIn (d .live) (d .parts)
+
+  pub control-does : (pw′ cw′ : List ℕ)
+      → ControlsOn b pw cw m pw′ cw′ m′ r
+      → Does (cardOn b pw cw) (record { asked = Control; lent = m }) (toldAll (answered r) 0 nothingRung (r .count) [] [] m′)
+      (cardOn (r .board) pw′ cw′)
+  control-does pw′ cw′ e = record { says = e .0; fit = fits-card _ _ pw′ cw′ (e .1) }
+
+  pub event-does : (code data′ : ℕ)
+      → Fits (b .live) (b .parts) pw cw
+      → EventsOn b code data′ m m′ r
+      → Does (cardOn b pw cw) (record { asked = Event code data′; lent = m }) (toldAll (answered r) 0 nothingRung (r .count) [] [] m′)
+      (cardOn (r .board) pw cw)
+      × Fits (r .board .live) (r .board .parts) pw cw
+  event-does code data′ f h =
+      let e = h .0 pw cw f in
+      (rw (h .1) (record { says = e .0; fit = fits-card _ _ pw cw (e .1) }), e .1)

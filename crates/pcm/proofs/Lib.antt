@@ -4,3 +4,4 @@ pub mod Host
 pub mod Outcomes
 pub mod Fits
 pub mod Backlog
+pub mod Lent

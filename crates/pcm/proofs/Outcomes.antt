@@ -27,7 +27,7 @@ use Rattle.rules.proofs.Between.{transfer-kept, transfer-waits}
 use Rattle.rules.proofs.Host.{run-past}
 use Rattle.flow.specs.Flow.{runOf}
 use Rattle.flow.specs.declared.Flow.{Flow}
-use Rattle.stream.specs.Queue.{withRegisters, countersIn, messageIn, wordsIn}
+use Rattle.stream.specs.Queue.{withRegisters, countersIn, workIn, wordsIn}
 use Rattle.stream.proofs.Fits.{queue-fit, message-fit, counted-of, waits-of, fit-of, waits-same}
 use Rattle.stream.proofs.Laws.{queue-in, found-check, flowed-device}
 use Rattle.pcm.specs.Entry.{refusalOf, bufferOf, flowedCard, registersAfter, movedBy}
@@ -53,18 +53,18 @@ module _ (way : Direction) (backlog : ℕ) (c : Card) (m host : List ℕ) where
   unmoved Input a g = refl
 
   -- refused by a check
-  pub transfer-refused : (a : ℕ) → refusalOf (restOf c) (length m) (rules.streamNumber d) ≡ a → (a ≡ 0 → ⊥)
+  pub transfer-refused : (a : ℕ) → refusalOf (restOf c) m (rules.streamNumber d) ≡ a → (a ≡ 0 → ⊥)
       → movedBy d backlog c host m ≡ leaves c (plain a) 0 [] (bufferOf d host) m
   unfolding restOf
   transfer-refused a h n =
       ap (transferStep d host (deviceOf c)) (refused-transfer d backlog (restOf c) own m host a h n) ∙ unmoved way (plain a) (c .registers)
 
-  module _ (f : Fit c) (passed : refusalOf (restOf c) (length m) (rules.streamNumber d) ≡ 0) where
+  module _ (f : Fit c) (passed : refusalOf (restOf c) m (rules.streamNumber d) ≡ 0) where
     abbrev pub checked : Check
-    checked = checkOf m (lies .page) (rules.queueSize lies) (countersIn c way .taken) (messageIn c way .count)
+    checked = checkOf m (lies .page) (rules.queueSize lies) (countersIn c way .taken) (workIn c way .count)
 
     found-in : found (countersOf d) lies own m ≡ checked
-    found-in = rw (queue-in c way) (found-check lies (wordsIn c way) m (countersIn c way) (messageIn c way) (message-fit c way f .one))
+    found-in = rw (queue-in c way) (found-check lies (wordsIn c way) m (countersIn c way) (workIn c way) (message-fit c way f .one))
 
     -- past the checks the queue decides
     by-check : (k : Check) → checked ≡ k
@@ -86,7 +86,7 @@ module _ (way : Direction) (backlog : ℕ) (c : Card) (m host : List ℕ) where
 
     module _ (n : ℕ) (h : checked ≡ Check.New n) (ws′ m′ host′ : List ℕ) (g : Flow)
         (run : runOf ws′ g m′ host′ ≡ transferRun (countersOf d) lies n
-        (begun (queueOf (wordsIn c way) (countersIn c way) (messageIn c way)) m host))
+        (begun (queueOf (wordsIn c way) (countersIn c way) (workIn c way)) m host))
         (inside : g .moved ≤ length host) (long : length host′ ≡ length host) where
       counted : length (take (g .moved) host′) ≡ g .moved
       counted = rw length-take (omega arith)
@@ -97,7 +97,7 @@ module _ (way : Direction) (backlog : ℕ) (c : Card) (m host : List ℕ) where
       kept =
           rw counted at
           (ap (λ (r : Run rules.Queue). r .host) run
-          ∙ run-past (countersOf d) lies host n (queueOf (wordsIn c way) (countersIn c way) (messageIn c way)) m .past
+          ∙ run-past (countersOf d) lies host n (queueOf (wordsIn c way) (countersIn c way) (workIn c way)) m .past
           ∙ ap (λ (r : Run rules.Queue). drop (length (r .bytes)) host) (sym run))
 
       buffer : (e : rules.Direction) → hostAfter e host (take (g .moved) host′) ≡ bufferOf e host′
@@ -119,20 +119,20 @@ module _ (way : Direction) (backlog : ℕ) (c : Card) (m host : List ℕ) where
 
       -- the queue that the flow left is the rules'
       left-queue : queueOf ws′ (g .counters) (g .message)
-          ≡ transferRun (countersOf d) lies n (begun (queueOf (wordsIn c way) (countersIn c way) (messageIn c way)) m host) .queue
+          ≡ transferRun (countersOf d) lies n (begun (queueOf (wordsIn c way) (countersIn c way) (workIn c way)) m host) .queue
       unfolding runOf
       left-queue = ap (λ (r : Run rules.Queue). r .queue) run
 
       pub transfer-fit : FitMessage (c .«ram_len») ws′ (g .message) → length ws′ ≡ 68 → Fit (flowedCard way g ws′ c)
       transfer-fit message room =
-          let first = begun (queueOf (wordsIn c way) (countersIn c way) (messageIn c way)) m host in
+          let first = begun (queueOf (wordsIn c way) (countersIn c way) (workIn c way)) m host in
           let own-fit = queue-fit c way f in
           flowed-fit way g ws′ c f
           (fit-of d (c .«ram_len») ws′ (g .counters) (g .message) message room
           (rw left-queue (transfer-kept lies n first (counted-of d (c .«ram_len») (wordsIn c way) (countersIn c way)
-          (messageIn c way) own-fit)))
+          (workIn c way) own-fit)))
           (waits-same d _ _ left-queue
-          (transfer-waits lies n first (waits-of d (c .«ram_len») (wordsIn c way) (countersIn c way) (messageIn c way) own-fit))))
+          (transfer-waits lies n first (waits-of d (c .«ram_len») (wordsIn c way) (countersIn c way) (workIn c way) own-fit))))
 
       pub transfer-new : movedBy d backlog c host m
           ≡ leaves (flowedCard way g ws′ c) (answerBy (rules.queueNumber d) (g .stop)) (g .moved) (take (g .moved) host′)

@@ -1,198 +1,249 @@
-// The play and capture calls of the card (01, "Play, capture, events").
+// The play and capture calls of the card (01, "Play, capture, events"), over its small state and the words of
+// the queue's chain, which are lent.
 ghost use mathlib.Core.Path.{_≡_};
-ghost use mathlib.Core.List.{[]};
+ghost use mathlib.Core.Bool.{cond};
 ghost use Prim.Native.Nat.{_<_};
-ghost use lib.ListN.{take};
-ghost use Rattle.card.specs.Fit.{Fit};
-ghost use Rattle.meaning.specs.Card.{restOf, stepOf, leaves};
-ghost use Rattle.rules.specs.Calls.{Request, isRunning};
+ghost use lib.Dec.{eqb};
+ghost use lib.ListN.{length, set};
+ghost use Rattle.live.specs.Live.{FitLive};
 ghost use Rattle.message.specs.Message.{directionOf};
-ghost use Rattle.rules.specs.Answers.{answerBy};
-ghost use Rattle.rules.specs.Device.{output, input, queueNumber};
-ghost use Rattle.pcm.specs.Entry.{refusalOf, flowedCard, untouchedBy, brokenDown, flowAnswer, movedBy, rememberedBy};
-use card::Card;
+ghost use Rattle.registers.specs.Answers.{done};
+ghost use Rattle.rules.specs.Answers.{answerBy, brokenBy};
+ghost use Rattle.rules.specs.Device.{queueNumber, signalledIf};
+ghost use Rattle.stream.specs.Queue.{FitOwn};
+ghost use Rattle.pcm.specs.Entry.{RunsOn, RefusesOn, PassesOn, untouchedBy, brokenDown, MovesOn, TransfersOn};
+use live::Live;
 use message::Direction;
 use registers::Answer;
+use registers::Registers;
 use ring::Cause;
 use ring::Stop;
-use transfer::Flow;
 
 // What a call answers: the count is the bytes handed on, or consumed.
-#[repr(C)]
 pub struct TransferAnswer {
     pub answer: Answer,
     pub count: usize,
-    pub card: Card,
+    pub live: Live,
 }
 
 // Whether a stream is there and Running.
-fn is_running(card: Card, id: usize) -> bool
-    requires { ⌜ Fit card ⌝ }
-    ensures { λ r. ⌜ r ≡ isRunning (restOf card) id ⌝ }
+fn is_running(live: Live, id: usize) -> bool
+    requires { ⌜ FitLive live ⌝ }
+    ensures { λ r. ⌜ RunsOn live id r ⌝ }
 {
-    let parts = card.parts;
     if 2 <= id {
         return false;
     }
-    if parts.stream_count <= id {
+    let config = live.config;
+    if config.streams as usize <= id {
         return false;
     }
-    let streams = parts.streams;
-    let stream = streams[id];
-    if stream.state == card::RUNNING {
+    let states = live.states;
+    if states[id] == card::RUNNING {
         return true;
     }
     false
 }
 
 // The answer that refuses a transfer of stream `id` over `len` bytes of memory, or 0.
-fn refusal(card: Card, len: usize, id: usize) -> u8
-    requires { ⌜ Fit card ⌝ }
-    ensures { λ r. ⌜ r ≡ refusalOf (restOf card) len id ⌝ }
+fn refusal(live: Live, len: usize, id: usize) -> u8
+    requires { ⌜ FitLive live ⌝ }
+    ensures { λ r. ⌜ RefusesOn live len id r × PassesOn live len r ⌝ }
 {
-    if len != card.ram_len {
+    if len != live.ram_len {
         return registers::LENGTH_DIFFERS;
     }
-    let registers = card.registers;
+    let registers = live.registers;
     if !registers.is_live() {
         return registers::NOT_LIVE;
     }
-    if is_running(card, id) {
+    if is_running(live, id) {
         return registers::DONE;
     }
     registers::NOT_RUNNING
 }
 
-// The card after a flow on a stream's queue, which left these words of its chain.
-fn flowed(card: Card, direction: Direction, f: Flow, words: [u64; 68]) -> Card
-    ensures { λ r. ⌜ r ≡ flowedCard direction f words card ⌝ }
+// The registers after a flow: an interrupt where it wants one, a breakdown where it broke the queue.
+fn registers_after(registers: Registers, signal: bool, stop: Stop) -> Registers
+    ensures { λ r. ⌜ r ≡ brokenBy stop (signalledIf signal registers) ⌝ }
 {
-    let mut next = card;
-    let registers = card.registers;
-    let signalled = stream::signal_if(f.signal, registers);
-    let stop = f.stop;
-    next.registers = stream::break_by(stop, signalled);
-    stream::with_flow(next, direction, f, words)
+    stream::break_by(stop, stream::signal_if(signal, registers))
 }
 
 // The play queue worked; its stream does not remember the backlog yet.
-fn work_play(card: Card, m: &mut [u8], host: &mut [u8], backlog: u32) -> TransferAnswer
-    requires { ⌜ Fit card ⌝ }
-    ensures { λ r. ⌜ (movedBy output backlog card (now (host .entry)) (now (m .entry))
-        ≡ leaves (r .card) (r .answer) (r .count) (take (r .count) (now (host .exit))) (now (host .exit)) (now (m .exit)))
-        × Fit (r .card) ⌝ }
+fn work_play(
+    live: Live,
+    words: &mut [u64],
+    m: &mut [u8],
+    host: &mut [u8],
+    backlog: u32,
+) -> TransferAnswer
+    requires { ⌜ FitOwn Direction.Output live (now words) ⌝ }
+    ensures { λ r. ⌜ MovesOn Direction.Output backlog live (now (words .entry)) (now (m .entry)) (now (host .entry))
+        (now (words .exit)) (now (m .exit)) (now (host .exit)) r ⌝ }
 {
-    let refused = refusal(card, m.len(), 0);
+    let refused = refusal(live, m.len(), 0);
     if refused != 0 {
-        return untouched(card, refused);
+        return untouched(live, refused);
     }
-    let q = stream::virtqueue(card, Direction::Output, backlog);
-    let queues = card.queues;
+    let registers = live.registers;
+    let q = stream::virtqueue(registers, Direction::Output, backlog);
+    let queues = live.queues;
     let counters = queues[2];
-    let message = card.play;
+    let message = live.play;
     let size = message::queue_size(Direction::Output);
     match ring::check_queue(m, q.page, size, counters.taken, message.count) {
-        ring::Check::Idle => untouched(card, registers::DONE),
-        ring::Check::Broken(cause) => broken_down(card, Direction::Output, cause),
+        ring::Check::Idle => untouched(live, registers::DONE),
+        ring::Check::Broken(cause) => broken_down(live, Direction::Output, cause),
         ring::Check::New(new) => {
-            let mut words = card.play_words;
-            let f = transfer::play(m, &mut words, host, q, counters, message, new);
-            transferred(card, Direction::Output, f, words)
+            let handed = transfer::play(m, words, host, q, counters, message, new);
+            let stop = handed.stop;
+            let after = registers_after(registers, handed.signal, stop);
+            let moved = handed.counters;
+            let left = handed.message;
+            let mut next = live;
+            next.registers = after;
+            next.queues[2] = moved;
+            next.play = left;
+            TransferAnswer {
+                answer: answer_by(Direction::Output, stop),
+                count: handed.moved,
+                live: next,
+            }
         }
     }
 }
 
 // The capture queue worked; its stream does not remember the backlog yet.
-fn work_capture(card: Card, m: &mut [u8], host: &[u8], backlog: u32) -> TransferAnswer
-    requires { ⌜ Fit card ⌝ }
-    ensures { λ r. ⌜ (movedBy input backlog card (now (host .entry)) (now (m .entry))
-        ≡ leaves (r .card) (r .answer) (r .count) (take (r .count) (now (host .entry))) [] (now (m .exit))) × Fit (r .card) ⌝ }
+fn work_capture(
+    live: Live,
+    words: &mut [u64],
+    m: &mut [u8],
+    host: &[u8],
+    backlog: u32,
+) -> TransferAnswer
+    requires { ⌜ FitOwn Direction.Input live (now words) ⌝ }
+    ensures { λ r. ⌜ MovesOn Direction.Input backlog live (now (words .entry)) (now (m .entry)) (now (host .entry))
+        (now (words .exit)) (now (m .exit)) (now (host .entry)) r ⌝ }
 {
-    let refused = refusal(card, m.len(), 1);
+    let refused = refusal(live, m.len(), 1);
     if refused != 0 {
-        return untouched(card, refused);
+        return untouched(live, refused);
     }
-    let q = stream::virtqueue(card, Direction::Input, backlog);
-    let queues = card.queues;
+    let registers = live.registers;
+    let q = stream::virtqueue(registers, Direction::Input, backlog);
+    let queues = live.queues;
     let counters = queues[3];
-    let message = card.capture;
+    let message = live.capture;
     let size = message::queue_size(Direction::Input);
     match ring::check_queue(m, q.page, size, counters.taken, message.count) {
-        ring::Check::Idle => untouched(card, registers::DONE),
-        ring::Check::Broken(cause) => broken_down(card, Direction::Input, cause),
+        ring::Check::Idle => untouched(live, registers::DONE),
+        ring::Check::Broken(cause) => broken_down(live, Direction::Input, cause),
         ring::Check::New(new) => {
-            let mut words = card.capture_words;
-            let f = transfer::capture(m, &mut words, host, q, counters, message, new);
-            transferred(card, Direction::Input, f, words)
+            let filled = transfer::capture(m, words, host, q, counters, message, new);
+            let stop = filled.stop;
+            let after = registers_after(registers, filled.signal, stop);
+            let moved = filled.counters;
+            let left = filled.message;
+            let mut next = live;
+            next.registers = after;
+            next.queues[3] = moved;
+            next.capture = left;
+            TransferAnswer {
+                answer: answer_by(Direction::Input, stop),
+                count: filled.moved,
+                live: next,
+            }
         }
     }
 }
 
-// The stream remembers the backlog of a call that answered 0.
-fn remember(told: TransferAnswer, id: usize, backlog: u32) -> TransferAnswer
-    requires { ⌜ Fit (told .card) × (id < 2) ⌝ }
-    ensures { λ r. ⌜ r ≡ rememberedBy id backlog told ⌝ }
+// The backlogs after a call on stream `id`: it remembers that of a call that answered 0.
+fn remember(number: u8, backlogs: [u32; 2], id: usize, backlog: u32) -> [u32; 2]
+    requires { ⌜ id < 2 ⌝ }
+    ensures { λ r. ⌜ r ≡ cond (eqb number done) (set backlogs id backlog) backlogs ⌝ }
 {
-    let answer = told.answer;
-    if answer.number != registers::DONE {
-        return told;
+    if number != registers::DONE {
+        return backlogs;
     }
-    let mut next = told.card;
-    let parts = next.parts;
-    let streams = parts.streams;
-    let mut stream = streams[id];
-    stream.backlog = backlog;
-    next.parts = parts.with_stream(id, stream);
-    TransferAnswer {
-        answer: answer,
-        count: told.count,
-        card: next,
-    }
+    let mut next = backlogs;
+    next[id] = backlog;
+    next
 }
 
 // The play call: payload of the play queue handed to the host buffer. The backlog is the host's, in bytes.
-pub fn play(card: Card, m: &mut [u8], host: &mut [u8], backlog: u32) -> TransferAnswer
-    requires { ⌜ Fit card ⌝ }
-    ensures { λ r. ⌜ (stepOf card (Request.Play (now (host .entry)) backlog) (now (m .entry))
-        ≡ leaves (r .card) (r .answer) (r .count) (take (r .count) (now (host .exit))) (now (host .exit)) (now (m .exit)))
-        × Fit (r .card) ⌝ }
+pub fn play(
+    live: Live,
+    words: &mut [u64],
+    m: &mut [u8],
+    host: &mut [u8],
+    backlog: u32,
+) -> TransferAnswer
+    requires { ⌜ FitOwn Direction.Output live (now words) ⌝ }
+    ensures { λ r. ⌜ TransfersOn Direction.Output backlog live (now (words .entry)) (now (m .entry)) (now (host .entry))
+        (now (words .exit)) (now (m .exit)) (now (host .exit)) r ⌝ }
 {
-    let told = work_play(card, m, host, backlog);
-    remember(told, 0, backlog)
+    let told = work_play(live, words, m, host, backlog);
+    let answer = told.answer;
+    let mut next = told.live;
+    let backlogs = next.backlogs;
+    let after = remember(answer.number, backlogs, 0, backlog);
+    next.backlogs = after;
+    TransferAnswer {
+        answer: answer,
+        count: told.count,
+        live: next,
+    }
 }
 
 // The capture call: host bytes recorded into the payload of the capture queue.
-pub fn capture(card: Card, m: &mut [u8], host: &[u8], backlog: u32) -> TransferAnswer
-    requires { ⌜ Fit card ⌝ }
-    ensures { λ r. ⌜ (stepOf card (Request.Capture (now (host .entry)) backlog) (now (m .entry))
-        ≡ leaves (r .card) (r .answer) (r .count) (take (r .count) (now (host .entry))) [] (now (m .exit))) × Fit (r .card) ⌝ }
+pub fn capture(
+    live: Live,
+    words: &mut [u64],
+    m: &mut [u8],
+    host: &[u8],
+    backlog: u32,
+) -> TransferAnswer
+    requires { ⌜ FitOwn Direction.Input live (now words) ⌝ }
+    ensures { λ r. ⌜ TransfersOn Direction.Input backlog live (now (words .entry)) (now (m .entry)) (now (host .entry))
+        (now (words .exit)) (now (m .exit)) (now (host .entry)) r ⌝ }
 {
-    let told = work_capture(card, m, host, backlog);
-    remember(told, 1, backlog)
+    let told = work_capture(live, words, m, host, backlog);
+    let answer = told.answer;
+    let mut next = told.live;
+    let backlogs = next.backlogs;
+    let after = remember(answer.number, backlogs, 1, backlog);
+    next.backlogs = after;
+    TransferAnswer {
+        answer: answer,
+        count: told.count,
+        live: next,
+    }
 }
 
 // Nothing was done: a check refuses the call, or the queue is idle.
-fn untouched(card: Card, number: u8) -> TransferAnswer
-    ensures { λ r. ⌜ r ≡ untouchedBy number card ⌝ }
+fn untouched(live: Live, number: u8) -> TransferAnswer
+    ensures { λ r. ⌜ r ≡ untouchedBy number live ⌝ }
 {
     TransferAnswer {
         answer: registers::plain(number),
         count: 0,
-        card: card,
+        live: live,
     }
 }
 
 // The queue is broken: nothing was done.
-fn broken_down(card: Card, direction: Direction, cause: Cause) -> TransferAnswer
-    ensures { λ r. ⌜ r ≡ brokenDown direction cause card ⌝ }
+fn broken_down(live: Live, direction: Direction, cause: Cause) -> TransferAnswer
+    ensures { λ r. ⌜ r ≡ brokenDown direction cause live ⌝ }
 {
-    let registers = card.registers;
-    let mut next = card;
-    next.registers = registers.break_down();
+    let registers = live.registers;
+    let mut next = live;
+    let after = registers.break_down();
+    next.registers = after;
     TransferAnswer {
         answer: rules::broken_answer(message::queue_number(direction), cause),
         count: 0,
-        card: next,
+        live: next,
     }
 }
 
@@ -203,17 +254,5 @@ fn answer_by(direction: Direction, stop: Stop) -> Answer
     match stop {
         Stop::Going => registers::plain(registers::DONE),
         Stop::Broke(cause) => rules::broken_answer(message::queue_number(direction), cause),
-    }
-}
-
-// The answer to a transfer that came past its checks.
-fn transferred(card: Card, direction: Direction, f: Flow, words: [u64; 68]) -> TransferAnswer
-    ensures { λ r. ⌜ r ≡ flowAnswer card direction f words ⌝ }
-{
-    let stop = f.stop;
-    TransferAnswer {
-        answer: answer_by(direction, stop),
-        count: f.moved,
-        card: flowed(card, direction, f, words),
     }
 }

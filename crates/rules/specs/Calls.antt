@@ -262,6 +262,10 @@ untouched answer g q m = record { queue = q; registers = g; answer = answer; byt
 abbrev pub isRunning : Rest → ℕ → Bool
 isRunning r id = ltb id (length (r .streams)) && eqb (streamAt r id .state) runningState
 
+-- .. behind 1 and 5
+abbrev pub admittedFor : {A : Type 0} → Rest → List ℕ → ℕ → (ℕ → A) → A → A
+admittedFor r m id refuse go = admitted r m refuse (cond (isRunning r id) go (refuse notRunning))
+
 -- order 5: ".. and every status completed in that call carries it"
 module _ {Q : Type 0} (ops : Ops Q) (d : Direction) (backlog : ℕ) where
   abbrev pub transferFound : Rest → Q → List ℕ → List ℕ → Check → Transferred Q
@@ -274,10 +278,8 @@ module _ {Q : Type 0} (ops : Ops Q) (d : Direction) (backlog : ℕ) where
   -- "Play and capture: 1, 5, 6, 9."
   unfoldable pub transferred : Rest → Q → List ℕ → List ℕ → Transferred Q
   transferred r q m host =
-      admitted r m (λ number. untouched (plain number) (r .registers) q m)
-      (cond (isRunning r (streamNumber d))
+      admittedFor r m (streamNumber d) (λ number. untouched (plain number) (r .registers) q m)
       (transferFound r q m host (found ops (virtqueueOf r d backlog) q m))
-      (untouched (plain notRunning) (r .registers) q m))
 
 -- ---- events
 

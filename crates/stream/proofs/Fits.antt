@@ -31,7 +31,10 @@ use Rattle.rules.proofs.Between.{Counted, Waits}
 use Rattle.flow.specs.Flow.{payloadBytes}
 use Rattle.flow.proofs.Laws.{left-length, not-nil, some-left}
 use Rattle.flow.specs.declared.Flow.{Flow}
-use Rattle.stream.specs.Queue.{withRegisters, withFlow, countersIn, messageIn, wordsIn}
+use Rattle.card.specs.declared.Parts.{Parts}
+use Rattle.live.proofs.Laws.{fits-card, card-fits}
+use Rattle.live.specs.declared.Live.{Live}
+use Rattle.stream.specs.Queue.{withRegisters, withFlow, countersIn, workIn, wordsIn, messageIn, flowLive, cardWith, FitsWith, FitOwn}
 
 pub signal-fit : (b : Bool) (g : Registers) → FitRegisters g → FitRegisters (signalledIf b g)
 signal-fit true g f = signalled-fit g f
@@ -41,11 +44,8 @@ pub broken-by-fit : (s : Stop) (g : Registers) → FitRegisters g → FitRegiste
 broken-by-fit Stop.Going g f = f
 broken-by-fit (Stop.Broke cause) g f = broken-fit g f
 
-pub with-registers-fit : (c : Card) (g : Registers) → Fit c → FitRegisters g → Fit (withRegisters g c)
-with-registers-fit c g f h = fit-with-registers c f g h
-
 pub broken-card-fit : (c : Card) → Fit c → Fit (withRegisters (broken (c .registers)) c)
-broken-card-fit c f = with-registers-fit c (broken (c .registers)) f (broken-fit (c .registers) (f .registers))
+broken-card-fit c f = fit-with-registers c f (broken (c .registers)) (broken-fit (c .registers) (f .registers))
 
 -- ---- a stream's queue
 
@@ -54,11 +54,11 @@ abbrev pub FitIn : rules.Direction → ℕ → List ℕ → Counters → Message
 FitIn d len ws q m = FitQueue (sizeOf (rules.queueNumber d)) (payloadBytes d m) len ws q m
 
 -- that of either direction is fit
-pub queue-fit : (c : Card) (d : Direction) → Fit c → FitIn (directionOf d) (c .«ram_len») (wordsIn c d) (countersIn c d) (messageIn c d)
+pub queue-fit : (c : Card) (d : Direction) → Fit c → FitIn (directionOf d) (c .«ram_len») (wordsIn c d) (countersIn c d) (workIn c d)
 queue-fit c Output f = f .play
 queue-fit c Input f = f .capture
 
-pub message-fit : (c : Card) (d : Direction) → Fit c → FitMessage (c .«ram_len») (wordsIn c d) (messageIn c d)
+pub message-fit : (c : Card) (d : Direction) → Fit c → FitMessage (c .«ram_len») (wordsIn c d) (workIn c d)
 message-fit c d f = queue-fit c d f .message
 
 pub waits-same : (d : rules.Direction) (a b : rules.Queue) → a ≡ b → Waits d b → Waits d a
@@ -139,3 +139,31 @@ with-flow-fit Input g ws c f h =
       play = rw (getD-set-other (c .queues) 3 2 (g .counters) noCounters (λ e. omega arith)) (f .play);
       capture = rw (getD-set-same (c .queues) 3 (g .counters) noCounters (omega (arith, f .four))) h;
     }
+
+-- ---- all that a card is made of, with the words of a direction's chain
+
+module _ (l : Live) (p : Parts) (ws other : List ℕ) where
+  pub with-fit : (d : Direction) → FitsWith d l p ws other → Fit (cardWith d l p ws other)
+  with-fit Output f = fits-card l p ws other f
+  with-fit Input f = fits-card l p other ws f
+
+  pub own-fit : (d : Direction) → FitsWith d l p ws other → FitOwn d l ws
+  own-fit Output f = (f .live, f .play)
+  own-fit Input f = (f .live, f .capture)
+
+  -- after a flow
+  pub flow-fits : (d : Direction) (g : Flow) (ws′ : List ℕ)
+      → FitsWith d l p ws other
+      → Fit (withFlow d g ws′ (cardWith d l p ws other))
+      → FitsWith d (flowLive d g l) p ws′ other
+  flow-fits Output g ws′ f k = card-fits _ p ws′ other k (f .live .states) (f .live .backlogs) (f .counts)
+  flow-fits Input g ws′ f k = card-fits _ p other ws′ k (f .live .states) (f .live .backlogs) (f .counts)
+
+-- the message in work, where the queue is fit
+pub own-message : (d : Direction) (l : Live) (ws : List ℕ) → FitOwn d l ws → FitMessage (l .«ram_len») ws (messageIn l d)
+own-message Output l ws f = f .1 .message
+own-message Input l ws f = f .1 .message
+
+pub own-room : (d : Direction) (l : Live) (ws : List ℕ) → FitOwn d l ws → length ws ≡ 68
+own-room Output l ws f = f .1 .room
+own-room Input l ws f = f .1 .room

@@ -1,14 +1,14 @@
 -- A stream's queue, its check and a card with another one, in the rules' terms.
-use mathlib.Core.Path.{_≡_, refl}
+use mathlib.Core.Path.{_≡_, refl, ap, _∙_}
 use mathlib.Core.List.{List}
 use mathlib.Core.Bool.{cond}
-use Prim.Native.Nat.{ℕ, zero, suc, _≤_}
+use Prim.Native.Nat.{ℕ, zero, suc, _≤_, _<_}
 use native.Mathlib.Nat.{sub-zero}
 use native.Mathlib.Omega.{arith}
-use lib.ListN.{length}
+use lib.ListN.{length, getD}
 use lib.Seq.{getD-set-same, getD-set-other}
 use Rattle.ring.specs.Rules.{checkOf}
-use Rattle.card.specs.Card.{noCounters}
+use Rattle.card.specs.Card.{noCounters, noStream}
 use Rattle.card.specs.declared.Card.{Card}
 use Rattle.card.specs.declared.Counters.{Counters}
 use Rattle.card.specs.declared.Message.{Message}
@@ -22,18 +22,23 @@ use Rattle.rules.specs.Device as rules
 use Rattle.rules.specs.Transfer.{begun, found}
 use Rattle.flow.specs.Flow.{runOf, freshFlow}
 use Rattle.flow.specs.declared.Flow.{Flow}
-use Rattle.stream.specs.Queue.{queueIn, countersIn, messageIn, wordsIn, withFlow}
+use Rattle.card.specs.declared.Parts.{Parts}
+use Rattle.live.specs.Live.{partsNow, streamAt, cardIn, Fits}
+use Rattle.live.specs.declared.Live.{Live}
+use Rattle.meaning.proofs.Streams.{stream-at, stream-past, rest-stream}
+use Rattle.registers.specs.declared.Config.{Config}
+use Rattle.stream.specs.Queue.{laidOut, countersIn, workIn, wordsIn, withFlow, messageIn, flowLive, cardWith}
 
 -- ---- where it is
 
 -- the queue as the guest laid it out
-pub virtqueue-in : (c : Card) (d : Direction) (latency : ℕ) → virtqueueIn (queueIn c d latency) ≡ virtqueueOf (restOf c) (directionOf d) latency
+pub virtqueue-in : (c : Card) (d : Direction) (latency : ℕ) → virtqueueIn (laidOut (c .registers) d latency) ≡ virtqueueOf (restOf c) (directionOf d) latency
 unfolding restOf
 virtqueue-in c d latency = refl
 
 -- the rules' queue is the card's counters and message
 pub queue-in : (c : Card) (d : Direction) → rules.queueFor (directionOf d) (deviceOf c)
-    ≡ queueOf (wordsIn c d) (countersIn c d) (messageIn c d)
+    ≡ queueOf (wordsIn c d) (countersIn c d) (workIn c d)
 unfolding deviceOf restOf
 queue-in c Output = refl
 queue-in c Input = refl
@@ -77,6 +82,40 @@ module _ (c : Card) (f : Flow) (ws : List ℕ) (four : length (c .queues) ≡ 4)
         getD-set-other (c .queues) 3 1 (f .counters) noCounters (λ e. omega arith),
         getD-set-other (c .queues) 3 2 (f .counters) noCounters (λ e. omega arith),
       )
+
+-- .. and the small state after it the card after it
+module _ (f : Flow) (ws′ : List ℕ) (l : Live) (p : Parts) (ws other : List ℕ) where
+  pub flowed-in : (d : Direction) → withFlow d f ws′ (cardWith d l p ws other) ≡ cardWith d (flowLive d f l) p ws′ other
+  flowed-in Output = refl
+  flowed-in Input = refl
+
+-- what of a card the queue of a direction is: its counters, its message, its words
+module _ (l : Live) (p : Parts) (ws other : List ℕ) where
+  pub with-live : (d : Direction) → let c = cardWith d l p ws other in
+      (c .registers ≡ l .registers) × (c .«ram_len» ≡ l .«ram_len») × (c .queues ≡ l .queues) × (workIn c d ≡ messageIn l d) × (wordsIn c d ≡ ws)
+  with-live Output = (refl, refl, refl, refl, refl)
+  with-live Input = (refl, refl, refl, refl, refl)
+
+-- ---- a stream
+
+-- of the card's streams the one at i is the one in the parts with what the small state says of it
+pub stream-now : (l : Live) (p : Parts) (i : ℕ) → i < 2 → getD (partsNow l p .streams) i noStream ≡ streamAt l p i
+stream-now l p zero h = refl
+stream-now l p (suc zero) h = refl
+stream-now l p (suc (suc i)) h = absurd (omega arith)
+
+module _ (l : Live) (p : Parts) (pw cw : List ℕ) (f : Fits l p pw cw) (i : ℕ) where
+  abbrev counted : l .config .streams ≡ p .«stream_count»
+  counted = ap (λ (c : Config). c .streams) (f .counts)
+
+  pub stream-there : i < l .config .streams → rules.streamAt (restOf (cardIn l p pw cw)) i ≡ streamAt l p i
+  stream-there h =
+      rest-stream (cardIn l p pw cw) i
+      ∙ stream-at (partsNow l p) i (omega (arith, counted))
+      ∙ stream-now l p i (omega (arith, counted, f .parts .streams))
+
+  pub stream-absent : l .config .streams ≤ i → rules.streamAt (restOf (cardIn l p pw cw)) i ≡ noStream
+  stream-absent h = rest-stream (cardIn l p pw cw) i ∙ stream-past (partsNow l p) i (omega (arith, counted))
 
 -- ---- the queue of a device
 

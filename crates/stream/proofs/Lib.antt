@@ -3,3 +3,5 @@ pub mod Laws
 pub mod Fits
 pub mod Outcomes
 pub mod Released
+pub mod Lent
+pub mod Held

@@ -1,2 +1,3 @@
 -- A stream's queue in the card, and what a RELEASE makes of it.
 pub mod Queue
+pub mod Held

@@ -1,14 +1,18 @@
--- A stream's queue in the card's struct and in the rules' device, and what emptying it leaves.
+-- A stream's queue in the card and in the rules' device, and what emptying it leaves.
 use mathlib.Core.Path.{_≡_}
+use mathlib.Core.Bool.{Bool}
 use mathlib.Core.List.{List}
 use Prim.Native.Nat.{ℕ}
 use lib.ListN.{length, getD, set}
 use Rattle.registers.specs.Rules.{hasBit}
 use Rattle.registers.specs.declared.Registers.{Registers}
-use Rattle.card.specs.Fit.{Fit}
+use Rattle.card.specs.Card as card
 use Rattle.card.specs.declared.Card.{Card}
 use Rattle.card.specs.declared.Counters.{Counters}
 use Rattle.card.specs.declared.Message.{Message}
+use Rattle.card.specs.declared.Parts.{Parts}
+use Rattle.live.specs.Live.{cardIn, FitLive, FitPlay, FitCapture, Fits}
+use Rattle.live.specs.declared.Live.{Live}
 use Rattle.meaning.specs.Card.{countersAt, restOf, deviceOf}
 use Rattle.message.specs.Message.{directionOf}
 use Rattle.message.specs.declared.Virtqueue.{Virtqueue}
@@ -17,42 +21,88 @@ use Rattle.message.specs.declared.Direction.the-variants.{Output, Input}
 use Rattle.rules.specs.Calls.{emptied, virtqueueOf}
 use Rattle.rules.specs.Counters.{countersOf}
 use Rattle.rules.specs.Device as rules
+use Rattle.ring.specs.declared.Stop.{Stop}
 use Rattle.flow.specs.declared.Flow.{Flow}
 use Rattle.stream.specs.declared.Emptied.{Emptied}
 
--- ---- in the card's struct
+-- ---- in the small state
+
+-- the queue of a stream as the guest laid it out, in a call whose statuses carry this latency
+abbrev pub laidOut : Registers → Direction → ℕ → Virtqueue
+laidOut g d latency =
+    record {
+      direction = d;
+      page = getD (g .pages) (rules.queueNumber (directionOf d)) (record { 0 = 0 });
+      indirect = hasBit (g .features) 28;
+      latency = latency;
+    }
+
+abbrev pub messageIn : Live → Direction → Message
+messageIn l Output = l .play
+messageIn l Input = l .capture
+
+-- after a flow on the queue of a direction
+abbrev pub flowLive : Direction → Flow → Live → Live
+flowLive Output f l =
+    record {
+      «ram_len» = l .«ram_len»;
+      registers = l .registers;
+      config = l .config;
+      queues = set (l .queues) 2 (f .counters);
+      play = f .message;
+      capture = l .capture;
+      states = l .states;
+      backlogs = l .backlogs;
+      fresh = l .fresh;
+    }
+flowLive Input f l =
+    record {
+      «ram_len» = l .«ram_len»;
+      registers = l .registers;
+      config = l .config;
+      queues = set (l .queues) 3 (f .counters);
+      play = l .play;
+      capture = f .message;
+      states = l .states;
+      backlogs = l .backlogs;
+      fresh = l .fresh;
+    }
+
+-- the card with these words of the direction's chain, and those of the other's
+abbrev pub cardWith : Direction → Live → Parts → List ℕ → List ℕ → Card
+cardWith Output l p ws other = cardIn l p ws other
+cardWith Input l p ws other = cardIn l p other ws
+
+abbrev pub FitsWith : Direction → Live → Parts → List ℕ → List ℕ → Type 0
+FitsWith Output l p ws other = Fits l p ws other
+FitsWith Input l p ws other = Fits l p other ws
+
+-- what of it the direction's queue needs
+abbrev pub FitWords : Direction → Live → List ℕ → Type 0
+FitWords Output l ws = FitPlay l ws
+FitWords Input l ws = FitCapture l ws
+
+abbrev pub FitOwn : Direction → Live → List ℕ → Type 0
+FitOwn d l ws = FitLive l × FitWords d l ws
+
+-- the backlog that a stream remembers, in every card with this small state
+abbrev pub Remembers : Live → ℕ → ℕ → Type 0
+Remembers l id backlog =
+    (p : Parts) (pw cw : List ℕ) → Fits l p pw cw → backlog ≡ rules.streamAt (restOf (cardIn l p pw cw)) id .backlog
+
+-- ---- in the card
 
 -- a card with other registers
 abbrev pub withRegisters : Registers → Card → Card
-withRegisters v c =
-    record {
-      «ram_len» = c .«ram_len»;
-      registers = v;
-      queues = c .queues;
-      play = c .play;
-      capture = c .capture;
-      parts = c .parts;
-      «play_words» = c .«play_words»;
-      «capture_words» = c .«capture_words»;
-    }
-
--- the queue of a stream as the guest laid it out, in a call whose statuses carry this latency
-abbrev pub queueIn : Card → Direction → ℕ → Virtqueue
-queueIn c d latency =
-    record {
-      direction = d;
-      page = getD (c .registers .pages) (rules.queueNumber (directionOf d)) (record { 0 = 0 });
-      indirect = hasBit (c .registers .features) 28;
-      latency = latency;
-    }
+withRegisters v c = card.withRegisters c v
 
 -- its counters, its message in work and the words of its chain
 abbrev pub countersIn : Card → Direction → Counters
 countersIn c d = countersAt c (rules.queueNumber (directionOf d))
 
-abbrev pub messageIn : Card → Direction → Message
-messageIn c Output = c .play
-messageIn c Input = c .capture
+abbrev pub workIn : Card → Direction → Message
+workIn c Output = c .play
+workIn c Input = c .capture
 
 abbrev pub wordsIn : Card → Direction → List ℕ
 wordsIn c Output = c .«play_words»
@@ -83,16 +133,24 @@ withFlow Input f ws c =
       «capture_words» = ws;
     }
 
--- ---- a queue emptied, with statuses of this latency: the card and memory before, memory and the card after
+-- ---- a queue emptied, with statuses of this latency: the card and memory before; memory, where the queue stands, an interrupt wanted
+-- and the card after
 
-pub record Empties (d : rules.Direction) (latency : ℕ) (c : Card) (m m′ : List ℕ) (r : Emptied) : Type 0 where
+pub record Empties (d : rules.Direction) (latency : ℕ) (c : Card) (m m′ : List ℕ) (stop : Stop) (signal : Bool) (n : Card) : Type 0 where
   -- queue, memory, stop and signal are the rules'
   pub run : emptied (countersOf d) (virtqueueOf (restOf c) d latency) (rules.queueFor d (deviceOf c)) m
-      ≡ record { queue = rules.queueFor d (deviceOf (r .card)); mem = m′; stop = r .stop; signal = r .signal }
+      ≡ record { queue = rules.queueFor d (deviceOf n); mem = m′; stop = stop; signal = signal }
   -- the card is as it was but for that queue
-  pub device : deviceOf (r .card) ≡ rules.withQueue d (restOf c) (rules.queueFor d (deviceOf (r .card))) (deviceOf c)
-  pub ram : r .card .«ram_len» ≡ c .«ram_len»
-  pub registers : r .card .registers ≡ c .registers
-  pub parts : r .card .parts ≡ c .parts
-  pub fit : Fit (r .card)
+  pub device : deviceOf n ≡ rules.withQueue d (restOf c) (rules.queueFor d (deviceOf n)) (deviceOf c)
+  pub ram : n .«ram_len» ≡ c .«ram_len»
+  pub registers : n .registers ≡ c .registers
+  pub parts : n .parts ≡ c .parts
   pub long : length m′ ≡ length m
+
+-- .. of every card with this small state and these words, whatever its parts and the other queue's words are
+abbrev pub EmptiesOn : Direction → ℕ → Live → List ℕ → List ℕ → List ℕ → List ℕ → Emptied → Type 0
+EmptiesOn d latency l ws m ws′ m′ r =
+    (p : Parts) (other : List ℕ)
+    → FitsWith d l p ws other
+    → Empties (directionOf d) latency (cardWith d l p ws other) m m′ (r .stop) (r .signal) (cardWith d (r .live) p ws′ other)
+    × FitsWith d (r .live) p ws′ other

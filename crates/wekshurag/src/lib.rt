@@ -1,17 +1,19 @@
-// The card for a monitor in C: the card's entries, over a card that the monitor keeps and lends. The header
-// is include/wekshurag.h. An entry copies the card out of its borrow, calls the entry of the card that
-// it is named after, and stores the next card; its contract is that entry's, whole.
+// The card for a monitor in C: the card's entries, over pieces of a card that the monitor keeps and lends
+// (`live`). The header is include/wekshurag.h, whose functions only pass the pieces' addresses. An entry
+// copies the struct out of its borrow, calls the entry of the card that it is named after, and stores the
+// next; its contract is that entry's, whole.
 ghost use mathlib.Core.Path.{_≡_};
-ghost use mathlib.Core.List.{[]};
-ghost use lib.ListN.{take};
-ghost use Rattle.card.specs.Fit.{Fit};
-ghost use Rattle.card.specs.Rules.{poweredOf, readCard, writeCard};
-ghost use Rattle.meaning.specs.Card.{stepOf, leaves};
+ghost use Rattle.event.specs.Event.{FitAside};
+ghost use Rattle.live.specs.Live.{readLive, writeLive, poweredBoard, FitLive, Fits, Ready};
+ghost use Rattle.message.specs.declared.Direction.{Direction};
+ghost use Rattle.entries.specs.Entries.{ControlsOn, EventsOn};
+ghost use Rattle.pcm.specs.Entry.{TransfersOn};
 ghost use Rattle.registers.specs.Rules.{raised};
-ghost use Rattle.rules.specs.Calls.{Request, Event};
-ghost use Rattle.wekshurag.specs.Told.{told};
-use card::Card;
+ghost use Rattle.stream.specs.Queue.{FitOwn};
+ghost use Rattle.wekshurag.specs.Told.{told, toldBoard};
 use description::Description;
+use live::Board;
+use live::Live;
 
 // What a register read answers.
 #[repr(C)]
@@ -36,41 +38,42 @@ pub struct CallResult {
     pub count: usize,
 }
 
-// Power-up: the card with `ram_len` bytes of memory; beside answer 10, one with no part.
+// Power-up: the card with `ram_len` bytes of memory; beside answer 10, one with no part. The words of its chains
+// may hold anything.
 #[no_mangle]
-pub extern "C" fn wekshurag_power_up(
-    card: &mut Card,
+pub extern "C" fn wekshurag_card_power_up(
+    board: &mut Board,
     description: &Description,
     ram_len: usize,
 ) -> u8
-    ensures { λ r. ⌜ (record { answer = r; card = now (card .exit) } ≡ poweredOf (now (description .entry)) «ram_len»)
-        × Fit (now (card .exit)) ⌝ }
+    ensures { λ r. ⌜ (record { answer = r; board = now (board .exit) } ≡ poweredBoard (now (description .entry)) «ram_len»)
+        × Ready (now (board .exit)) ⌝ }
 {
     let described = *description;
-    let powered = card::power_up(described, ram_len);
-    *card = powered.card;
+    let powered = live::power_up(described, ram_len);
+    *board = powered.board;
     powered.answer
 }
 
 // Whether the interrupt line is raised.
 #[no_mangle]
-pub extern "C" fn wekshurag_interrupt_line(card: &Card) -> bool
-    ensures { λ r. ⌜ r ≡ raised (now (card .entry) .registers) ⌝ }
+pub extern "C" fn wekshurag_card_interrupt_line(live: &Live) -> bool
+    ensures { λ r. ⌜ r ≡ raised (now (live .entry) .registers) ⌝ }
 {
-    let before = *card;
-    card::interrupt_line(before)
+    let before = *live;
+    live::line(before)
 }
 
 // A read of `width` bytes of the registers at `offset`.
 #[no_mangle]
-pub extern "C" fn wekshurag_read(card: &mut Card, offset: u64, width: u64) -> ReadResult
-    requires { ⌜ Fit (now card) ⌝ }
-    ensures { λ r. ⌜ (record { answer = r .answer; value = r .value; card = now (card .exit) } ≡ readCard (now (card .entry)) offset width)
-        × Fit (now (card .exit)) ⌝ }
+pub extern "C" fn wekshurag_card_read(live: &mut Live, offset: u64, width: u64) -> ReadResult
+    requires { ⌜ FitLive (now live) ⌝ }
+    ensures { λ r. ⌜ (record { answer = r .answer; value = r .value; live = now (live .exit) } ≡ readLive (now (live .entry)) offset width)
+        × FitLive (now (live .exit)) ⌝ }
 {
-    let before = *card;
-    let after = card::read_register(before, offset, width);
-    *card = after.card;
+    let before = *live;
+    let after = live::read(before, offset, width);
+    *live = after.live;
     ReadResult {
         answer: after.answer,
         value: after.value,
@@ -79,20 +82,20 @@ pub extern "C" fn wekshurag_read(card: &mut Card, offset: u64, width: u64) -> Re
 
 // A write of `value`, `width` bytes wide, to the registers at `offset`.
 #[no_mangle]
-pub extern "C" fn wekshurag_write(
-    card: &mut Card,
+pub extern "C" fn wekshurag_card_write(
+    live: &mut Live,
     offset: u64,
     width: u64,
     value: u64,
 ) -> WriteResult
-    requires { ⌜ Fit (now card) ⌝ }
-    ensures { λ r. ⌜ (record { answer = r .answer; rung = r .rung; card = now (card .exit) }
-        ≡ writeCard (now (card .entry)) offset width value)
-        × Fit (now (card .exit)) ⌝ }
+    requires { ⌜ FitLive (now live) ⌝ }
+    ensures { λ r. ⌜ (record { answer = r .answer; rung = r .rung; live = now (live .exit) }
+        ≡ writeLive (now (live .entry)) offset width value)
+        × FitLive (now (live .exit)) ⌝ }
 {
-    let before = *card;
-    let after = card::write_register(before, offset, width, value);
-    *card = after.card;
+    let before = *live;
+    let after = live::write(before, offset, width, value);
+    *live = after.live;
     WriteResult {
         answer: after.answer,
         rung: after.rung,
@@ -101,15 +104,19 @@ pub extern "C" fn wekshurag_write(
 
 // The control call: one message of the control queue.
 #[no_mangle]
-pub extern "C" fn wekshurag_control(card: &mut Card, ram: &mut [u8]) -> CallResult
-    requires { ⌜ Fit (now card) ⌝ }
-    ensures { λ r. ⌜ (stepOf (now (card .entry)) Request.Control (now (ram .entry))
-        ≡ leaves (now (card .exit)) (told r) (r .count) [] [] (now (ram .exit)))
-        × Fit (now (card .exit)) ⌝ }
+pub extern "C" fn wekshurag_card_control(
+    board: &mut Board,
+    play_words: &mut [u64],
+    capture_words: &mut [u64],
+    ram: &mut [u8],
+) -> CallResult
+    requires { ⌜ Fits (now board .live) (now board .parts) (now «play_words») (now «capture_words») ⌝ }
+    ensures { λ r. ⌜ ControlsOn (now (board .entry)) (now («play_words» .entry)) (now («capture_words» .entry)) (now (ram .entry))
+        (now («play_words» .exit)) (now («capture_words» .exit)) (now (ram .exit)) (toldBoard r (now (board .exit))) ⌝ }
 {
-    let before = *card;
-    let after = entries::control(before, ram);
-    *card = after.card;
+    let before = *board;
+    let after = entries::control(before, play_words, capture_words, ram);
+    *board = after.board;
     CallResult {
         answer: after.answer,
         queue: after.queue,
@@ -119,20 +126,20 @@ pub extern "C" fn wekshurag_control(card: &mut Card, ram: &mut [u8]) -> CallResu
 
 // The play call: payload of the play queue handed to the host buffer. The backlog is the host's, in bytes.
 #[no_mangle]
-pub extern "C" fn wekshurag_play(
-    card: &mut Card,
+pub extern "C" fn wekshurag_card_play(
+    live: &mut Live,
+    words: &mut [u64],
     ram: &mut [u8],
     host: &mut [u8],
     backlog: u32,
 ) -> CallResult
-    requires { ⌜ Fit (now card) ⌝ }
-    ensures { λ r. ⌜ (stepOf (now (card .entry)) (Request.Play (now (host .entry)) backlog) (now (ram .entry))
-        ≡ leaves (now (card .exit)) (told r) (r .count) (take (r .count) (now (host .exit))) (now (host .exit)) (now (ram .exit)))
-        × Fit (now (card .exit)) ⌝ }
+    requires { ⌜ FitOwn Direction.Output (now live) (now words) ⌝ }
+    ensures { λ r. ⌜ TransfersOn Direction.Output backlog (now (live .entry)) (now (words .entry)) (now (ram .entry)) (now (host .entry))
+        (now (words .exit)) (now (ram .exit)) (now (host .exit)) (told r (now (live .exit))) ⌝ }
 {
-    let before = *card;
-    let after = entries::play(before, ram, host, backlog);
-    *card = after.card;
+    let before = *live;
+    let after = entries::play(before, words, ram, host, backlog);
+    *live = after.live;
     CallResult {
         answer: after.answer,
         queue: after.queue,
@@ -142,20 +149,20 @@ pub extern "C" fn wekshurag_play(
 
 // The capture call: host bytes recorded into the payload of the capture queue.
 #[no_mangle]
-pub extern "C" fn wekshurag_capture(
-    card: &mut Card,
+pub extern "C" fn wekshurag_card_capture(
+    live: &mut Live,
+    words: &mut [u64],
     ram: &mut [u8],
     host: &[u8],
     backlog: u32,
 ) -> CallResult
-    requires { ⌜ Fit (now card) ⌝ }
-    ensures { λ r. ⌜ (stepOf (now (card .entry)) (Request.Capture (now (host .entry)) backlog) (now (ram .entry))
-        ≡ leaves (now (card .exit)) (told r) (r .count) (take (r .count) (now (host .entry))) [] (now (ram .exit)))
-        × Fit (now (card .exit)) ⌝ }
+    requires { ⌜ FitOwn Direction.Input (now live) (now words) ⌝ }
+    ensures { λ r. ⌜ TransfersOn Direction.Input backlog (now (live .entry)) (now (words .entry)) (now (ram .entry)) (now (host .entry))
+        (now (words .exit)) (now (ram .exit)) (now (host .entry)) (told r (now (live .exit))) ⌝ }
 {
-    let before = *card;
-    let after = entries::capture(before, ram, host, backlog);
-    *card = after.card;
+    let before = *live;
+    let after = entries::capture(before, words, ram, host, backlog);
+    *live = after.live;
     CallResult {
         answer: after.answer,
         queue: after.queue,
@@ -165,20 +172,18 @@ pub extern "C" fn wekshurag_capture(
 
 // The event call: the guest is told of an event with this code and data. It counts 0.
 #[no_mangle]
-pub extern "C" fn wekshurag_event(
-    card: &mut Card,
+pub extern "C" fn wekshurag_card_event(
+    board: &mut Board,
     ram: &mut [u8],
     code: u32,
     data: u32,
 ) -> CallResult
-    requires { ⌜ Fit (now card) ⌝ }
-    ensures { λ r. ⌜ (stepOf (now (card .entry)) (Event code «data») (now (ram .entry))
-        ≡ leaves (now (card .exit)) (told r) (r .count) [] [] (now (ram .exit)))
-        × Fit (now (card .exit)) ⌝ }
+    requires { ⌜ FitAside (now board .live) (now board .parts) ⌝ }
+    ensures { λ r. ⌜ EventsOn (now (board .entry)) code «data» (now (ram .entry)) (now (ram .exit)) (toldBoard r (now (board .exit))) ⌝ }
 {
-    let before = *card;
+    let before = *board;
     let after = entries::event(before, ram, code, data);
-    *card = after.card;
+    *board = after.board;
     CallResult {
         answer: after.answer,
         queue: after.queue,

@@ -125,7 +125,7 @@ same-length-6 c = search needs
 returns-6 : tie.Need-returns-6
 returns-6 c =
     let e = c .before .before .before .event in
-    let o : c .queue-outcome4 .result ≡ queueOutcome (e .result .answer) 0 (e .result .card) = c .queue-outcome4 .ensures in
+    let o : c .queue-outcome4 .result ≡ queueOutcome (e .result .answer) (e .result .count) (e .result .card) = c .queue-outcome4 .ensures in
     rw (c .before .before .before .before .before .before .request5 .given .1, o) (record { says = e .ensures .0; fit = e .ensures .1 }, refl)
 
 pub call-spec : {M : Type 1} → statement M

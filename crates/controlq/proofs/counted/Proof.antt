@@ -1,10 +1,10 @@
--- The counter and the signal are put into the card.
+-- The counter and the signal are put into the small state.
 use borrow.Author.Needs.{needs}
 use Rattle.controlq.proofs.counted.Statement.{statement}
 use Rattle.controlq.proofs.counted.Tie as tie
 
-element-copy-out-counters : tie.Need-element-copy-out-counters
-element-copy-out-counters c = search needs
+array-copy-out-counters : tie.Need-array-copy-out-counters
+array-copy-out-counters c = search needs
 
 signal-if-requires : tie.Need-signal-if-requires
 signal-if-requires c κs = search needs
@@ -17,5 +17,4 @@ returns c = rw (c .signal-if .ensures)
 
 pub counted-spec : {M : Type 1} → statement M
 counted-spec =
-    tie.close
-    (tie.spec element-copy-out-counters signal-if-requires element-set-from-after returns)
+    tie.close (tie.spec array-copy-out-counters signal-if-requires element-set-from-after returns)

@@ -1,10 +1,10 @@
--- The counter is put into the card.
+-- The counter is put into the small state.
 use borrow.Author.Needs.{needs}
 use Rattle.controlq.proofs.take_one.Statement.{statement}
 use Rattle.controlq.proofs.take_one.Tie as tie
 
-element-copy-out-counters : tie.Need-element-copy-out-counters
-element-copy-out-counters c = search needs
+array-copy-out-counters : tie.Need-array-copy-out-counters
+array-copy-out-counters c = search needs
 
 wrapping-add-u16-requires : tie.Need-wrapping-add-u16-requires
 wrapping-add-u16-requires c κs = search needs
@@ -18,4 +18,4 @@ returns c = rw (c .wrapping-add-u16 .ensures)
 pub take-one-spec : {M : Type 1} → statement M
 take-one-spec =
     tie.close
-    (tie.spec element-copy-out-counters wrapping-add-u16-requires element-set-from-after returns)
+    (tie.spec array-copy-out-counters wrapping-add-u16-requires element-set-from-after returns)

@@ -1,40 +1,39 @@
--- An allowed event of a jack names one that is there; an XRUN records nothing.
-use mathlib.Core.Path.{refl}
-use borrow.Author.Tests.{ne-eqb}
-use Rattle.meaning.specs.Card.{restOf, deviceOf}
-use Rattle.rules.specs.Calls.{recorded}
-use Rattle.event.proofs.Cards.{allowed-jack, recorded-jack}
+-- An event that is no XRUN names a jack of the parts.
+use native.Mathlib.Omega.{arith}
+use borrow.Author.Tests.{eq-eqb, ne-eqb}
+use borrow.Author.Needs.{needs}
 use Rattle.event.proofs.record_state.Statement.{statement}
 use Rattle.event.proofs.record_state.Tie as tie
 
-connect-requires : tie.Need-connect-requires
-connect-requires c κs =
-    let s = c .before in (s .pre .0, allowed-jack (restOf (s .args .card)) (s .args .code) (s .args .«data») (rw (c .match .keys1)) (s .pre .1))
-
-connect-requires-2 : tie.Need-connect-requires-2
-connect-requires-2 c κs =
-    let s = c .before in (s .pre .0, allowed-jack (restOf (s .args .card)) (s .args .code) (s .args .«data») (rw (c .match .keys2)) (s .pre .1))
-
 returns : tie.Need-returns
-unfolding recorded
-returns c =
-    let s = c .before .before in
-    let a = s .args in
-    rw (c .connect .ensures)
-    (recorded-jack (a .card) (s .pre .0) (a .code) (a .«data») 1 (rw (c .before .match .keys1)) (s .pre .1) (rw (c .before .match .keys1)))
+returns c = rw (eq-eqb _ _ (c .if1 .taken))
+
+connection-requires : tie.Need-connection-requires
+connection-requires c κs = search needs
+
+mul-changed : tie.Need-mul-changed
+mul-changed c = search needs
+
+element-copy-out-changed : tie.Need-element-copy-out-changed
+element-copy-out-changed c = let e = c .before in omega (arith, e .before .pre (ne-eqb _ _ (e .if1 .left)))
+
+mul-changed-2 : tie.Need-mul-changed-2
+mul-changed-2 c = search needs
+
+element-set-from-changed : tie.Need-element-set-from-changed
+element-set-from-changed c = let e = c .before .before in omega (arith, e .before .pre (ne-eqb _ _ (e .if1 .left)))
 
 returns-2 : tie.Need-returns-2
-unfolding recorded
-returns-2 c =
-    let s = c .before .before in
-    let a = s .args in
-    rw (c .connect2 .ensures)
-    (recorded-jack (a .card) (s .pre .0) (a .code) (a .«data») 0 (rw (c .before .match .keys2)) (s .pre .1) (rw (c .before .match .keys2)))
-
-returns-3 : tie.Need-returns-3
-unfolding recorded deviceOf
-returns-3 c = rw (ne-eqb _ _ (c .match .rest .0 .1), ne-eqb _ _ (c .match .rest .1)) (refl, c .before .pre .0)
+returns-2 c = rw (c .before .connection .ensures, ne-eqb _ _ (c .before .before .if1 .left))
 
 pub record-state-spec : {M : Type 1} → statement M
 record-state-spec =
-    tie.close (tie.spec connect-requires connect-requires-2 returns returns-2 returns-3)
+    tie.close
+    (tie.spec
+    returns
+    connection-requires
+    mul-changed
+    element-copy-out-changed
+    mul-changed-2
+    element-set-from-changed
+    returns-2)

@@ -1,4 +1,4 @@
--- The card as it was.
+-- The pieces as they were.
 use borrow.Author.Needs.{needs}
 use Rattle.event.proofs.refused.Statement.{statement}
 use Rattle.event.proofs.refused.Tie as tie

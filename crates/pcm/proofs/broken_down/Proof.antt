@@ -1,4 +1,4 @@
--- Only the registers change.
+-- NEEDS_RESET and ISR bit 1, and the answer names the queue.
 use borrow.Author.Needs.{needs}
 use Rattle.pcm.proofs.broken_down.Statement.{statement}
 use Rattle.pcm.proofs.broken_down.Tie as tie

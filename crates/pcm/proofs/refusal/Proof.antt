@@ -1,35 +1,75 @@
 -- The tests stand in the definition's order.
-use mathlib.Core.Path.{_∙_, sym}
-use borrow.Author.Needs.{needs}
+use mathlib.Core.Path.{_≡_, _∙_, refl, sym}
+use mathlib.Core.Bool.{Bool, true, false, cond}
+use mathlib.Core.List.{List}
+use Prim.Native.Nat.{ℕ}
+use native.Mathlib.Omega.{arith}
 use borrow.Author.Tests.{eq-eqb, ne-eqb, not-true, not-false}
+use lib.Dec.{eqb}
+use lib.ListN.{length}
+use Rattle.registers.specs.Answers.{done, lengthDiffers, notLive, notRunning}
+use Rattle.registers.specs.Rules.{live}
+use Rattle.live.specs.Live.{cardIn}
 use Rattle.meaning.specs.Card.{restOf}
+use Rattle.rules.specs.Calls.{isRunning}
+use Rattle.card.specs.declared.Card.{Card}
 use Rattle.pcm.specs.Entry.{refusalOf}
+use borrow.Author.Needs.{needs}
 use Rattle.pcm.proofs.refusal.Statement.{statement}
 use Rattle.pcm.proofs.refusal.Tie as tie
 
-returns : tie.Need-returns
+-- the answer by the three tests
+by-tests : (c : Card) (m : List ℕ) (len id : ℕ) (x y z : Bool) → length m ≡ len → eqb len (c .«ram_len») ≡ x → live (c .registers) ≡ y
+    → isRunning (restOf c) id ≡ z → cond x (cond y (cond z done notRunning) notLive) lengthDiffers ≡ refusalOf (restOf c) m id
 unfolding refusalOf restOf
-returns c = rw (ne-eqb _ _ (c .if1 .taken))
+by-tests c m len id x y z l e f g = rw (l, e, f, g)
+
+returns : tie.Need-returns
+returns c =
+    let a = c .before .before .args in (
+      λ p pw cw m f l. by-tests (cardIn (a .live) p pw cw) m (a .len) (a .id) false _ _ l (ne-eqb _ _ (c .if1 .taken)) refl refl,
+      λ e. absurd (omega (arith, e)),
+    )
 
 is-live-requires : tie.Need-is-live-requires
 is-live-requires c κs = search needs
 
 returns-2 : tie.Need-returns-2
-unfolding refusalOf restOf
-returns-2 c = rw (eq-eqb _ _ (c .before .before .before .if1 .left), sym (c .before .is-live .ensures) ∙ not-true _ (c .if2 .taken))
+returns-2 c =
+    let tested = c .before .before .before in
+    let a = tested .before .before .args in (
+      λ p pw cw m f l.
+          by-tests (cardIn (a .live) p pw cw) m (a .len) (a .id) true false _ l (eq-eqb _ _ (tested .if1 .left))
+          (sym (c .before .is-live .ensures) ∙ not-true _ (c .if2 .taken)) refl,
+      λ e. absurd (omega (arith, e)),
+    )
 
 is-running-requires : tie.Need-is-running-requires
 is-running-requires c κs = search needs
 
 returns-3 : tie.Need-returns-3
-unfolding refusalOf restOf
 returns-3 c =
-    rw (eq-eqb _ _ (c .before .before .before .before .before .if1 .left), sym (c .before .before .before .is-live .ensures) ∙ not-false _ (c .before .before .if2 .left), sym (c .before .is-running .ensures) ∙ c .if3 .taken)
+    let lives = c .before .before in
+    let tested = lives .before .before .before in
+    let a = tested .before .before .args in (
+      λ p pw cw m f l.
+          by-tests (cardIn (a .live) p pw cw) m (a .len) (a .id) true true true l (eq-eqb _ _ (tested .if1 .left))
+          (sym (lives .before .is-live .ensures) ∙ not-false _ (lives .if2 .left))
+          (sym (c .before .is-running .ensures p pw cw f) ∙ c .if3 .taken),
+      λ e. tested .if1 .left,
+    )
 
 returns-4 : tie.Need-returns-4
-unfolding refusalOf restOf
 returns-4 c =
-    rw (eq-eqb _ _ (c .before .before .before .before .before .if1 .left), sym (c .before .before .before .is-live .ensures) ∙ not-false _ (c .before .before .if2 .left), sym (c .before .is-running .ensures) ∙ c .if3 .left)
+    let lives = c .before .before in
+    let tested = lives .before .before .before in
+    let a = tested .before .before .args in (
+      λ p pw cw m f l.
+          by-tests (cardIn (a .live) p pw cw) m (a .len) (a .id) true true false l (eq-eqb _ _ (tested .if1 .left))
+          (sym (lives .before .is-live .ensures) ∙ not-false _ (lives .if2 .left))
+          (sym (c .before .is-running .ensures p pw cw f) ∙ c .if3 .left),
+      λ e. tested .if1 .left,
+    )
 
 pub refusal-spec : {M : Type 1} → statement M
 refusal-spec =

@@ -1,4 +1,4 @@
--- The card as it was.
+-- Nothing but the answer.
 use borrow.Author.Needs.{needs}
 use Rattle.pcm.proofs.untouched.Statement.{statement}
 use Rattle.pcm.proofs.untouched.Tie as tie

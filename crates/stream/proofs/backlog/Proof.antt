@@ -1,40 +1,38 @@
 -- Past the count there is no stream; below it the stream's own word is read.
-use mathlib.Core.Path.{_≡_, _∙_, sym, ap}
-use Prim.Native.Nat.{ℕ, _≤_}
+use mathlib.Core.Path.{_≡_, sym, ap}
+use Prim.Native.Nat.{ℕ}
 use native.Mathlib.Omega.{arith}
-use borrow.Author.Needs.{needs}
-use Rattle.card.specs.declared.Card.{Card}
 use Rattle.card.specs.declared.Stream.{Stream}
-use Rattle.meaning.specs.Card.{restOf}
-use Rattle.meaning.proofs.Streams.{stream-at, stream-past, rest-stream}
-use Rattle.rules.specs.Device.{streamAt}
+use Rattle.registers.specs.declared.Config.{Config}
+use Rattle.stream.proofs.Laws.{stream-there, stream-absent}
+use borrow.Author.Needs.{needs}
 use Rattle.stream.proofs.backlog.Statement.{statement}
 use Rattle.stream.proofs.backlog.Tie as tie
 
 abbrev word : Stream → ℕ
 word s = s .backlog
 
-absent : (c : Card) (i : ℕ) → c .parts .«stream_count» ≤ i → streamAt (restOf c) i .backlog ≡ 0
-absent c i h = ap word (rest-stream c i ∙ stream-past (c .parts) i h)
-
 returns : tie.Need-returns
-returns c =
-    let s = c .before .before in
-    sym (absent (s .args .card) (s .args .id) (omega (arith, s .pre .parts .streams)))
+returns c p pw cw f =
+    let a = c .before .args in
+    let counted : a .live .config .streams ≡ p .«stream_count» = ap (λ (k : Config). k .streams) (f .counts) in
+    sym (ap word (stream-absent (a .live) p pw cw f (a .id) (omega (arith, counted, f .parts .streams, c .if1 .taken))))
 
 returns-2 : tie.Need-returns-2
-returns-2 c = let s = c .before .before .before .before in sym (absent (s .args .card) (s .args .id) (c .if2 .taken))
+returns-2 c p pw cw f =
+    let a = c .before .before .before .before .args in
+    sym (ap word (stream-absent (a .live) p pw cw f (a .id) (c .if2 .taken)))
 
-mul-stream : tie.Need-mul-stream
-mul-stream c = search needs
+mul-result : tie.Need-mul-result
+mul-result c = search needs
 
-array-copy-out-stream : tie.Need-array-copy-out-stream
-array-copy-out-stream c = search needs
+array-read-result : tie.Need-array-read-result
+array-read-result c = search needs
 
 returns-3 : tie.Need-returns-3
-returns-3 c =
-    let s = c .before .before .before .before .before .before in
-    sym (ap word (rest-stream (s .args .card) (s .args .id) ∙ stream-at (s .args .card .parts) (s .args .id) (c .before .before .if2 .left)))
+returns-3 c p pw cw f =
+    let a = c .before .before .before .before .before .args in
+    sym (ap word (stream-there (a .live) p pw cw f (a .id) (c .before .if2 .left)))
 
 pub backlog-spec : {M : Type 1} → statement M
-backlog-spec = tie.close (tie.spec returns returns-2 mul-stream array-copy-out-stream returns-3)
+backlog-spec = tie.close (tie.spec returns returns-2 mul-result array-read-result returns-3)

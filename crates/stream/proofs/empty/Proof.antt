@@ -1,32 +1,26 @@
 -- The queue's check decides: nothing pending, broken, or its entries given up.
-use mathlib.Core.Path.{_≡_, _∙_, sym, ap}
+use mathlib.Core.Path.{_≡_, _∙_, sym}
 use native.Mathlib.Omega.{arith}
+use Rattle.stream.proofs.Fits.{own-message, own-room}
+use Rattle.stream.proofs.Lent.{checkLive, ReleasesLive, lent-idle, lent-broken, lent-new}
 use borrow.Author.Needs.{needs}
-use lib.ListN.{length}
-use Rattle.meaning.specs.Card.{restOf}
-use Rattle.stream.proofs.Fits.{queue-fit}
-use Rattle.stream.proofs.Laws.{virtqueue-in}
-use Rattle.stream.proofs.Outcomes.{checked, empties-idle, empties-broken, empties-new}
 use Rattle.stream.proofs.empty.Statement.{statement}
 use Rattle.stream.proofs.empty.Tie as tie
 
--- where the function starts
-abbrev start : tie.After-check-queue → tie.Start
-start c =
-    let back6 = c .before .before .before .before .before .before in
-    back6 .before
+-- where the queue is laid out, and where the function starts
+abbrev laid : tie.After-check-queue → tie.After-virtqueue
+laid c = c .before .before .before .before .before
+
+abbrev start : tie.After-virtqueue → tie.Start
+start c = c .before .before .before .before
 
 -- the code's check is the rules'
-checks : (c : tie.After-check-queue)
-    → let s = start c in c .check-queue .result ≡ checked (s .args .card) (s .args .direction) (s .args .latency) (s .args .m .now) (s .pre .0)
-unfolding restOf
+checks : (c : tie.After-check-queue) → let a = start (laid c) .args in
+    c .check-queue .result ≡ checkLive (a .live) (a .latency) (a .m .now) (a .words .now) (a .direction)
 checks c =
-    rw (
-      c .before .before .queue-size .ensures,
-      c .before .before .before .message-of .ensures,
-      c .before .before .before .before .counters-of .ensures,
-      c .before .before .before .before .before .virtqueue .ensures,
-    ) at (c .check-queue .ensures)
+    let sized = c .before .before in
+    rw (sized .queue-size .ensures, sized .before .message-of .ensures, sized .before .before .counters-of .ensures, laid c .virtqueue .ensures)
+    at (c .check-queue .ensures)
 
 virtqueue-requires : tie.Need-virtqueue-requires
 virtqueue-requires c κs = search needs
@@ -54,12 +48,11 @@ enum-known-new c = search needs
 
 release-requires : tie.Need-release-requires
 release-requires c κs =
-    let back6 = c .before .before .before .before .before .before in
-    let back12 = back6 .before .before .before .before .before .before in
-    let s = back12 .before in
-    let f = queue-fit (s .args .card) (s .args .direction) (s .pre .0) in (
-      rw (back6 .before .before .before .message-of .ensures, c .before .before .words-of .ensures, s .pre .1) (f .message),
-      rw (c .before .before .words-of .ensures) (omega (arith, f .room)),
+    let k = c .before .before .before .before .before in
+    let s = start (laid k) in
+    let message = k .before .before .before in (
+      rw (message .message-of .ensures, s .pre .1) (own-message (s .args .direction) (s .args .live) (s .args .words .now) (s .pre .0)),
+      omega (arith, own-room (s .args .direction) (s .args .live) (s .args .words .now) (s .pre .0)),
     )
 
 with-flow-requires : tie.Need-with-flow-requires
@@ -69,53 +62,46 @@ same-length : tie.Need-same-length
 same-length c = search needs
 
 returns : tie.Need-returns
-returns c =
+returns c p other f =
     let k = c .before .before in
-    let s = start k in
-    empties-idle (s .args .card) (s .args .direction) (s .args .latency) (s .args .m .now) (s .pre .0) (sym (checks k) ∙ c .enum-told .given .1)
+    let a = start (laid k) .args in
+    lent-idle (a .live) (a .latency) (a .m .now) (a .words .now) p other (a .direction) f (sym (checks k) ∙ c .enum-told .given .1)
 
 same-length-2 : tie.Need-same-length-2
 same-length-2 c = search needs
 
 returns-2 : tie.Need-returns-2
-returns-2 c =
+returns-2 c p other f =
     let k = c .before .before .before in
-    let s = start k in
-    empties-broken (s .args .card) (s .args .direction) (s .args .latency) (s .args .m .now) (s .pre .0) _ (sym (checks k) ∙ c .before .cause .given .1)
+    let a = start (laid k) .args in
+    lent-broken (a .live) (a .latency) (a .m .now) (a .words .now) p other (a .direction) f _ (sym (checks k) ∙ c .before .cause .given .1)
 
 same-length-3 : tie.Need-same-length-3
 same-length-3 c = search needs
 
+same-length-4 : tie.Need-same-length-4
+same-length-4 c = search needs
+
+-- the flow that the Release makes
+released : (c : tie.After-release) → let k = c .before .before .before .before .before .before in let a = start (laid k) .args in
+    ReleasesLive (a .live) (a .latency) (a .m .now) (a .words .now) (a .direction) (c .before .before .before .before .new .given .0 .0)
+    (c .release .last .1 .0) (c .release .last .0) (c .release .result)
+released c =
+    let k = c .before .before .before .before .before .before in
+    let message = k .before .before .before in
+    rw (message .message-of .ensures, message .before .counters-of .ensures, laid k .virtqueue .ensures) at (c .release .ensures)
+
 returns-3 : tie.Need-returns-3
-returns-3 c =
-    let back6 = c .before .before .before .before .before .before in
-    let back12 = back6 .before .before .before .before .before .before in
-    let f = (c .before .before .before .before) in
-    let w = (back6 .before) in
-    let new = (back6 .before .before .before) in
-    let k = (back6 .before .before .before .before .before) in
-    let s = start k in
+returns-3 c p other f =
+    let r = c .before .before .before .before .before in
+    let new = r .before .before .before .before in
+    let k = new .before .before in
+    let s = start (laid k) in
     let a = s .args in
-    let t =
-    rw (
-      back12 .before .before .message-of .ensures,
-      back12 .before .before .before .counters-of .ensures,
-      back12 .before .before .before .before .virtqueue .ensures,
-      w .words-of .ensures,
-      virtqueue-in (a .card) (a .direction) (a .latency),
-    ) at (f .release .ensures) in
-    let own = queue-fit (a .card) (a .direction) (s .pre .0) .room in
-    let room = f .release .kept .1 .0 ∙ ap length (w .words-of .ensures) ∙ own in
     rw (c .with-flow .ensures)
-    (empties-new (a .card) (a .direction) (a .latency) (a .m .now) (s .pre .0) (new .new .given .0 .0)
-    (sym (checks k) ∙ new .new .given .1) (s .pre .1) _ _
-    (f .release .result) t room)
-
-words-of-requires : tie.Need-words-of-requires
-words-of-requires c κs = search needs
-
-slice-aggregate-release : tie.Need-slice-aggregate-release
-slice-aggregate-release c = search needs
+    (lent-new (a .live) (a .latency) (a .m .now) (a .words .now) p other (a .direction) f (new .new .given .0 .0)
+    (sym (checks k) ∙ new .new .given .1) (s .pre .1) _ _ (r .release .result) (released r)
+    (r .release .kept .1 .0 ∙ own-room (a .direction) (a .live) (a .words .now) (s .pre .0)))
 
 pub empty-spec : {M : Type 1} → statement M
 empty-spec =
@@ -129,8 +115,6 @@ empty-spec =
     enum-told
     enum-known-cause
     enum-known-new
-    words-of-requires
-    slice-aggregate-release
     release-requires
     with-flow-requires
     same-length
@@ -138,4 +122,5 @@ empty-spec =
     same-length-2
     returns-2
     same-length-3
+    same-length-4
     returns-3)

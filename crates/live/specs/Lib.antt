@@ -1,0 +1,2 @@
+-- The small state of a card, and the card that it is a part of.
+pub mod Live
