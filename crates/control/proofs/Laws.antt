@@ -85,7 +85,8 @@ module _ (p : rules.Parts) (xs ys : List ℕ) (h : (n at : ℕ) → at + n ≤ 2
   unfolding rules.information rules.remap rules.commanded
   answers-agree (Information l) room = rw (h 4 4 (omega arith), h 4 8 (omega arith), h 4 12 (omega arith))
   answers-agree Remap room = rw (h 4 4 (omega arith), h 4 8 (omega arith), h 4 12 (omega arith))
-  answers-agree (Pcm c) room = rw (h 4 4 (omega arith), led-agree c (rules.word ys 1) (transition c (rules.streamIn p (rules.word ys 1) .state)))
+  answers-agree (Pcm c) room =
+      rw (h 4 4 (omega arith), led-agree c (rules.word ys 1) (transition c (rules.streamIn p (rules.word ys 1) .state)))
 
 pub length-request : (m ws : List ℕ) (r : Ranges) → Sound ws r → length (bytesAt m (places (rangesOf ws r))) ≡ r .bytes
 length-request m ws r s = rw (length-map, length-places) (sym s)

@@ -1,5 +1,5 @@
--- The play queue's account, run by computation: a play in two calls, a message with the wrong stream id between two others, STOP and RELEASE
--- of the rest, a reset. All four histories are shown after each of them; and order 5's latency, in the entries and in memory.
+-- The play queue's account, run by computation: a play in two calls, a message with the wrong stream id between two others, STOP and
+-- RELEASE of the rest, a reset. All four histories are shown after each of them; and order 5's latency, in the entries and in memory.
 use mathlib.Core.Path.{_≡_, refl}
 use mathlib.Core.List.{List, [], _∷_, _++_, map}
 use mathlib.Core.Option.{none, some}
@@ -32,7 +32,8 @@ lent =
     ∷ [])
 
 abbrev pub speaker : Device History
-speaker = let b = device 14856 15 (1 ∷ 0 ∷ 2 ∷ 0 ∷ []) (stream runningState 0 ∷ []) in record { rest = b .rest; play = blank; capture = blank }
+speaker = let b = device 14856 15 (1 ∷ 0 ∷ 2 ∷ 0 ∷ []) (stream runningState 0 ∷ []) in
+    record { rest = b .rest; play = blank; capture = blank }
 
 -- what is shown after a call: the account's history of the play queue, what memory holds at the three replies, and the backlog that
 -- the stream remembers

@@ -55,7 +55,8 @@ pub data Form : Type 0 where
   wellFormed refused silent : Form
   unwalked : Fault → Form
 
--- "A taking notes head, ranges and faults as memory then shows them."
+-- "A taking notes head, ranges and faults as memory then shows them." "Ranges are remembered when a message is taken": no rule reads the
+-- chain again after a part was played
 pub record Taking : Type 0 where
   pub head : ℕ
   pub request : List Range
@@ -85,6 +86,7 @@ emptyQueue = record { taken = 0; completed = 0; work = none }
 
 -- ---- all but the stream queues
 
+-- "Guest RAM is a lent slice, address 0 first; its length is fixed at power-up.": `ram` is that length
 pub record Rest : Type 0 where
   pub ram : ℕ
   pub registers : Registers

@@ -54,7 +54,8 @@ returns-5 c =
     rw (
       sym (back6 .before .before .before .in-bits .ensures) ∙ not-false _ (back6 .before .before .if1 .left),
       sym (back6 .before .in-bits2 .ensures) ∙ not-false _ (c .before .before .before .before .before .before .if2 .left),
-      sym (c .before .before .before .before .before .channels-lawful .ensures) ∙ not-false _ (c .before .before .before .before .if3 .left),
+      sym (c .before .before .before .before .before .channels-lawful .ensures)
+          ∙ not-false _ (c .before .before .before .before .if3 .left),
       ne-eqb _ _ (c .before .before .if4 .left),
       eq-eqb _ _ (c .if5 .taken),
     )
@@ -66,7 +67,8 @@ returns-6 c =
     rw (
       sym (back6 .before .before .before .in-bits .ensures) ∙ not-false _ (back6 .before .before .if1 .left),
       sym (back6 .before .in-bits2 .ensures) ∙ not-false _ (c .before .before .before .before .before .before .if2 .left),
-      sym (c .before .before .before .before .before .channels-lawful .ensures) ∙ not-false _ (c .before .before .before .before .if3 .left),
+      sym (c .before .before .before .before .before .channels-lawful .ensures)
+          ∙ not-false _ (c .before .before .before .before .if3 .left),
       ne-eqb _ _ (c .before .before .if4 .left),
       ne-eqb _ _ (c .if5 .left),
     )

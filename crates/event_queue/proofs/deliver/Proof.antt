@@ -23,7 +23,11 @@ returns : tie.Need-returns
 returns c =
     let back6 = c .before .before .before .before .before .before in
     let a = back6 .before .before .before .args in
-    rw (c .before .before .complete .ensures, c .before .before .before .before .before .queue-size .ensures, c .before .before .before .before .before .before .event-bytes .ensures)
+    rw (
+      c .before .before .complete .ensures,
+      c .before .before .before .before .before .queue-size .ensures,
+      c .before .before .before .before .before .before .event-bytes .ensures,
+    )
     (delivered (a .m .now) (a .page) (a .completed) (a .head) _ _ _)
 
 pub deliver-spec : {M : Type 1} → statement M

@@ -83,7 +83,8 @@ returns-2 c =
     let k = c .before .before .before .before in
     let a = start k .args in
     rw (c .halted .ensures .0) (
-      tried-broken (a .code) (a .«data») (a .left) (a .t3) (a .counters) (a .m .now) _ (sym (head-found k) ∙ c .before .before .cause .given .1),
+      tried-broken (a .code) (a .«data») (a .left) (a .t3) (a .counters) (a .m .now) _
+          (sym (head-found k) ∙ c .before .before .cause .given .1),
       rw (c .halted .ensures .0) at (c .halted .ensures .1),
       refl,
     )
@@ -99,7 +100,8 @@ returns-3 c =
     let d = c .before .before .before .pass-over in
     let room = rw (c .before .before .before .before .before .if1 .left) at (k .room-at .ensures) in
     rw (c .counted2 .ensures .0) (
-      tried-passed (a .code) (a .«data») (a .left) (a .t3) (a .counters) (a .m .now) _ (d .result) (d .last .0) (head-at k, room) (d .ensures),
+      tried-passed (a .code) (a .«data») (a .left) (a .t3) (a .counters) (a .m .now) _ (d .result) (d .last .0) (head-at k, room)
+          (d .ensures),
       rw (c .counted2 .ensures .0) at (c .counted2 .ensures .1),
       refl,
     )

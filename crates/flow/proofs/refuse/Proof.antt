@@ -29,7 +29,8 @@ returns c =
     let k : Completion =
     answeredOf (directionOf (a .q .direction)) (a .m .now) (a .q .page) (f .counters .completed) (a .taken .head .0)
     (rangesOf (a .list .now) (a .taken .reply)) (statusIn (a .status)) (a .q .latency) 0 in
-    let e : completion (c .before .before .before .before .answer .last .0) (c .before .before .before .before .answer .result) ≡ k = c .before .before .before .before .answer .ensures in
+    let e : completion (c .before .before .before .before .answer .last .0) (c .before .before .before .before .answer .result) ≡ k =
+    c .before .before .before .before .answer .ensures in
     let em : c .before .before .before .before .answer .last .0 ≡ k .memory = ap (λ (x : Completion). x .memory) e in
     let ec : c .before .before .before .before .answer .result .completed ≡ k .completed = ap (λ (x : Completion). x .completed) e in
     let ei : c .before .before .before .before .answer .result .interrupt ≡ k .interrupt = ap (λ (x : Completion). x .interrupt) e in

@@ -37,8 +37,12 @@ loop-less c = omega arith
 loop-again : tie.Need-loop-again Inv-loop μ-loop
 loop-again c =
     let l = c .before .before .loop in
-    let a = c .before .before .before .args in
-    (omega arith, omega arith, simp length-set (omega arith), sym (copy-more (a .n) (l .i) (l .dst) (l .d) (a .src .now) (omega arith) (omega arith)) ∙ l .inv .3)
+    let a = c .before .before .before .args in (
+      omega arith,
+      omega arith,
+      simp length-set (omega arith),
+      sym (copy-more (a .n) (l .i) (l .dst) (l .d) (a .src .now) (omega arith) (omega arith)) ∙ l .inv .3,
+    )
 
 same-length : tie.Need-same-length Inv-loop μ-loop
 same-length c = omega arith

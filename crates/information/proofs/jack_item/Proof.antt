@@ -34,7 +34,12 @@ array-write-bytes c = search needs
 
 returns : tie.Need-returns
 unfolding put bytesOf
-returns c = rw (c .before .set324 .ensures, c .before .before .before .before .set323 .ensures, c .before .before .before .before .before .before .before .set322 .ensures, c .before .before .before .before .before .before .before .before .before .before .set32 .ensures)
+returns c = rw (
+  c .before .set324 .ensures,
+  c .before .before .before .before .set323 .ensures,
+  c .before .before .before .before .before .before .before .set322 .ensures,
+  c .before .before .before .before .before .before .before .before .before .before .set32 .ensures,
+)
 
 pub jack-item-spec : {M : Type 1} → statement M
 jack-item-spec =

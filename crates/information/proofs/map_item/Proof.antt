@@ -36,8 +36,10 @@ copy-requires c κs =
 returns : tie.Need-returns
 returns c =
     let s = c .before .before .before .before .before .before .before .before in
-    let p : length (s .args .map .positions) ≡ 18 = sym (length-map (s .args .map .positions) _) ∙ s .good .0 .1 .1 .1 .1 .1 .0 .1 .0 .1 in
-    (rw (c .before .copy .ensures, c .before .before .before .before .before .set32 .ensures) (map-bytes (s .args .map) p), length-mapItem (s .args .map) p)
+    let p : length (s .args .map .positions) ≡ 18 = sym (length-map (s .args .map .positions) _) ∙ s .good .0 .1 .1 .1 .1 .1 .0 .1 .0 .1 in (
+      rw (c .before .copy .ensures, c .before .before .before .before .before .set32 .ensures) (map-bytes (s .args .map) p),
+      length-mapItem (s .args .map) p,
+    )
 
 pub map-item-spec : {M : Type 1} → statement M
 map-item-spec =

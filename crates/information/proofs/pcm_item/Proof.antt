@@ -43,7 +43,13 @@ array-write-bytes-3 c = search needs
 
 returns : tie.Need-returns
 unfolding put bytesOf
-returns c = rw (c .direction-of .ensures, c .before .before .set642 .ensures, c .before .before .before .before .before .set64 .ensures, c .before .before .before .before .before .before .before .before .set322 .ensures, c .before .before .before .before .before .before .before .before .before .before .before .set32 .ensures)
+returns c = rw (
+  c .direction-of .ensures,
+  c .before .before .set642 .ensures,
+  c .before .before .before .before .before .set64 .ensures,
+  c .before .before .before .before .before .before .before .before .set322 .ensures,
+  c .before .before .before .before .before .before .before .before .before .before .before .set32 .ensures,
+)
 
 pub pcm-item-spec : {M : Type 1} → statement M
 pcm-item-spec =

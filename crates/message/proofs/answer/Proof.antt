@@ -40,7 +40,11 @@ same-length c = search needs
 
 returns : tie.Need-returns
 unfolding answeredOf postOf
-returns c = rw (c .before .before .post .ensures, c .before .before .before .before .before .before .queue-size .ensures, c .before .before .before .before .enum-told .given .1)
+returns c = rw (
+  c .before .before .post .ensures,
+  c .before .before .before .before .before .before .queue-size .ensures,
+  c .before .before .before .before .enum-told .given .1,
+)
 
 same-length-2 : tie.Need-same-length-2
 same-length-2 c = search needs

@@ -72,7 +72,8 @@ returns-5 c =
       sym (back6 .before .before .before .before .all-inside .ensures) ∙ not-false _ (back6 .before .before .before .if1 .left),
       ← (p .1),
       le-leb _ _ (back6 .before .if2 .left),
-      sym (c .before .before .before .before .before .before .all-inside2 .ensures) ∙ not-false _ (c .before .before .before .before .before .if3 .left),
+      sym (c .before .before .before .before .before .before .all-inside2 .ensures)
+          ∙ not-false _ (c .before .before .before .before .before .if3 .left),
       ← (c .before .before .before .before .stream-id .ensures),
       ← (c .before .before .before .stream-number .ensures),
       eq-eqb _ _ (c .before .before .if4 .left),
@@ -90,7 +91,8 @@ returns-6 c =
       sym (back6 .before .before .before .before .all-inside .ensures) ∙ not-false _ (back6 .before .before .before .if1 .left),
       ← (p .1),
       le-leb _ _ (back6 .before .if2 .left),
-      sym (c .before .before .before .before .before .before .all-inside2 .ensures) ∙ not-false _ (c .before .before .before .before .before .if3 .left),
+      sym (c .before .before .before .before .before .before .all-inside2 .ensures)
+          ∙ not-false _ (c .before .before .before .before .before .if3 .left),
       ← (c .before .before .before .before .stream-id .ensures),
       ← (c .before .before .before .stream-number .ensures),
       eq-eqb _ _ (c .before .before .if4 .left),

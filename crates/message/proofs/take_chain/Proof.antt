@@ -47,7 +47,8 @@ returns c =
     let a = w .before .before .before .before .before .before .args in
     let fault = c .before .before .before .end .given .0 .0 in (
       rw (c .none2 .ensures, c .before .none .ensures)
-          (taken-by (virtqueueIn (a .q)) (a .m .now) (a .head .0) (faulted fault) (sym (rw (c .before .before .before .end .given .1)) ∙ walked w)),
+          (taken-by (virtqueueIn (a .q)) (a .m .now) (a .head .0) (faulted fault)
+          (sym (rw (c .before .before .before .end .given .1)) ∙ walked w)),
       rw (c .none2 .ensures, c .before .none .ensures) (no-ranges-fit _ _ _ _),
     )
 

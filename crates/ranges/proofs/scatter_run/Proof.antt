@@ -27,7 +27,8 @@ returns c =
     let a = start .args in
     let at = c .before .before .before .before .before .place in
     let k = c .before .before .before .before .least in
-    rw (scatter-place (a .m .now) (a .start .0 + a .skip) (a .n) (at .result) (k .result) (at .ensures) (k .ensures) (a .src .now) (a .from) (start .pre))
+    rw (scatter-place (a .m .now) (a .start .0 + a .skip) (a .n) (at .result) (k .result) (at .ensures) (k .ensures) (a .src .now) (a .from)
+    (start .pre))
     (c .before .before .copy .ensures)
 
 pub scatter-run-spec : {M : Type 1} → statement M
