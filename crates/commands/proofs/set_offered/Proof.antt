@@ -12,74 +12,74 @@ use Rattle.commands.proofs.set_offered.Statement.{statement}
 use Rattle.commands.proofs.set_offered.Tie as tie
 
 buffers : (c : tie.After-enum-told) →
-    let mid-start = c .before .before .before .before .before .before in
-    let start = mid-start .before in
+    let at-slice-known = c .before .before .before .before .before .before in
+    let start = at-slice-known .before in
     bufferOffered (start .args .p) ≡ true
 buffers c =
-    let back6 = c .before .before .before .before .before .before in
-    let start = back6 .before in
+    let at-slice-known = c .before .before .before .before .before .before in
+    let start = at-slice-known .before in
     check-passed (bufferOffered (start .args .p))
     (sym (c .before .before .is-buffer-offered .ensures) ∙ c .enum-told .given .1)
 
 features : (c : tie.After-enum-told3) →
-    let back6 = c .before .before .before .before .before .before in
-    let start = back6 .before .before .before .before in
+    let at-info = c .before .before .before .before .before .before in
+    let start = at-info .before .before .before .before in
     featuresOffered (getD (start .args .t3 .streams) (start .args .i) noStream .info) (start .args .p) ≡ true
 features c =
-    let back6 = c .before .before .before .before .before .before in
-    let start = back6 .before .before .before .before in
+    let at-info = c .before .before .before .before .before .before in
+    let start = at-info .before .before .before .before in
     check-passed (featuresOffered (getD (start .args .t3 .streams) (start .args .i) noStream .info) (start .args .p))
     (sym (c .before .before .are-features-offered .ensures) ∙ c .enum-told3 .given .1)
 
 channels : (c : tie.After-enum-told5) →
-    let back6 = c .before .before .before .before .before .before in
-    let mid-start = back6 .before .before .before .before .before .before in
-    let start = mid-start .before in
+    let at-enum-told = c .before .before .before .before .before .before in
+    let at-slice-known = at-enum-told .before .before .before .before .before .before in
+    let start = at-slice-known .before in
     channelsOffered (getD (start .args .t3 .streams) (start .args .i) noStream .info) (start .args .p) ≡ true
 channels c =
-    let back6 = c .before .before .before .before .before .before in
-    let mid-start = back6 .before .before .before .before .before .before in
-    let start = mid-start .before in
+    let at-enum-told = c .before .before .before .before .before .before in
+    let at-slice-known = at-enum-told .before .before .before .before .before .before in
+    let start = at-slice-known .before in
     check-passed (channelsOffered (getD (start .args .t3 .streams) (start .args .i) noStream .info) (start .args .p))
     (sym (c .before .before .are-channels-offered .ensures) ∙ c .enum-told5 .given .1)
 
 formats : (c : tie.After-enum-told7) →
-    let back6 = c .before .before .before .before .before .before in
-    let back12 = back6 .before .before .before .before .before .before in
-    let start = back12 .before .before .before .before in
+    let at-enum-told3 = c .before .before .before .before .before .before in
+    let at-info = at-enum-told3 .before .before .before .before .before .before in
+    let start = at-info .before .before .before .before in
     formatOffered (getD (start .args .t3 .streams) (start .args .i) noStream .info) (start .args .p) ≡ true
 formats c =
-    let back6 = c .before .before .before .before .before .before in
-    let back12 = back6 .before .before .before .before .before .before in
-    let start = back12 .before .before .before .before in
+    let at-enum-told3 = c .before .before .before .before .before .before in
+    let at-info = at-enum-told3 .before .before .before .before .before .before in
+    let start = at-info .before .before .before .before in
     check-passed (formatOffered (getD (start .args .t3 .streams) (start .args .i) noStream .info) (start .args .p))
     (sym (c .before .before .is-format-offered .ensures) ∙ c .enum-told7 .given .1)
 
 rates : (c : tie.After-enum-told9) →
-    let back6 = c .before .before .before .before .before .before in
-    let back12 = back6 .before .before .before .before .before .before in
-    let mid-start = back12 .before .before .before .before .before .before in
-    let start = mid-start .before in
+    let at-enum-told5 = c .before .before .before .before .before .before in
+    let at-enum-told = at-enum-told5 .before .before .before .before .before .before in
+    let at-slice-known = at-enum-told .before .before .before .before .before .before in
+    let start = at-slice-known .before in
     rateOffered (getD (start .args .t3 .streams) (start .args .i) noStream .info) (start .args .p) ≡ true
 rates c =
-    let back6 = c .before .before .before .before .before .before in
-    let back12 = back6 .before .before .before .before .before .before in
-    let mid-start = back12 .before .before .before .before .before .before in
-    let start = mid-start .before in
+    let at-enum-told5 = c .before .before .before .before .before .before in
+    let at-enum-told = at-enum-told5 .before .before .before .before .before .before in
+    let at-slice-known = at-enum-told .before .before .before .before .before .before in
+    let start = at-slice-known .before in
     check-passed (rateOffered (getD (start .args .t3 .streams) (start .args .i) noStream .info) (start .args .p))
     (sym (c .before .before .is-rate-offered .ensures) ∙ c .enum-told9 .given .1)
 
 frames : (c : tie.After-enum-told11) →
-    let back6 = c .before .before .before .before .before .before in
-    let back12 = back6 .before .before .before .before .before .before in
-    let back18 = back12 .before .before .before .before .before .before in
-    let start = back18 .before .before .before .before in
+    let at-enum-told7 = c .before .before .before .before .before .before in
+    let at-enum-told3 = at-enum-told7 .before .before .before .before .before .before in
+    let at-info = at-enum-told3 .before .before .before .before .before .before in
+    let start = at-info .before .before .before .before in
     framed (start .args .p) ≡ true
 frames c =
-    let back6 = c .before .before .before .before .before .before in
-    let back12 = back6 .before .before .before .before .before .before in
-    let back18 = back12 .before .before .before .before .before .before in
-    let start = back18 .before .before .before .before in
+    let at-enum-told7 = c .before .before .before .before .before .before in
+    let at-enum-told3 = at-enum-told7 .before .before .before .before .before .before in
+    let at-info = at-enum-told3 .before .before .before .before .before .before in
+    let start = at-info .before .before .before .before in
     check-passed (framed (start .args .p))
     (sym (c .before .before .is-framed .ensures) ∙ c .enum-told11 .given .1)
 
@@ -135,12 +135,11 @@ same-length-2 c = search needs
 
 returns-2 : tie.Need-returns-2
 returns-2 c =
-    let at-answer2 = c .before .before in
-    let at-enum-told4 = at-answer2 .before .before in
+    let at-enum-told4 = c .before .before .before .before in
     let at-are-features-offered = at-enum-told4 .before .before in
     let at-enum-told = at-are-features-offered .before in
-    let mid-start = at-enum-told .before .before .before .before .before .before in
-    let start = mid-start .before in
+    let at-slice-known = at-enum-told .before .before .before .before .before .before in
+    let start = at-slice-known .before in
     let a = start .args in
     rw (
       stream-at (a .t3) (a .i) (start .pre .1),
@@ -148,7 +147,7 @@ returns-2 c =
       check-failed (featuresOffered (getD (start .args .t3 .streams) (start .args .i) noStream .info) (start .args .p))
           (sym (at-are-features-offered .are-features-offered .ensures) ∙ at-enum-told4 .enum-told4 .given .1),
     )
-    (serves-same _ (a .pending) (a .t3) _ _ _ _ (start .pre .0) (at-answer2 .answer2 .ensures))
+    (serves-same _ (a .pending) (a .t3) _ _ _ _ (start .pre .0) (c .before .before .answer2 .ensures))
 
 are-channels-offered-requires : tie.Need-are-channels-offered-requires
 are-channels-offered-requires c κs = search needs
@@ -167,13 +166,12 @@ same-length-3 c = search needs
 
 returns-3 : tie.Need-returns-3
 returns-3 c =
-    let at-answer3 = c .before .before in
-    let at-enum-told6 = at-answer3 .before .before in
+    let at-enum-told6 = c .before .before .before .before in
     let at-are-channels-offered = at-enum-told6 .before .before in
     let at-enum-told3 = at-are-channels-offered .before in
     let at-enum-told = at-enum-told3 .before .before .before in
-    let mid-start = at-enum-told .before .before .before .before .before .before in
-    let start = mid-start .before in
+    let at-slice-known = at-enum-told .before .before .before .before .before .before in
+    let start = at-slice-known .before in
     let a = start .args in
     rw (
       stream-at (a .t3) (a .i) (start .pre .1),
@@ -182,7 +180,7 @@ returns-3 c =
       check-failed (channelsOffered (getD (start .args .t3 .streams) (start .args .i) noStream .info) (start .args .p))
           (sym (at-are-channels-offered .are-channels-offered .ensures) ∙ at-enum-told6 .enum-told6 .given .1),
     )
-    (serves-same _ (a .pending) (a .t3) _ _ _ _ (start .pre .0) (at-answer3 .answer3 .ensures))
+    (serves-same _ (a .pending) (a .t3) _ _ _ _ (start .pre .0) (c .before .before .answer3 .ensures))
 
 is-format-offered-requires : tie.Need-is-format-offered-requires
 is-format-offered-requires c κs = search needs
@@ -201,14 +199,13 @@ same-length-4 c = search needs
 
 returns-4 : tie.Need-returns-4
 returns-4 c =
-    let at-answer4 = c .before .before in
-    let at-enum-told8 = at-answer4 .before .before in
+    let at-enum-told8 = c .before .before .before .before in
     let at-is-format-offered = at-enum-told8 .before .before in
     let at-enum-told5 = at-is-format-offered .before in
     let at-enum-told3 = at-enum-told5 .before .before .before in
     let at-enum-told = at-enum-told3 .before .before .before in
-    let mid-start = at-enum-told .before .before .before .before .before .before in
-    let start = mid-start .before in
+    let at-slice-known = at-enum-told .before .before .before .before .before .before in
+    let start = at-slice-known .before in
     let a = start .args in
     rw (
       stream-at (a .t3) (a .i) (start .pre .1),
@@ -218,7 +215,7 @@ returns-4 c =
       check-failed (formatOffered (getD (start .args .t3 .streams) (start .args .i) noStream .info) (start .args .p))
           (sym (at-is-format-offered .is-format-offered .ensures) ∙ at-enum-told8 .enum-told8 .given .1),
     )
-    (serves-same _ (a .pending) (a .t3) _ _ _ _ (start .pre .0) (at-answer4 .answer4 .ensures))
+    (serves-same _ (a .pending) (a .t3) _ _ _ _ (start .pre .0) (c .before .before .answer4 .ensures))
 
 is-rate-offered-requires : tie.Need-is-rate-offered-requires
 is-rate-offered-requires c κs = search needs
@@ -237,15 +234,14 @@ same-length-5 c = search needs
 
 returns-5 : tie.Need-returns-5
 returns-5 c =
-    let at-answer5 = c .before .before in
-    let at-enum-told10 = at-answer5 .before .before in
+    let at-enum-told10 = c .before .before .before .before in
     let at-is-rate-offered = at-enum-told10 .before .before in
     let at-enum-told7 = at-is-rate-offered .before in
     let at-enum-told5 = at-enum-told7 .before .before .before in
     let at-enum-told3 = at-enum-told5 .before .before .before in
     let at-enum-told = at-enum-told3 .before .before .before in
-    let mid-start = at-enum-told .before .before .before .before .before .before in
-    let start = mid-start .before in
+    let at-slice-known = at-enum-told .before .before .before .before .before .before in
+    let start = at-slice-known .before in
     let a = start .args in
     rw (
       stream-at (a .t3) (a .i) (start .pre .1),
@@ -256,7 +252,7 @@ returns-5 c =
       check-failed (rateOffered (getD (start .args .t3 .streams) (start .args .i) noStream .info) (start .args .p))
           (sym (at-is-rate-offered .is-rate-offered .ensures) ∙ at-enum-told10 .enum-told10 .given .1),
     )
-    (serves-same _ (a .pending) (a .t3) _ _ _ _ (start .pre .0) (at-answer5 .answer5 .ensures))
+    (serves-same _ (a .pending) (a .t3) _ _ _ _ (start .pre .0) (c .before .before .answer5 .ensures))
 
 is-framed-requires : tie.Need-is-framed-requires
 is-framed-requires c κs = search needs
@@ -275,16 +271,15 @@ same-length-6 c = search needs
 
 returns-6 : tie.Need-returns-6
 returns-6 c =
-    let at-answer6 = c .before .before in
-    let at-enum-told12 = at-answer6 .before .before in
+    let at-enum-told12 = c .before .before .before .before in
     let at-is-framed = at-enum-told12 .before .before in
     let at-enum-told9 = at-is-framed .before in
     let at-enum-told7 = at-enum-told9 .before .before .before in
     let at-enum-told5 = at-enum-told7 .before .before .before in
     let at-enum-told3 = at-enum-told5 .before .before .before in
     let at-enum-told = at-enum-told3 .before .before .before in
-    let mid-start = at-enum-told .before .before .before .before .before .before in
-    let start = mid-start .before in
+    let at-slice-known = at-enum-told .before .before .before .before .before .before in
+    let start = at-slice-known .before in
     let a = start .args in
     rw (
       stream-at (a .t3) (a .i) (start .pre .1),
@@ -296,14 +291,14 @@ returns-6 c =
       check-failed (framed (start .args .p))
           (sym (at-is-framed .is-framed .ensures) ∙ at-enum-told12 .enum-told12 .given .1),
     )
-    (serves-same _ (a .pending) (a .t3) _ _ _ _ (start .pre .0) (at-answer6 .answer6 .ensures))
+    (serves-same _ (a .pending) (a .t3) _ _ _ _ (start .pre .0) (c .before .before .answer6 .ensures))
 
 with-stream-requires : tie.Need-with-stream-requires
 with-stream-requires c κs =
-    let back6 = c .before .before .before .before .before .before in
-    let back12 = back6 .before .before .before .before .before .before in
-    let back18 = back12 .before .before .before .before .before .before in
-    let start = back18 .before .before .before .before .before in
+    let at-is-rate-offered = c .before .before .before .before .before .before in
+    let at-are-channels-offered = at-is-rate-offered .before .before .before .before .before .before in
+    let at-is-buffer-offered = at-are-channels-offered .before .before .before .before .before .before in
+    let start = at-is-buffer-offered .before .before .before .before .before in
     omega (arith, start .pre .1, start .pre .0 .streams)
 
 answer-requires-7 : tie.Need-answer-requires-7
@@ -314,16 +309,14 @@ same-length-7 c = search needs
 
 returns-7 : tie.Need-returns-7
 returns-7 c =
-    let at-answer7 = c .before .before in
-    let at-with-stream = at-answer7 .before in
-    let at-enum-told11 = at-with-stream .before .before in
+    let at-enum-told11 = c .before .before .before .before .before in
     let at-enum-told9 = at-enum-told11 .before .before .before in
     let at-enum-told7 = at-enum-told9 .before .before .before in
     let at-enum-told5 = at-enum-told7 .before .before .before in
     let at-enum-told3 = at-enum-told5 .before .before .before in
     let at-enum-told = at-enum-told3 .before .before .before in
-    let mid-start = at-enum-told .before .before .before .before .before .before in
-    let start = mid-start .before in
+    let at-slice-known = at-enum-told .before .before .before .before .before .before in
+    let start = at-slice-known .before in
     let a = start .args in
     rw (
       stream-at (a .t3) (a .i) (start .pre .1),
@@ -335,7 +328,7 @@ returns-7 c =
       frames at-enum-told11,
     )
     (serves-stream _ (a .pending) (a .t3) _ _ _ (a .i) _ _ (start .pre .0) (start .pre .1) (start .pre .2)
-    (at-answer7 .answer7 .ensures ∙ rw (at-with-stream .with-stream .ensures)))
+    (c .before .before .answer7 .ensures ∙ rw (c .before .before .before .with-stream .ensures)))
 
 pub set-offered-spec : {M : Type 1} → statement M
 set-offered-spec =
