@@ -13,7 +13,7 @@ use Rattle.memory.specs.Bytes.{le}
 use Rattle.memory.proofs.Laws.{le-same}
 use Rattle.ranges.specs.Ranges.{Sound, rangesOf, places, bytesAt}
 use Rattle.ranges.specs.declared.Ranges.{Ranges}
-use Rattle.ranges.proofs.Laws.{length-places}
+use Rattle.ranges.proofs.Laws.{length-places, map-take}
 use Rattle.rules.specs.Control as rules
 use Rattle.rules.specs.Lifecycle.{transition}
 use Rattle.rules.specs.declared.Asked.{Asked}
@@ -45,11 +45,6 @@ first-bytes k bs i h = rw (sets-eq (take k bs) (replicate k 0) 0 fits) (by (ltb 
       ∙ getD-drop (0 + length (take k bs)) (replicate k 0) (i - length (take k bs)) 0
       ∙ zeros k _
       ∙ sym (List·getD-eq-default bs 0 past)
-
-map-take : {A B : Type 0} (f : A → B) (k : ℕ) (xs : List A) → map f (take k xs) ≡ take k (map f xs)
-map-take f zero xs = refl
-map-take f (suc k) [] = refl
-map-take f (suc k) (x ∷ xs) = rw (map-take f k xs)
 
 -- a number within the first 24 bytes is the request's
 pub words-agree : (m ps : List ℕ) (n at : ℕ) → at + n ≤ 24

@@ -71,7 +71,8 @@ module _ (d : Direction) where
   unfolding noted
   noted-busy h bytes xs = refl
 
-  with-entry-same : (w : List ℕ) (h : History) (e : Ending) (n : ℕ) → Good d w h → card d .complete e n (queueOf h) ≡ queueOf (withEntry d e n h)
+  with-entry-same : (w : List ℕ) (h : History) (e : Ending) (n : ℕ) → Good d w h → card d .complete e n (queueOf h)
+      ≡ queueOf (withEntry d e n h)
   unfolding withEntry
   with-entry-same w h e n g = rw (next-wrap, length-append, le-leb (length (h .takings)) (number h + 1) (omega (arith, g .one)))
 

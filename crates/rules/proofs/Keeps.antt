@@ -97,7 +97,18 @@ module _ (d : Direction) where
         ≡ take (length (handedOf t (h .notes ++ notesOf (number h) (handedNow h) bytes xs))) (payloadAt d t h)
     unfolding handedNow
     noted-read t (yes q) =
-        rw (q, only-append, addressesOf-same, only-append, handedOf-same, length-append, length-upFrom, take-add, take-self, g .read (number h))
+        rw (
+          q,
+          only-append,
+          addressesOf-same,
+          only-append,
+          handedOf-same,
+          length-append,
+          length-upFrom,
+          take-add,
+          take-self,
+          g .read (number h),
+        )
     noted-read t (no n) =
         simp (
           only-append,

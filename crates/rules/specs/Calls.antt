@@ -39,7 +39,8 @@ use Rattle.rules.specs.Transfer.{Ops, Run, begun, transferRun, releaseRu
 
 -- ---- calls, and what their callers are told
 
--- "Play lends a host buffer, capture lends host bytes; both answer a byte count." Order 5: "The play and capture calls now take the host's backlog
+-- "Play lends a host buffer, capture lends host bytes; both answer a byte count." Order 5: "The play and capture calls now take the host's
+-- backlog
 -- in bytes (32 bits)": the number behind them
 pub data Request : Type 0 where
   ReadRegister : ℕ → ℕ → Request

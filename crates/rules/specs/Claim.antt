@@ -15,7 +15,8 @@ use Rattle.card.specs.Card.{noCounters, jackAtPower, freshStream}
 use Rattle.rules.specs.Calls.{Request, ReadRegister, WriteRegister, Control, Play, Capture, Event, Call, Told, step, clearsQueue}
 use Rattle.rules.specs.Counters.{countersOf}
 use Rattle.rules.specs.Device.{Direction, output, input, Taking, nobody, released, Message, Queue, Rest, Device, queueFor}
-use Rattle.rules.specs.Histories.{Entry, Note, History, unanswered, handedOf, addressesOf, lostOf, number, current, handedNow, waiting}
+use Rattle.rules.specs.Histories.{Entry, Note, History, unanswered, handedOf, addressesOf, lostOf, number, current, handedNow}
+use Rattle.rules.specs.Histories.{waiting}
 use Rattle.rules.specs.Histories.{historiesOf}
 use Rattle.rules.specs.Transfer.{Ops, payloadOf}
 

@@ -17,6 +17,7 @@ use Rattle.card.specs.Card.{noStream}
 use Rattle.card.specs.declared.Counters.{Counters}
 use Rattle.card.specs.declared.Jack.{Jack}
 use Rattle.card.specs.declared.Stream.{Stream}
+use Rattle.rules.specs.Numbers.{playQueue, captureQueue}
 
 -- ---- directions: output stream 0 on the play queue, input stream 1 on the capture queue
 
@@ -28,8 +29,8 @@ streamNumber output = 0
 streamNumber input = 1
 
 abbrev pub queueNumber : Direction → ℕ
-queueNumber output = 2
-queueNumber input = 3
+queueNumber output = playQueue
+queueNumber input = captureQueue
 
 -- the direction of a stream of the card
 abbrev pub directionOf : ℕ → Direction

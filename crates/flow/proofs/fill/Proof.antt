@@ -40,7 +40,8 @@ returns c =
     (f .message .reply .bytes - 8 - f .message .done) = rw (← (at-waiting .waiting .ensures))
     (at-least .least .ensures) in (
       rw (c .advanced .ensures, c .before .before .before .scatter .ensures)
-          (filled (a .q) (a .list .now) (a .m .now) (a .host .now) f n (start .pre .0) (start .pre .1 .inside) (start .pre .1 .message .reply) e),
+          (filled (a .q) (a .list .now) (a .m .now) (a .host .now) f n (start .pre .0) (start .pre .1 .inside)
+          (start .pre .1 .message .reply) e),
       rw (c .advanced .ensures) (start .pre .0),
       rw (c .advanced .ensures) (advanced-fit _ _ _ f n _ 8 (start .pre .0) (start .pre .1) (start .pre .1 .message .short-reply) e),
     )

@@ -43,7 +43,8 @@ returns c =
     (f .message .request .bytes - 4 - f .message .done) = rw (← (at-waiting .waiting .ensures))
     (at-least .least .ensures) in (
       rw (c .advanced .ensures, c .before .before .before .gather .ensures)
-          (handed-on (a .q) (a .list .now) (a .m .now) (a .host .now) f n (start .pre .0) (start .pre .1 .inside) (start .pre .1 .message .request) e),
+          (handed-on (a .q) (a .list .now) (a .m .now) (a .host .now) f n (start .pre .0) (start .pre .1 .inside)
+          (start .pre .1 .message .request) e),
       rw (c .advanced .ensures) (start .pre .0),
       rw (c .advanced .ensures) (advanced-fit _ _ _ f n _ 4 (start .pre .0) (start .pre .1) (start .pre .1 .message .short-request) e),
     )

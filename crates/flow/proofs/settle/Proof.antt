@@ -36,7 +36,8 @@ returns-2 c =
     let t = c .before .before .end-message .ensures .steps in
     let none-waits : at-waiting .waiting .result ≡ 0 = omega arith in
     record {
-      run = λ host. t .run host ∙ sym (settled-now (virtqueueIn (a .q)) (a .list .now) (a .m .now) host (a .f) (start .pre .0) (start .pre .1)
+      run = λ host. t .run host
+          ∙ sym (settled-now (virtqueueIn (a .q)) (a .list .now) (a .m .now) host (a .f) (start .pre .0) (start .pre .1)
           (sym (at-waiting .waiting .ensures) ∙ none-waits));
       message = t .message;
       moved = t .moved;
