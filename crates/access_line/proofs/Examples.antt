@@ -5,7 +5,7 @@ use Prim.Native.Nat.{ℕ}
 use Prim.Native.Char.{code}
 use Prim.Native.String.{String, [] as none, _∷_ as _then_}
 use Rattle.decimal.specs.Read.{isDigit, digits}
-use Rattle.access_line.specs.Line.{field, ended, readForm, writeForm, lineOf}
+use Rattle.access_line.specs.Line.{field, atEnd, readForm, writeForm, lineOf}
 use Rattle.access_line.specs.declared.Line.{Line}
 use Rattle.access_line.specs.declared.Line.the-variants.{Read, Write, Unreadable}
 
@@ -25,7 +25,7 @@ pub lines-of-01 :
     × (reads "r 12 2" ≡ Read 12 2)
     × (reads "r 16 2" ≡ Read 16 2)
     × (reads "x" ≡ Unreadable)
-unfolding isDigit digits field ended readForm writeForm lineOf
+unfolding isDigit digits field atEnd readForm writeForm lineOf
 lines-of-01 = (refl, refl, refl, refl, refl, refl)
 
 -- ten digits and eleven
@@ -34,7 +34,7 @@ pub digits-in-a-number :
     × (reads "w 9999999999 9999999999 9999999999" ≡ Write 9999999999 9999999999 9999999999)
     × (reads "r 00000000012 2" ≡ Unreadable)
     × (reads "w 18 1 10000000000" ≡ Unreadable)
-unfolding isDigit digits field ended readForm writeForm lineOf
+unfolding isDigit digits field atEnd readForm writeForm lineOf
 digits-in-a-number = (refl, refl, refl, refl)
 
 -- single spaces, with nothing before, between or after
@@ -48,5 +48,5 @@ pub lines-refused :
     × (reads "r 12 2\r" ≡ Unreadable)
     × (reads "R 12 2" ≡ Unreadable)
     × (reads "r +12 2" ≡ Unreadable)
-unfolding isDigit digits field ended readForm writeForm lineOf
+unfolding isDigit digits field atEnd readForm writeForm lineOf
 lines-refused = (refl, refl, refl, refl, refl, refl, refl, refl, refl)

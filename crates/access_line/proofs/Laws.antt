@@ -14,7 +14,7 @@ use lib.Seq.{drop-cons, drop-drop, take-all, take-suc-set, take-append-le}
 use Rattle.decimal.specs.Read.{digits, value, isNumber, byNumber, numberAt, fieldAt}
 use Rattle.decimal.specs.declared.Number.the-variants.{Is, None}
 use Rattle.decimal.proofs.Reading.{value-below}
-use Rattle.access_line.specs.Line.{rest, field, ended, readForm, writeForm, lineOf}
+use Rattle.access_line.specs.Line.{rest, field, atEnd, readForm, writeForm, lineOf}
 use Rattle.access_line.specs.Collect.{emptyLine, withByte, kept, collected}
 use Rattle.access_line.specs.declared.Collected.{Collected}
 use Rattle.access_line.specs.declared.Line.{Line}
@@ -66,12 +66,12 @@ module _ (s : List ℕ) (at : ℕ) (then : ℕ → List ℕ → Line) where
   pub field-none : fieldAt s at 10 9999999999 ≡ None → field (drop at s) then ≡ Unreadable
   field-none h = rw (field-at, h)
 
-pub ended-at : (s : List ℕ) (n : ℕ) (line : Line) → length s ≤ n → ended (drop n s) line ≡ line
-unfolding ended
+pub ended-at : (s : List ℕ) (n : ℕ) (line : Line) → length s ≤ n → atEnd (drop n s) line ≡ line
+unfolding atEnd
 ended-at s n line h = rw (drop-of-length-le s h)
 
-pub not-ended-at : (s : List ℕ) (n : ℕ) (line : Line) → n < length s → ended (drop n s) line ≡ Unreadable
-unfolding ended
+pub not-ended-at : (s : List ℕ) (n : ℕ) (line : Line) → n < length s → atEnd (drop n s) line ≡ Unreadable
+unfolding atEnd
 not-ended-at s n line h = rw (drop-cons s n 0 h)
 
 -- ---- the line's letter

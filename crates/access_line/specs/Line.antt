@@ -20,16 +20,16 @@ field [] then = Unreadable
 field (b ∷ t) then = cond (eqb b 32 && isNumber 10 (digits t)) (then (value (digits t)) (rest t)) Unreadable
 
 -- nothing more
-unfoldable pub ended : List ℕ → Line → Line
-ended [] line = line
-ended (b ∷ t) line = Unreadable
+unfoldable pub atEnd : List ℕ → Line → Line
+atEnd [] line = line
+atEnd (b ∷ t) line = Unreadable
 
 -- " OFF W" and " OFF W VAL"
 unfoldable pub readForm : List ℕ → Line
-readForm t = field t (λ off t′. field t′ (λ w t″. ended t″ (Read off w)))
+readForm t = field t (λ off t′. field t′ (λ w t″. atEnd t″ (Read off w)))
 
 unfoldable pub writeForm : List ℕ → Line
-writeForm t = field t (λ off t′. field t′ (λ w t″. field t″ (λ v t‴. ended t‴ (Write off w v))))
+writeForm t = field t (λ off t′. field t′ (λ w t″. field t″ (λ v t‴. atEnd t‴ (Write off w v))))
 
 -- the line
 unfoldable pub lineOf : List ℕ → Line

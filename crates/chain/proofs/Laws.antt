@@ -52,7 +52,8 @@ module _ (m : List ℕ) (a size number : ℕ) where
         let i : a + 16 * number ≡ a + number * 16 = omega arith in
         getD-descriptors m a size number noDescriptor there ∙ rw i (sym e)
 
-pub inTable-none : (n : ℕ) (table : List Descriptor) (number : ℕ) (rd wr : List Range) → n ≡ 0 → inTable n table number rd wr ≡ faulted TooMany
+pub inTable-none : (n : ℕ) (table : List Descriptor) (number : ℕ) (rd wr : List Range) → n ≡ 0 → inTable n table number rd wr
+    ≡ faulted TooMany
 unfolding inTable
 inTable-none n table number rd wr h = rw h
 
@@ -225,13 +226,15 @@ direct-within m negotiated (suc k) table number n rd wr b h =
     cond-within 34 (leb (length table) number) _ _ (λ e. tt)
     (cond-within 34 (isIndirect d) _ _
     (λ e. end-within (enterOf (length m) negotiated d) _ (inTable-within (suc k) (descriptors m (d .at .0) (d .len / 16)) 0 n rd wr b h))
-    (onward-within n d rd wr _ (omega arith) h (λ rd′ wr′ h′. direct-within m negotiated k table (d .next .0) (n + 1) rd′ wr′ (omega arith) h′)))
+    (onward-within n d rd wr _ (omega arith) h
+    (λ rd′ wr′ h′. direct-within m negotiated k table (d .next .0) (n + 1) rd′ wr′ (omega arith) h′)))
   where
     end-within : (e : End) (o : Outcome) → Within 34 o → Within 34 (byEnd e o)
     end-within Whole o w = w
     end-within (Faulted f) o w = tt
 
-pub walk-bounds : (m : List ℕ) (table size head : ℕ) (negotiated : Bool) (rd wr : List Range) → walkOf m table size head negotiated ≡ whole rd wr
+pub walk-bounds : (m : List ℕ) (table size head : ℕ) (negotiated : Bool) (rd wr : List Range) → walkOf m table size head negotiated
+    ≡ whole rd wr
     → (length rd + length wr ≤ 34) × (total rd ≤ 1048576) × (total wr ≤ 1048576)
 unfolding Within total
 walk-bounds m table size head negotiated rd wr e =

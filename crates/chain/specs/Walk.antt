@@ -75,7 +75,7 @@ joinedOf d rd wr =
     (faulted Order))
 
 -- "an indirect one without bit 28 negotiated, with NEXT, .. of length 0 or not a multiple of 16, or with its table
--- outside RAM"
+-- outside RAM". "WRITE on it is ignored, as are unknown flags."
 unfoldable pub enterOf : ℕ → Bool → Descriptor → End
 enterOf ram negotiated d =
     cond negotiated
@@ -102,8 +102,8 @@ inTable (suc k) table number rd wr =
     entry table number
     (λ d. cond (isIndirect d) (faulted Nested) (onward d rd wr (inTable k table (d .next .0))))
 
--- in the direct table; "those naming an indirect table not counted", so its table has the same fuel. With none left one
--- that names a table is a fault too: the table has at least one descriptor more.
+-- in the direct table: "Direct descriptors may come before one indirect." "those naming an indirect table not counted", so its table has
+-- the same fuel. With none left one that names a table is a fault too: the table has at least one descriptor more.
 unfoldable pub direct : List ℕ → Bool → ℕ → List Descriptor → ℕ → List Range → List Range → Outcome
 direct m negotiated zero table number rd wr = faulted TooMany
 direct m negotiated (suc k) table number rd wr =

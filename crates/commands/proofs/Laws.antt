@@ -15,7 +15,8 @@ use Rattle.card.specs.Fit.{FitParts}
 use Rattle.card.specs.declared.Params.{Params}
 use Rattle.card.specs.declared.Parts.{Parts}
 use Rattle.meaning.specs.Card.{partsOf}
-use Rattle.reply.proofs.Laws.{stream-total, stream-at}
+use Rattle.meaning.proofs.Streams.{stream-at}
+use Rattle.reply.proofs.Laws.{stream-total}
 use Rattle.rules.specs.Control as rules
 use Rattle.rules.specs.Numbers.{sBadMsg}
 use Rattle.rules.specs.Lifecycle.{transition}

@@ -13,7 +13,7 @@ use Rattle.memory.specs.Bytes.{le}
 use Rattle.memory.proofs.Laws.{le-same}
 use Rattle.ranges.specs.Ranges.{Sound, rangesOf, places, bytesAt}
 use Rattle.ranges.specs.declared.Ranges.{Ranges}
-use Rattle.ranges.proofs.Laws.{length-places}
+use Rattle.ranges.proofs.Laws.{length-places, map-take}
 use Rattle.rules.specs.Control as rules
 use Rattle.rules.specs.Lifecycle.{transition}
 use Rattle.rules.specs.declared.Asked.{Asked}
@@ -45,11 +45,6 @@ first-bytes k bs i h = rw (sets-eq (take k bs) (replicate k 0) 0 fits) (by (ltb 
       ∙ getD-drop (0 + length (take k bs)) (replicate k 0) (i - length (take k bs)) 0
       ∙ zeros k _
       ∙ sym (List·getD-eq-default bs 0 past)
-
-map-take : {A B : Type 0} (f : A → B) (k : ℕ) (xs : List A) → map f (take k xs) ≡ take k (map f xs)
-map-take f zero xs = refl
-map-take f (suc k) [] = refl
-map-take f (suc k) (x ∷ xs) = rw (map-take f k xs)
 
 -- a number within the first 24 bytes is the request's
 pub words-agree : (m ps : List ℕ) (n at : ℕ) → at + n ≤ 24
@@ -85,7 +80,8 @@ module _ (p : rules.Parts) (xs ys : List ℕ) (h : (n at : ℕ) → at + n ≤ 2
   unfolding rules.information rules.remap rules.commanded
   answers-agree (Information l) room = rw (h 4 4 (omega arith), h 4 8 (omega arith), h 4 12 (omega arith))
   answers-agree Remap room = rw (h 4 4 (omega arith), h 4 8 (omega arith), h 4 12 (omega arith))
-  answers-agree (Pcm c) room = rw (h 4 4 (omega arith), led-agree c (rules.word ys 1) (transition c (rules.streamIn p (rules.word ys 1) .state)))
+  answers-agree (Pcm c) room =
+      rw (h 4 4 (omega arith), led-agree c (rules.word ys 1) (transition c (rules.streamIn p (rules.word ys 1) .state)))
 
 pub length-request : (m ws : List ℕ) (r : Ranges) → Sound ws r → length (bytesAt m (places (rangesOf ws r))) ≡ r .bytes
 length-request m ws r s = rw (length-map, length-places) (sym s)

@@ -28,7 +28,8 @@ module _ (channels : ℕ) (l : List ℕ) (i : ℕ) where
   positions-none h = rw (drop-of-length-le l h)
 
   pub positions-more : i < length l
-      → lawfulPositions channels i (drop i l) ≡ (lawfulPosition channels i (getD l i 0) && lawfulPositions channels (i + 1) (drop (i + 1) l))
+      → lawfulPositions channels i (drop i l)
+      ≡ (lawfulPosition channels i (getD l i 0) && lawfulPositions channels (i + 1) (drop (i + 1) l))
   unfolding lawfulPositions
   positions-more h = rw (drop-cons l i 0 h, add-one)
 

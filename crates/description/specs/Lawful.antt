@@ -35,7 +35,8 @@ lawfulChannels min max = leb 1 min && leb min max && leb max 18
 -- "features is 0 or 16 (EVT_XRUNS)"
 unfoldable pub lawfulStream : StreamInfo → Bool
 lawfulStream s =
-    inBits (s .formats) 25 && inBits (s .rates) 14 && lawfulChannels (s .«channels_min») (s .«channels_max») && (eqb (s .features) 0 || eqb (s .features) 16)
+    inBits (s .formats) 25 && inBits (s .rates) 14 && lawfulChannels (s .«channels_min») (s .«channels_max»)
+    && (eqb (s .features) 0 || eqb (s .features) 16)
 
 -- "Jack features is 0 or 1, connected 0 or 1."; "hda_fn_nid, defconf and caps are free 32-bit numbers."
 unfoldable pub lawfulJack : JackInfo → Bool

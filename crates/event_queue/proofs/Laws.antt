@@ -23,7 +23,8 @@ use Rattle.ring.specs.declared.Cause.{Cause}
 use Rattle.ring.specs.declared.Head.{Head}
 use Rattle.ring.specs.declared.Posted.{Posted}
 use Rattle.card.specs.declared.Counters.{Counters}
-use Rattle.rules.specs.Calls.{Result, Ended, Further, refused, broke, eventBytes, eventPosted, eventRoom, eventChain, tried, onward, eventRun}
+use Rattle.rules.specs.Calls.{Result, Ended, Further, refused, broke, eventBytes, eventPosted, eventRoom, eventChain, tried, onward}
+use Rattle.rules.specs.Calls.{eventRun}
 use Rattle.rules.specs.Device.{Rest, bytesOf, signalledIf, oneTaken}
 use Rattle.rules.specs.Numbers.{eventQueue}
 use Rattle.event_queue.specs.Attempts.{holding, resultIn, sentIn, triedIn, postingOf, attemptOf}
@@ -57,7 +58,8 @@ resultOn r g q k =
       mem = k .memory;
     }
 
-pub posted-result : (over : Bool) (left : ℕ) (r : Rest) (g : Registers) (q : Counters) (m after : List ℕ) (head : ℕ) (reply : List Range) (bytes : List ℕ) (p : Posted)
+pub posted-result : (over : Bool) (left : ℕ) (r : Rest) (g : Registers) (q : Counters) (m after : List ℕ) (head : ℕ) (reply : List Range)
+    (bytes : List ℕ) (p : Posted)
     → completion after p ≡ postingOf m (getD (g .pages) eventQueue (record { 0 = 0 })) (q .completed) head reply bytes
     → eventPosted (holding g q r) m head reply bytes ≡ resultIn r (attemptOf over left g q p) after
 unfolding eventPosted postingOf resultOn
@@ -79,7 +81,8 @@ module _ (code data′ left : ℕ) (g : Registers) (q : Counters) (m : List ℕ)
   abbrev pub Found : DescriptorNumber → Option (List Range) → Type 0
   Found n o =
       (nextHead ≡ Head.At n)
-      × (o ≡ eventRoom m (walkOf m (baseOf (getD (g .pages) eventQueue (record { 0 = 0 }))) (sizeOf eventQueue) (n .0) (hasBit (g .features) 28)))
+      × (o ≡ eventRoom m (walkOf m (baseOf (getD (g .pages) eventQueue (record { 0 = 0 }))) (sizeOf eventQueue) (n .0)
+      (hasBit (g .features) 28)))
 
   tried-at : (n : DescriptorNumber) (o : Option (List Range)) → Found n o → (r : Rest)
       → tried code data′ (holding g q r) m ≡ eventChain code data′ (holding g q r) m (n .0) o
@@ -96,7 +99,8 @@ module _ (code data′ left : ℕ) (g : Registers) (q : Counters) (m : List ℕ)
     tried-delivered reply f h r =
         tried-at n (some reply) f r ∙ ap Ended (posted-result true left r g q m after (n .0) reply (eventBytes code data′) p h)
 
-    pub tried-passed : Found n none → Posts [] [] → (r : Rest) → tried code data′ (holding g q r) m ≡ triedIn r (attemptOf false left g q p) after
+    pub tried-passed : Found n none → Posts [] [] → (r : Rest) → tried code data′ (holding g q r) m
+        ≡ triedIn r (attemptOf false left g q p) after
     tried-passed f h r = tried-at n none f r ∙ ap Further (posted-result false left r g q m after (n .0) [] [] p h)
 
 -- ---- the entries, one after the other

@@ -47,7 +47,7 @@ struct Room {
 fn queue_size() -> u16
     ensures { λ r. ⌜ r ≡ sizeOf eventQueue ⌝ }
 {
-    registers::queue_size(1)
+    registers::queue_size(registers::EVENT_QUEUE)
 }
 
 // Whether an event fits into a chain that was walked whole.
@@ -216,7 +216,7 @@ fn try_entry(
     match ring::next_head(m, page, size, counters.taken) {
         ring::Head::Broken(cause) => halted(left, registers, counters, cause),
         ring::Head::At(head) => {
-            let indirect = registers.features / registers::HOST_FEATURES % 2 == 1;
+            let indirect = registers.indirect();
             let mut words = [0u64; 68];
             let room = room_at(m, &mut words, page, head, indirect);
             if room.fits {
@@ -248,7 +248,8 @@ fn try_entries(
     data: u32,
 ) -> Attempt
     requires { ⌜ FitRegisters registers ⌝ }
-    ensures { λ r. ⌜ ((rest : Rest) → eventRun code «data» new (holding registers counters rest) (now (m .entry)) ≡ sentIn rest r (now (m .exit)))
+    ensures { λ r. ⌜ ((rest : Rest) → eventRun code «data» new (holding registers counters rest) (now (m .entry))
+        ≡ sentIn rest r (now (m .exit)))
         × FitRegisters (r .registers) × (r .ended ≡ true) ⌝ }
 {
     let mut file = registers;

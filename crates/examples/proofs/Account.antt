@@ -1,10 +1,10 @@
--- The play queue's account, run by computation: a play in two calls, a message with the wrong stream id between two others, STOP and RELEASE
--- of the rest, a reset. All four histories are shown after each of them; and order 5's latency, in the entries and in memory.
-use mathlib.Core.Path.{_≡_, _∙_, refl, sym}
+-- The play queue's account, run by computation: a play in two calls, a message with the wrong stream id between two others, STOP and
+-- RELEASE of the rest, a reset. All four histories are shown after each of them; and order 5's latency, in the entries and in memory.
+use mathlib.Core.Path.{_≡_, refl}
 use mathlib.Core.List.{List, [], _∷_, _++_, map}
 use mathlib.Core.Option.{none, some}
 use Prim.Native.Nat.{ℕ}
-use lib.ListN.{take, drop}
+use lib.ListN.{take, drop, replicate}
 use Rattle.card.specs.Card.{runningState}
 use Rattle.card.specs.declared.Stream.{Stream}
 use Rattle.rules.specs.Calls.{Request, WriteRegister, Control, Play}
@@ -12,7 +12,7 @@ use Rattle.rules.specs.Claim.{account}
 use Rattle.rules.specs.Device.{Device, Form, wellFormed, refused, Taking, finished, released, illFormed}
 use Rattle.rules.specs.Histories.{Entry, Note, Loss, History, blank}
 use Rattle.rules.specs.Numbers.{sOk, sIoErr}
-use Rattle.examples.proofs.Examples.{block, memory, words, message, table, available, range, device, stream, runs}
+use Rattle.examples.proofs.Examples.{Ran, block, memory, words, message, table, available, range, device, stream, runs}
 
 -- the control ring at page 1 with STOP and RELEASE of stream 0, the play ring at page 2 with heads 0, 1 and 3: payloads 11 12 13, none,
 -- and 21 22 23 24. Requests stand from 16 on, replies from 64 on, tables of chains from 200 on
@@ -32,11 +32,28 @@ lent =
     ∷ [])
 
 abbrev pub speaker : Device History
-speaker = let b = device 14856 15 (1 ∷ 0 ∷ 2 ∷ 0 ∷ []) (stream runningState 0 ∷ []) in record { rest = b .rest; play = blank; capture = blank }
+speaker = let b = device 14856 15 (1 ∷ 0 ∷ 2 ∷ 0 ∷ []) (stream runningState 0 ∷ []) in
+    record { rest = b .rest; play = blank; capture = blank }
 
--- the account's history of the play queue after these requests, each lent the memory that the one before left
-abbrev pub after : List Request → History
-after qs = runs account speaker lent qs .state .play
+-- what is shown after a call: the account's history of the play queue, what memory holds at the three replies, and the backlog that
+-- the stream remembers
+pub record Shown : Type 0 where
+  pub history : History
+  pub statuses : List ℕ
+  pub remembered : List ℕ
+
+abbrev pub shown : Ran History → Shown
+shown r =
+    record {
+      history = r .state .play;
+      statuses = take 24 (drop 64 (r .memory));
+      remembered = map (λ (s : Stream). s .backlog) (r .state .rest .streams);
+    }
+
+-- that after each of these requests, each lent the memory that the one before left
+unfoldable pub afterEach : Device History → List ℕ → List Request → List Shown
+afterEach b m [] = []
+afterEach b m (q ∷ qs) = let r = runs account b m (q ∷ []) in shown r ∷ afterEach (r .state) (r .memory) qs
 
 abbrev pub taken : ℕ → ℕ → ℕ → ℕ → Form → Taking
 taken head request len reply form = record { head = head; request = range request len ∷ []; reply = range reply 8 ∷ []; form = form }
@@ -47,11 +64,15 @@ note of pos from byte = record { of = of; pos = pos; from = from; byte = byte }
 abbrev pub loss : ℕ → ℕ → Loss
 loss of pos = record { of = of; pos = pos }
 
-abbrev pub first : List Taking
-first = taken 0 16 7 64 wellFormed ∷ []
+abbrev pub history : List Taking → List Entry → List Note → List Loss → History
+history takings entries notes losses = record { takings = takings; entries = entries; notes = notes; losses = losses }
+
+-- the three takings, the entries of the first two, the bytes handed over in the first play and in both
+abbrev pub first : Taking
+first = taken 0 16 7 64 wellFormed
 
 abbrev pub all : List Taking
-all = taken 0 16 7 64 wellFormed ∷ taken 1 24 4 72 refused ∷ taken 3 32 8 80 wellFormed ∷ []
+all = first ∷ taken 1 24 4 72 refused ∷ taken 3 32 8 80 wellFormed ∷ []
 
 abbrev pub answered : List Entry
 answered =
@@ -65,76 +86,44 @@ begun = note 0 0 20 11 ∷ note 0 1 21 12 ∷ []
 abbrev pub heard : List Note
 heard = begun ++ note 0 2 22 13 ∷ note 2 0 36 21 ∷ note 2 1 37 22 ∷ []
 
--- two bytes of room with a backlog of 480, then three with one of 960: the first message is finished, the second answered, the third
--- begun
-abbrev pub plays : List Request
-plays = Play (0 ∷ 0 ∷ []) 480 ∷ Play (0 ∷ 0 ∷ 0 ∷ []) 960 ∷ []
+-- two bytes of room with a backlog of 480: the first message is begun
+abbrev pub a-part-played : Shown
+a-part-played = record { history = history (first ∷ []) [] begun []; statuses = words (replicate 6 0); remembered = 480 ∷ [] }
 
-pub a-part-played : after (Play (0 ∷ 0 ∷ []) 480 ∷ []) ≡ record { takings = first; entries = []; notes = begun; losses = [] }
-unfolding runs
-a-part-played = refl
-
-pub played-on : after plays ≡ record { takings = all; entries = answered; notes = heard; losses = [] }
-unfolding runs
-played-on = refl
-
--- STOP adds nothing; RELEASE gives up what waits. A play in between is refused, and its backlog is not remembered
-stopped-with : after (plays ++ Control ∷ []) ≡ record { takings = all; entries = answered; notes = heard; losses = [] }
-unfolding runs
-stopped-with = refl
-
-pub stopped : after (plays ++ Control ∷ []) ≡ after plays
-stopped = stopped-with ∙ sym played-on
-
-abbrev pub ended : List Request
-ended = plays ++ Control ∷ Play (0 ∷ []) 77 ∷ Control ∷ []
-
-pub given-up :
-    after ended
-    ≡ record {
-      takings = all;
-      entries = answered ++ record { head = 3; length = 8; ending = released; status = some sIoErr; latency = 960 } ∷ [];
-      notes = heard;
-      losses = loss 2 2 ∷ loss 2 3 ∷ [];
+-- three bytes with a backlog of 960: the first message is finished, the second answered, the third begun. Memory has 0x8000 and 960 for
+-- the finished one, 0x8003 and 960 for the ill-formed one
+abbrev pub played-on : Shown
+played-on =
+    record {
+      history = history all answered heard [];
+      statuses = words (32768 ∷ 960 ∷ 32771 ∷ 960 ∷ 0 ∷ 0 ∷ []);
+      remembered = 960 ∷ [];
     }
-unfolding runs
-given-up = refl
 
--- STATUS written 0 starts all anew
-pub anew : after (plays ++ WriteRegister 18 1 0 ∷ []) ≡ blank
-unfolding runs
-anew = refl
+-- RELEASE gives up what waits, with 0x8003 and the backlog remembered
+abbrev pub given-up : Shown
+given-up =
+    record {
+      history =
+          history all (answered ++ record { head = 3; length = 8; ending = released; status = some sIoErr; latency = 960 } ∷ [])
+          heard (loss 2 2 ∷ loss 2 3 ∷ []);
+      statuses = words (32768 ∷ 960 ∷ 32771 ∷ 960 ∷ 32771 ∷ 960 ∷ []);
+      remembered = 960 ∷ [];
+    }
 
--- ---- order 5
+-- STATUS written 0 starts all anew; what was written to memory stands
+abbrev pub anew : Shown
+anew = record { history = blank; statuses = given-up .statuses; remembered = 0 ∷ [] }
 
--- what memory holds at the three replies after these requests
-abbrev pub statuses : List Request → List ℕ
-statuses qs = take 24 (drop 64 (runs account speaker lent qs .memory))
+-- STOP adds nothing, nor does the play after it, which is refused: its backlog is not remembered
+pub account-of-a-play :
+    afterEach speaker lent
+    (Play (0 ∷ 0 ∷ []) 480 ∷ Play (0 ∷ 0 ∷ 0 ∷ []) 960 ∷ Control ∷ Play (0 ∷ []) 77 ∷ Control ∷ WriteRegister 18 1 0 ∷ [])
+    ≡ a-part-played ∷ played-on ∷ played-on ∷ played-on ∷ given-up ∷ anew ∷ []
+unfolding runs afterEach
+account-of-a-play = refl
 
--- the backlog that the stream remembers
-abbrev pub remembered : List Request → List ℕ
-remembered qs = map (λ (s : Stream). s .backlog) (runs account speaker lent qs .state .rest .streams)
-
--- a play with backlog 960 that finishes a message writes 0x8000 and 960, and an ill-formed one 0x8003 and 960; a Release after it writes
--- 0x8003 and 960
-pub latency-of-a-play : statuses plays ≡ words (32768 ∷ 960 ∷ 32771 ∷ 960 ∷ 0 ∷ 0 ∷ [])
-unfolding runs
-latency-of-a-play = refl
-
-pub latency-of-a-release : statuses ended ≡ words (32768 ∷ 960 ∷ 32771 ∷ 960 ∷ 32771 ∷ 960 ∷ [])
-unfolding runs
-latency-of-a-release = refl
-
--- a Release with no play before it writes 0, for ill-formed messages too
-pub latency-of-none : statuses (Control ∷ Control ∷ []) ≡ words (32771 ∷ 0 ∷ 32771 ∷ 0 ∷ 32771 ∷ 0 ∷ [])
+-- a Release with no play before it writes latency 0, for ill-formed messages too
+pub latency-of-none : shown (runs account speaker lent (Control ∷ Control ∷ [])) .statuses ≡ words (32771 ∷ 0 ∷ 32771 ∷ 0 ∷ 32771 ∷ 0 ∷ [])
 unfolding runs
 latency-of-none = refl
-
--- STOP and RELEASE keep the backlog; a reset forgets it
-pub backlog-kept : (remembered plays ≡ 960 ∷ []) × (remembered ended ≡ 960 ∷ [])
-unfolding runs
-backlog-kept = (refl, refl)
-
-pub backlog-forgotten : remembered (plays ++ WriteRegister 18 1 0 ∷ []) ≡ 0 ∷ []
-unfolding runs
-backlog-forgotten = refl

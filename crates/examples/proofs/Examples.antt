@@ -7,7 +7,8 @@ use mathlib.Core.Option.{Option, none, some}
 use Prim.Native.Nat.{ℕ, zero, suc, _+_, _-_, _*_}
 use lib.ListN.{length, take, replicate}
 use Rattle.chain.specs.Walk.{Outcome, whole, faulted, descriptorAt, descriptors, joinedOf, enterOf, inTable, direct, walkOf}
-use Rattle.chain.specs.declared.Fault.the-variants.{PastTable, TooMany, Order, TooLong, NotNegotiated, WithNext, Nested, TableLength, TableOutside}
+use Rattle.chain.specs.declared.Fault.the-variants.{PastTable, TooMany, Order, TooLong, NotNegotiated, WithNext, Nested, TableLength}
+use Rattle.chain.specs.declared.Fault.the-variants.{TableOutside}
 use Rattle.description.specs.Lawful.{every, lawfulStream, lawfulJack, lawfulPositions, lawfulMap, lawfulCounts, lawful}
 use Rattle.description.specs.declared.StreamInfo.{StreamInfo}
 use Rattle.formats.specs.Widths.{physicalBits}
@@ -15,7 +16,8 @@ use Rattle.memory.specs.Bytes.{le, put}
 use Rattle.ranges.specs.Ranges.{total, places, upFrom, putAt, allInside}
 use Rattle.ranges.specs.declared.Range.{Range}
 use Rattle.registers.specs.Map.{registerAt, configAt, sizeOf}
-use Rattle.registers.specs.Rules.{readOf, writeOf, powerOn, live, signalled, broken, pageRead, configBytes, configValue, isrRead, wroteFeatures, wrotePage, wroteSelector, wroteNotify, storedStatus, wroteStatus}
+use Rattle.registers.specs.Rules.{readOf, writeOf, powerOn, live, signalled, broken, pageRead, configBytes, configValue, isrRead}
+use Rattle.registers.specs.Rules.{wroteFeatures, wrotePage, wroteSelector, wroteNotify, storedStatus, wroteStatus}
 use Rattle.registers.specs.declared.Registers.{Registers}
 use Rattle.ring.specs.Rules.{foundOf, headAt, postedAt, interrupts}
 use Rattle.card.specs.Card.{noCounters, freshStream, freshState, setState, preparedState, runningState, stoppedState, releasedState}
@@ -25,12 +27,17 @@ use Rattle.card.specs.declared.Stream.{Stream}
 use Rattle.registers.specs.Answers.{plain}
 use Rattle.ring.specs.declared.Cause.{Cause}
 use Rattle.ring.specs.declared.Stop.{Stop}
-use Rattle.rules.specs.Calls.{Request, ReadRegister, WriteRegister, Control, Play, Capture, Event, Call, Told, toldAll, step, Order as Decided, Done, ReleaseFirst, readMessage, Emptied, eventRoom, replied, orderOf, emptied, releasedOf, transferred, eventAllowed, recorded, eventPosted, tried, eventRun, eventOf, readStep, writeStep, releaseStep, transferStep, remembering}
+use Rattle.rules.specs.Calls.{Request, ReadRegister, WriteRegister, Control, Play, Capture, Event, Call, Told, toldAll, step}
+use Rattle.rules.specs.Calls.{Order as Decided, Done, ReleaseFirst, readMessage, Emptied, eventRoom, replied, orderOf, emptied, releasedOf}
+use Rattle.rules.specs.Calls.{transferred, eventAllowed, recorded, eventPosted, tried, eventRun, eventOf, readStep, writeStep, releaseStep}
+use Rattle.rules.specs.Calls.{transferStep, remembering}
 use Rattle.rules.specs.Claim.{card, toldBy}
-use Rattle.rules.specs.Control.{Parts, Served, Reply, Release, joined, information, remap, judgedParams, setParams, commanded, decodedOf, served}
+use Rattle.rules.specs.Control.{Parts, Served, Reply, Release, joined, information, remap, judgedParams, setParams, commanded, decodedOf}
+use Rattle.rules.specs.Control.{served}
 use Rattle.rules.specs.Lifecycle.{transition}
 use Rattle.rules.specs.Counters.{countersOf}
-use Rattle.rules.specs.Device.{Virtqueue, Direction, output, input, Form, wellFormed, refused, silent, Taking, Queue, emptyQueue, Device, withRegisters, withJacks, withControl, withEvent, bytesOf}
+use Rattle.rules.specs.Device.{Virtqueue, Direction, output, input, Form, wellFormed, refused, silent, Taking, Queue, emptyQueue, Device}
+use Rattle.rules.specs.Device.{withRegisters, withJacks, withControl, withEvent, bytesOf}
 use Rattle.rules.specs.Loop.{loop}
 use Rattle.rules.specs.Numbers.{sOk, sBadMsg, sNotSupp}
 use Rattle.rules.specs.Histories as history
@@ -156,7 +163,12 @@ pub record Ran (Q : Type 0) : Type 0 where
   pub memory : List ℕ
 
 unfoldable pub runs : {Q : Type 0} → (Direction → Ops Q) → Device Q → List ℕ → List Request → Ran Q
-unfolding descriptorAt descriptors joinedOf enterOf inTable direct le put total places upFrom putAt allInside registerAt configAt sizeOf readOf writeOf live signalled broken pageRead configBytes configValue isrRead wroteFeatures wrotePage wroteSelector wroteNotify storedStatus wroteStatus foundOf headAt postedAt interrupts replied orderOf emptied releasedOf transferred eventAllowed recorded eventPosted tried eventRun eventOf readStep writeStep releaseStep transferStep remembering information remap judgedParams setParams transition commanded decodedOf served formOf takingOf payloadOf completed moved entered next transferRun releaseRun loop bytesOf toldBy handedNow waiting took noted history.entered
+unfolding descriptorAt descriptors joinedOf enterOf inTable direct le put total places upFrom putAt allInside registerAt configAt sizeOf
+    readOf writeOf live signalled broken pageRead configBytes configValue isrRead wroteFeatures wrotePage wroteSelector wroteNotify
+    storedStatus wroteStatus foundOf headAt postedAt interrupts replied orderOf emptied releasedOf transferred eventAllowed recorded
+    eventPosted tried eventRun eventOf readStep writeStep releaseStep transferStep remembering information remap judgedParams setParams
+    transition commanded decodedOf served formOf takingOf payloadOf completed moved entered next transferRun releaseRun loop bytesOf toldBy
+    handedNow waiting took noted history.withEntry
 runs ops b m [] = record { answers = []; counts = []; state = b; memory = m }
 runs ops b m (q ∷ qs) =
     let s = step ops b (record { asked = q; lent = m }) in
@@ -199,7 +211,8 @@ broken-comes-last = (refl, refl, refl)
 
 -- the control ring at page 1, which ends where RAM ends: 64 new entries, and 65, also with a head of 64; that head, which is not taken
 abbrev pub offering : ℕ → ℕ → Ran Queue
-offering index head = run (device 5768 15 (1 ∷ 0 ∷ 0 ∷ 0 ∷ []) []) (memory 5768 (block 5120 (available 1 index (head ∷ [])) ∷ [])) (Control ∷ [])
+offering index head =
+    run (device 5768 15 (1 ∷ 0 ∷ 0 ∷ 0 ∷ []) []) (memory 5768 (block 5120 (available 1 index (head ∷ [])) ∷ [])) (Control ∷ [])
 
 pub control-ring :
     (offering 64 0 .answers ≡ 0 ∷ [])
@@ -269,7 +282,10 @@ inWork =
     record {
       taken = 65535;
       completed = 65534;
-      work = some (record { taking = record { head = 6; request = range 32 7 ∷ []; reply = range 56 8 ∷ []; form = wellFormed }; done = 2 });
+      work = some (record {
+        taking = record { head = 6; request = range 32 7 ∷ []; reply = range 56 8 ∷ []; form = wellFormed };
+        done = 2;
+      });
     }
 
 abbrev pub inUse : ℕ → ℕ → ℕ → Device Queue
@@ -766,7 +782,8 @@ capturing done mem bytes host room =
     }
 
 pub capture-moves :
-    moved (countersOf input) (record { direction = input; page = record { 0 = 1 }; negotiated = true; latency = 0 }) (capturing 0 (replicate 6 0) [] (7 ∷ 8 ∷ 9 ∷ []) 3)
+    moved (countersOf input) (record { direction = input; page = record { 0 = 1 }; negotiated = true; latency = 0 })
+    (capturing 0 (replicate 6 0) [] (7 ∷ 8 ∷ 9 ∷ []) 3)
     ≡ capturing 2 (0 ∷ 7 ∷ 0 ∷ 0 ∷ 8 ∷ 0 ∷ []) (7 ∷ 8 ∷ []) (9 ∷ []) 1
 unfolding runs
 capture-moves = refl
@@ -848,7 +865,8 @@ powers jacks outputs inputs formats rates high channels position =
 pub descriptions :
     (powers 4 1 1 33554431 16383 18 18 36 ∷ powers 0 1 0 1 1 1 17 0 ∷ [] ≡ 0 ∷ 0 ∷ [])
     × (powers 5 1 1 1 1 1 18 36 ∷ powers 0 0 1 1 1 1 18 36 ∷ powers 0 1 2 1 1 1 18 36 ∷ [] ≡ replicate 3 10)
-    × (powers 0 1 1 0 1 1 18 36 ∷ powers 0 1 1 33554432 1 1 18 36 ∷ powers 0 1 1 1 0 1 18 36 ∷ powers 0 1 1 1 16384 1 18 36 ∷ [] ≡ replicate 4 10)
+    × (powers 0 1 1 0 1 1 18 36 ∷ powers 0 1 1 33554432 1 1 18 36 ∷ powers 0 1 1 1 0 1 18 36 ∷ powers 0 1 1 1 16384 1 18 36 ∷ []
+    ≡ replicate 4 10)
     × (powers 0 1 1 1 1 0 18 36 ∷ powers 0 1 1 1 1 19 18 36 ∷ powers 0 1 1 1 1 1 18 37 ∷ powers 0 1 1 1 1 1 17 1 ∷ [] ≡ replicate 4 10)
 unfolding poweredOf lawful every lawfulCounts lawfulJack lawfulMap lawfulPositions lawfulStream
 descriptions = (refl, refl, refl, refl)

@@ -16,7 +16,8 @@ use Rattle.card.specs.declared.Message.{Message}
 use Rattle.card.proofs.Keeps.{no-message-fit}
 use Rattle.rules.specs.Counters.{countersOf, isNone}
 use Rattle.rules.specs.Device as rules
-use Rattle.rules.specs.Transfer.{Run, worked, moved, payloadOf, takingOf, statusOf, completed, settled, entered, next, givenUp, isNil, isWell}
+use Rattle.rules.specs.Transfer.{Run, worked, moved, payloadOf, takingOf, statusOf, completed, settled, entered, next, givenUp, isNil}
+use Rattle.rules.specs.Transfer.{isWell}
 use Rattle.meaning.specs.Card.{takingIn, messageOf}
 use Rattle.message.specs.Message as message
 use Rattle.message.specs.Message.{virtqueueAs, answeredOf, FitTaken}
@@ -28,7 +29,8 @@ use Rattle.ring.specs.declared.Cause.{Cause}
 use Rattle.ring.specs.declared.Head.{Head}
 use Rattle.ring.specs.Rules.{Completion, headOf}
 use mathlib.Core.Option.{Option, some}
-use Rattle.flow.specs.Flow.{payloadBytes, runOf, advancedBy, endedBy, refusedBy, refusedIn, begunWith, stoppedFlow, Busy, FitFlow, Steps}
+use Rattle.flow.specs.Flow.{payloadBytes, runOf, advancedBy, endedBy, refusedBy, refusedIn, begunWith, stoppedFlow, Busy, FitFlow}
+use Rattle.flow.specs.Flow.{Steps}
 use Rattle.flow.specs.declared.Flow.{Flow}
 
 -- ---- parts of lists
@@ -90,7 +92,8 @@ module _ (q : Virtqueue) (ws m host : List ℕ) (f : Flow) (n : ℕ) (busy : Bus
       rw bytes at (take-sets host (bytesAt m xs) (f .moved) (omega arith)) in
       let b : drop (f .moved + n) (sets host (f .moved) (bytesAt m xs)) ≡ drop n (drop (f .moved) host) =
       rw bytes at (drop-sets host (bytesAt m xs) (f .moved) (omega arith)) ∙ sym (drop-drop n (f .moved) host) in
-      let c : length (sets host (f .moved) (bytesAt m xs)) - (f .moved + n) ≡ length host - f .moved - n = rw length-sets (sub-both (length host) (f .moved) n) in
+      let c : length (sets host (f .moved) (bytesAt m xs)) - (f .moved + n) ≡ length host - f .moved - n =
+      rw length-sets (sub-both (length host) (f .moved) n) in
       rw (busy, same, size, a, b, c)
 
   -- filling, in the rules' terms

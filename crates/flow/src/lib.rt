@@ -2,7 +2,7 @@
 // work handed to the host or filled from it, completed where nothing of it waits, or ended by a
 // Release. Payload moves in runs.
 ghost use mathlib.Core.Path.{_≡_};
-ghost use Prim.Native.Nat.{_+_, _-_, _≤_, _<_, min};
+ghost use Prim.Native.Nat.{_+_, _-_, _≤_, _<_};
 ghost use lib.ListN.{length};
 ghost use Rattle.message.specs.Message.{directionOf, virtqueueAs, virtqueueIn, formIn, statusIn, takingIn, FitTaken};
 ghost use Rattle.rules.specs.Counters.{countersOf};
@@ -11,7 +11,8 @@ ghost use Rattle.card.specs.Fit.{FitMessage};
 ghost use mathlib.Core.Option.{some};
 ghost use mathlib.Core.Bool.{_||_};
 ghost use Rattle.rules.specs.Transfer.{moved, settled, entered, worked, givenUp, next, statusOf};
-ghost use Rattle.flow.specs.Flow.{runOf, FitFlow, Busy, payloadBytes, endingOf, advancedBy, begunWith, stoppedFlow, Steps, StepsOn, Ends, refusedIn};
+ghost use Rattle.flow.specs.Flow.{runOf, FitFlow, Busy, payloadBytes, endingOf, advancedBy, begunWith, stoppedFlow, Steps, StepsOn};
+ghost use Rattle.flow.specs.Flow.{Ends, refusedIn};
 use card::Counters;
 use card::Message;
 use counts::DescriptorNumber;
@@ -37,15 +38,6 @@ pub struct Flow {
 pub enum Ending {
     Finished,
     Released,
-}
-
-fn least(a: usize, b: usize) -> usize
-    ensures { λ r. ⌜ r ≡ min a b ⌝ }
-{
-    if a <= b {
-        return a;
-    }
-    b
 }
 
 // How many bytes of the message's payload wait.
@@ -84,7 +76,7 @@ fn hand_on(m: &[u8], list: &[u64], host: &mut [u8], q: Virtqueue, f: Flow) -> Fl
     let message = f.message;
     let request = message.request;
     let at = f.moved;
-    let n = least(host.len() - at, waiting(Direction::Output, message));
+    let n = ranges::least(host.len() - at, waiting(Direction::Output, message));
     ranges::gather(m, list, request, 4 + message.done as usize, host, at, n);
     advanced(f, n)
 }
@@ -99,7 +91,7 @@ fn fill(m: &mut [u8], list: &[u64], host: &[u8], q: Virtqueue, f: Flow) -> Flow
     let message = f.message;
     let reply = message.reply;
     let at = f.moved;
-    let n = least(host.len() - at, waiting(Direction::Input, message));
+    let n = ranges::least(host.len() - at, waiting(Direction::Input, message));
     ranges::scatter(m, list, reply, message.done as usize, host, at, n);
     advanced(f, n)
 }

@@ -14,19 +14,13 @@ use Rattle.card.specs.declared.Stream.{Stream}
 use Rattle.card.specs.Fit.{FitParts}
 use Rattle.card.specs.declared.Parts.{Parts}
 use Rattle.rules.specs.Control.{itemsOf, fitted}
-use Rattle.ranges.proofs.Laws.{take-append}
+use Rattle.ranges.specs.Ranges.{bytesAt, upFrom}
+use Rattle.ranges.proofs.Laws.{take-append, bytesAt-upFrom}
 use Rattle.meaning.specs.Card.{partsOf}
 use Rattle.rules.specs.declared.Listing.{Listing}
 use Rattle.rules.specs.declared.Listing.the-variants.{Jacks, Streams, Maps}
 use Rattle.rules.specs.Device.{bytesOf}
 use Rattle.rules.specs.Control.{pcmItem, pcmItems, mapItem, joined}
-
--- ---- one byte more of a copy
-
-pub copy-more : (n i : ℕ) (d : List ℕ) (at : ℕ) (s : List ℕ) → i < n → n ≤ length s
-    → sets d at (drop i (take n s)) ≡ sets (set d at (getD s i 0)) (at + 1) (drop (i + 1) (take n s))
-copy-more n i d at s h b =
-    rw (drop-cons (take n s) i 0 (rw length-take (omega arith)), getD-take n s i 0 h, add-one i, add-one at)
 
 -- ---- items
 
@@ -95,11 +89,12 @@ zeros-split (suc k) (suc n) h =
 
 -- a map's numbers, then its positions, over zeros
 pub map-bytes : (m : MapInfo) → length (m .positions) ≡ 18
-    → sets (put 4 (set (set (replicate 32 0) 4 (m .direction)) 5 (m .channels)) 0 (m .nid)) 6 (take 18 (m .positions))
+    → sets (put 4 (set (set (replicate 32 0) 4 (m .direction)) 5 (m .channels)) 0 (m .nid)) 6 (bytesAt (m .positions) (upFrom 0 18))
     ≡ mapItem m ++ replicate 8 0
 unfolding put bytesOf
 map-bytes m h =
     rw (
+      bytesAt-upFrom (m .positions) 0 18 (omega arith),
       take-all 18 (m .positions) (omega arith),
       sets-eq (m .positions)
           (put 4 (set (set (replicate 32 0) 4 (m .direction)) 5 (m .channels)) 0 (m .nid)) 6 (omega arith),

@@ -40,20 +40,6 @@ pub fn total(parts: Parts, l: Listing) -> usize
     }
 }
 
-// The first `n` bytes of `src`, copied to `dst` at `at`.
-fn copy(dst: &mut [u8], at: usize, src: &[u8], n: usize)
-    requires { ⌜ (at + n ≤ length (now dst)) × (n ≤ length (now src)) ⌝ }
-    ensures { λ r. ⌜ now (dst .exit) ≡ sets (now (dst .entry)) at (take n (now (src .entry))) ⌝ }
-{
-    let mut d = at;
-    let mut i = 0;
-    while i < n {
-        dst[d] = src[i];
-        d += 1;
-        i += 1;
-    }
-}
-
 // An item, then zeros to the length of the longest.
 fn jack_item(jack: Jack) -> [u8; 32]
     ensures { λ r. ⌜ r ≡ jackItem jack ++ replicate 8 0 ⌝ }
@@ -101,7 +87,7 @@ fn map_item(map: MapInfo) -> [u8; 32]
     bytes[4] = map.direction;
     bytes[5] = map.channels;
     memory::set32(&mut bytes, 0, map.nid);
-    copy(&mut bytes, 6, &positions, 18);
+    ranges::copy(&mut bytes, 6, &positions, 0, 18);
     bytes
 }
 
@@ -126,15 +112,6 @@ fn item(parts: Parts, l: Listing, i: usize) -> [u8; 32]
     }
 }
 
-fn least(a: usize, b: usize) -> usize
-    ensures { λ r. ⌜ r ≡ min a b ⌝ }
-{
-    if a <= b {
-        return a;
-    }
-    b
-}
-
 // Zeros in a row.
 fn zeros() -> [u8; 1024]
     ensures { λ r. ⌜ r ≡ replicate 1024 0 ⌝ }
@@ -151,7 +128,7 @@ fn write_zeros(m: &mut [u8], list: &[u64], reply: Ranges, start: usize, n: usize
     let mut at = start;
     let mut left = n;
     while 0 < left {
-        let k = least(left, 1024);
+        let k = ranges::least(left, 1024);
         ranges::scatter(m, list, reply, at, &run, 0, k);
         at += k;
         left -= k;
@@ -173,7 +150,7 @@ fn write_item(
         ≡ putAt (now (m .entry)) (drop at (places (rangesOf (now (list .entry)) reply)))
         (fitted size (take natural (now (item .entry)))) ⌝ }
 {
-    let k = least(natural, size);
+    let k = ranges::least(natural, size);
     ranges::scatter(m, list, reply, at, item, 0, k);
     write_zeros(m, list, reply, at + k, size - k);
 }

@@ -16,6 +16,7 @@ unfoldable pub put : ℕ → List ℕ → ℕ → ℕ → List ℕ
 put zero m at v = m
 put (suc k) m at v = put k (set m at (v % 256)) (at + 1) (v / 256)
 
--- 01, Rings and chains: n bytes at `at` lie inside `len` bytes; "Length 0 is inside RAM at any address"
+-- 01, Rings and chains: n bytes at `at` lie inside `len` bytes; "Length 0 is inside RAM at any address".
+-- The sum is a number without bound: none of address and length is formed in 64 bits
 abbrev pub insideOf : ℕ → ℕ → ℕ → Bool
 insideOf len at n = cond (eqb n 0) true (leb (at + n) len)

@@ -45,8 +45,10 @@ unfolding takingOf
 taken-by v m head o h = ap (walkedTaking (v .direction) m head) h
 
 -- a completion whose eight bytes go to the reply's last eight is an answer
-pub completed-answer : (d : rules.Direction) (m : List ℕ) (page : PageNumber) (completed : ℕ) (head : DescriptorNumber) (reply : List Range) (code latency recorded : ℕ)
-    → completedOf m page (sizeOf (rules.queueNumber d)) completed head (answeredLength d recorded) reply (total reply - 8) (statusBytes code latency) 8
+pub completed-answer : (d : rules.Direction) (m : List ℕ) (page : PageNumber) (completed : ℕ) (head : DescriptorNumber) (reply : List Range)
+    (code latency recorded : ℕ)
+    → completedOf m page (sizeOf (rules.queueNumber d)) completed head (answeredLength d recorded) reply (total reply - 8)
+    (statusBytes code latency) 8
     ≡ answeredOf d m page completed (head .0) reply (some code) latency recorded
 unfolding completedOf postOf answeredOf rules.bytesOf
 completed-answer rules.output m page completed head reply code latency recorded =

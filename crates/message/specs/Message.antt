@@ -10,7 +10,7 @@ use Rattle.ranges.specs.declared.Range.{Range}
 use Rattle.ring.specs.Rules.{Completion, baseOf, nextOf, postedOf, interrupts}
 use Rattle.registers.specs.Map.{sizeOf}
 use Rattle.rules.specs.Device as rules
-use Rattle.rules.specs.Transfer.{withStatus, usedLength}
+use Rattle.rules.specs.Transfer.{statusInReply, usedLength}
 use Rattle.message.specs.declared.Direction.{Direction}
 use Rattle.message.specs.declared.Direction.the-variants.{Output, Input}
 use Rattle.message.specs.declared.Form.{Form}
@@ -64,5 +64,6 @@ answeredLength d recorded = usedLength d (some 0) recorded
 unfoldable pub answeredOf : rules.Direction → List ℕ → PageNumber → ℕ → ℕ → List Range → Option ℕ → ℕ → ℕ → Completion
 answeredOf d m page completed head reply status latency recorded =
     let after : List ℕ =
-    postedOf (withStatus status latency reply m) (baseOf page) (sizeOf (rules.queueNumber d)) completed head (usedLength d status recorded) in
+    postedOf (statusInReply status latency reply m) (baseOf page) (sizeOf (rules.queueNumber d)) completed head
+    (usedLength d status recorded) in
     record { memory = after; completed = nextOf completed; interrupt = interrupts after (baseOf page) (sizeOf (rules.queueNumber d)) }

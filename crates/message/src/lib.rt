@@ -14,11 +14,8 @@ use counts::DescriptorNumber;
 use counts::PageNumber;
 use ranges::Ranges;
 use ring::Posted;
-
-// The status codes of an I/O message.
-pub const OK: u32 = 32768;
-
-pub const IO_ERR: u32 = 32771;
+pub use rules::IO_ERR;
+pub use rules::OK;
 
 // Output stream 0 on the play queue, input stream 1 on the capture queue.
 pub enum Direction {
@@ -63,8 +60,8 @@ pub fn queue_number(d: Direction) -> u8
     ensures { λ r. ⌜ r ≡ queueNumber (directionOf d) ⌝ }
 {
     match d {
-        Direction::Output => 2,
-        Direction::Input => 3,
+        Direction::Output => registers::PLAY_QUEUE as u8,
+        Direction::Input => registers::CAPTURE_QUEUE as u8,
     }
 }
 
@@ -73,8 +70,8 @@ pub fn queue_size(d: Direction) -> u16
     ensures { λ r. ⌜ r ≡ sizeOf (queueNumber (directionOf d)) ⌝ }
 {
     match d {
-        Direction::Output => registers::queue_size(2),
-        Direction::Input => registers::queue_size(3),
+        Direction::Output => registers::queue_size(registers::PLAY_QUEUE),
+        Direction::Input => registers::queue_size(registers::CAPTURE_QUEUE),
     }
 }
 

@@ -141,7 +141,7 @@ module _ {A : Type 0} where
   sets-take zero (v ∷ vs) l i h = sym (sets-past (v ∷ vs) l i (omega arith))
   sets-take (suc k) (v ∷ vs) l i h = sets-take k vs (set l i v) (suc i) (simp length-set (omega arith))
 
-  map-take : {B : Type 0} (f : A → B) (k : ℕ) (xs : List A) → map f (take k xs) ≡ take k (map f xs)
+  pub map-take : {B : Type 0} (f : A → B) (k : ℕ) (xs : List A) → map f (take k xs) ≡ take k (map f xs)
   map-take f zero xs = refl
   map-take f (suc k) [] = refl
   map-take f (suc k) (x ∷ xs) = rw (map-take f k xs)
@@ -154,6 +154,12 @@ upFrom-add a zero n = rw (zero-add, add-zero)
 upFrom-add a (suc k) n =
     let e : a + suc k ≡ a + 1 + k = omega arith in
     rw (suc-add, upFrom-add (a + 1) k n, e)
+
+-- the bytes at addresses in a row are a part of memory
+pub bytesAt-upFrom : (m : List ℕ) (a n : ℕ) → a + n ≤ length m → bytesAt m (upFrom a n) ≡ take n (drop a m)
+unfolding upFrom
+bytesAt-upFrom m a zero h = refl
+bytesAt-upFrom m a (suc n) h = rw (bytesAt-upFrom m (a + 1) n (omega arith), drop-cons m a 0 (omega arith), add-one)
 
 pub take-upFrom : (n a len : ℕ) → take n (upFrom a len) ≡ upFrom a (min len n)
 unfolding upFrom

@@ -23,7 +23,7 @@ pub struct Ranges {
     pub bytes: u32,
 }
 
-fn least(a: usize, b: usize) -> usize
+pub fn least(a: usize, b: usize) -> usize
     ensures { λ r. ⌜ r ≡ min a b ⌝ }
 {
     if a <= b {
@@ -106,7 +106,7 @@ pub fn all_inside(len: usize, list: &[u64], r: Ranges) -> bool
 }
 
 // `n` bytes of `src` at `from`, copied to `dst` at `at`.
-fn copy(dst: &mut [u8], at: usize, src: &[u8], from: usize, n: usize)
+pub fn copy(dst: &mut [u8], at: usize, src: &[u8], from: usize, n: usize)
     requires { ⌜ (at + n ≤ length (now dst)) × (from + n ≤ length (now src)) ⌝ }
     ensures { λ r. ⌜ now (dst .exit) ≡ sets (now (dst .entry)) at (bytesAt (now (src .entry)) (upFrom from n)) ⌝ }
 {

@@ -3,6 +3,15 @@
 ghost use mathlib.Core.Path.{_≡_};
 ghost use Rattle.register_map.specs.Map.{registerAt, exactly, configAt, sizeOf};
 
+// The queues' numbers (002, 3.4.2).
+pub const CONTROL_QUEUE: u16 = 0;
+
+pub const EVENT_QUEUE: u16 = 1;
+
+pub const PLAY_QUEUE: u16 = 2;
+
+pub const CAPTURE_QUEUE: u16 = 3;
+
 // What an access reaches.
 pub enum Register {
     HostFeatures,
@@ -75,10 +84,10 @@ pub fn queue_size(queue: u16) -> u16
     ensures { λ r. ⌜ r ≡ sizeOf queue ⌝ }
 {
     match queue {
-        0 => 64,
-        1 => 64,
-        2 => 256,
-        3 => 64,
+        CONTROL_QUEUE => 64,
+        EVENT_QUEUE => 64,
+        PLAY_QUEUE => 256,
+        CAPTURE_QUEUE => 64,
         _ => 0,
     }
 }

@@ -116,7 +116,8 @@ module _ (r : Registers) (f : FitRegisters r) where
         record {
           four = f .four;
           small = omega arith;
-          unused = bits-apart (v % 8) (v / 8 % 2) (r .status / 64 % 2) (v / 128 % 2) (omega arith) (omega arith) (omega arith) (omega arith);
+          unused = bits-apart (v % 8) (v / 8 % 2) (r .status / 64 % 2) (v / 128 % 2) (omega arith) (omega arith) (omega arith)
+              (omega arith);
           two = f .two;
           agreed = λ g. e;
         }
@@ -133,8 +134,10 @@ module _ (r : Registers) (f : FitRegisters r) where
   unfolding wroteStatus
   status-fit v h = by-cond (λ (w : Written). FitRegisters (w .registers)) (eqb v 0) (λ e. power-on-fit) (λ e. stored-fit v h)
 
-  fitting-fit : (bytes v : ℕ) (w : Written) → (v < 256 ^ bytes → FitRegisters (w .registers)) → FitRegisters (fitting r bytes v w .registers)
-  fitting-fit bytes v w k = by-cond (λ (x : Written). FitRegisters (x .registers)) (ltb v (256 ^ bytes)) (λ e. k (ltb-true v (256 ^ bytes) e)) (λ e. f)
+  fitting-fit : (bytes v : ℕ) (w : Written) → (v < 256 ^ bytes → FitRegisters (w .registers))
+      → FitRegisters (fitting r bytes v w .registers)
+  fitting-fit bytes v w k =
+      by-cond (λ (x : Written). FitRegisters (x .registers)) (ltb v (256 ^ bytes)) (λ e. k (ltb-true v (256 ^ bytes) e)) (λ e. f)
 
   write-register-fit : (v : ℕ) (g : Register) → FitRegisters (writeRegister r v g .registers)
   unfolding wroteSelector wroteNotify

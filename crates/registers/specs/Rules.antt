@@ -50,6 +50,10 @@ featuresOk r = hasBit (r .status) 3
 unfoldable pub live : Registers → Bool
 live r = driverOk r && featuresOk r && not (hasBit (r .status) 6) && not (hasBit (r .status) 7)
 
+-- "an indirect one without bit 28 negotiated": bit 28 as the guest features have it
+abbrev pub indirectNegotiated : Registers → Bool
+indirectNegotiated r = hasBit (r .features) 28
+
 -- "The line is raised exactly while ISR is not 0."
 unfoldable pub raised : Registers → Bool
 raised r = not (eqb (r .isr) 0)
@@ -92,7 +96,8 @@ configBytes c = put 4 (put 4 (put 4 (replicate 12 0) 0 (c .jacks)) 4 (c .streams
 
 -- "widths 1, 2, 4"
 unfoldable pub configValue : Config → ℕ → ℕ → ℕ
-configValue c at width = cond (eqb width 1) (le 1 (configBytes c) at) (cond (eqb width 2) (le 2 (configBytes c) at) (le 4 (configBytes c) at))
+configValue c at width =
+    cond (eqb width 1) (le 1 (configBytes c) at) (cond (eqb width 2) (le 2 (configBytes c) at) (le 4 (configBytes c) at))
 
 -- "ISR reads its bits and clears them."
 unfoldable pub isrRead : Registers → Read
@@ -138,7 +143,8 @@ wroteSelector r v = wrote (withSelector r v) Nothing
 unfoldable pub wroteNotify : Registers → ℕ → Written
 wroteNotify r v = wrote r (cond (ltb v 4) (Rung v) Nothing)
 
--- "stores its bits 0, 1, 2, 3 and 7; bit 3 is cleared if guest features have a bit outside 0x10000000. NEEDS_RESET stays as it was."
+-- "Another value v stores its bits 0, 1, 2, 3 and 7; bit 3 is cleared if guest features have a bit outside 0x10000000. NEEDS_RESET stays as
+-- it was."
 abbrev pub onlyOffered : ℕ → Bool
 onlyOffered features = eqb features 0 || eqb features hostFeatures
 
@@ -147,7 +153,8 @@ storedStatus old good v = v % 8 + cond good (v / 8 % 2 * 8) 0 + old / 64 % 2 * 6
 
 -- "Writing 0x00 to STATUS resets"
 unfoldable pub wroteStatus : Registers → ℕ → Written
-wroteStatus r v = cond (eqb v 0) (wrote powerOn Reset) (wrote (withStatus r (storedStatus (r .status) (onlyOffered (r .features)) v)) Nothing)
+wroteStatus r v = cond (eqb v 0) (wrote powerOn Reset)
+    (wrote (withStatus r (storedStatus (r .status) (onlyOffered (r .features)) v)) Nothing)
 
 -- answer 4: "value too wide for the access", of so many bytes
 abbrev pub fitting : Registers → ℕ → ℕ → Written → Written

@@ -6,8 +6,12 @@ ghost use Rattle.registers.specs.Rules.{readOf, writeOf, powerOn, live, 
 ghost use Rattle.registers.specs.Rules.{refusedRead, valueRead, pageRead, isrRead, configBytes, configValue};
 ghost use Rattle.registers.specs.Rules.{refusedWrite, wrote, fitting, wroteFeatures, wrotePage, wroteSelector, wroteNotify};
 ghost use Rattle.registers.specs.Rules.{wroteStatus};
-ghost use Rattle.registers.specs.Rules.{hasBit, withBit, onlyOffered, storedStatus};
+ghost use Rattle.registers.specs.Rules.{hasBit, withBit, onlyOffered, storedStatus, indirectNegotiated};
 use counts::PageNumber;
+pub use register_map::CAPTURE_QUEUE;
+pub use register_map::CONTROL_QUEUE;
+pub use register_map::EVENT_QUEUE;
+pub use register_map::PLAY_QUEUE;
 pub use register_map::Register;
 pub use register_map::queue_size;
 pub use register_map::register_at;
@@ -220,6 +224,13 @@ impl Registers {
             return false;
         }
         true
+    }
+
+    // Whether the guest may name indirect tables: bit 28 of its features.
+    pub fn indirect(self) -> bool
+        ensures { λ r. ⌜ r ≡ indirectNegotiated self ⌝ }
+    {
+        self.features / HOST_FEATURES % 2 == 1
     }
 
     // Whether the interrupt line is raised.

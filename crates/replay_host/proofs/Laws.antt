@@ -16,7 +16,8 @@ use Rattle.card.specs.declared.Card.{Card}
 use Rattle.replay_line.specs.declared.Call.{Call}
 use Rattle.replay_line.specs.declared.Call.the-variants.{Read, Write, Control, Play, Capture, Event}
 use Rattle.rules.specs.Calls.{Request}
-use Rattle.replay_host.specs.Host.{hostBuffer, hostBytes, capturedBytes, askedBy, madeBy, hostFilled, hostCount, hexFilled, hexCount, upTo}
+use Rattle.replay_host.specs.Host.{hostBuffer, hostBytes, capturedBytes, askedBy, madeBy, hostFilled, hostCount, hexFilled, hexCount}
+use Rattle.replay_host.specs.Host.{upTo}
 
 pub length-poured : (t m : List ℕ) (to : ℕ) → length (poured t m to) ≡ length m
 unfolding poured

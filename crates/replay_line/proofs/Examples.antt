@@ -92,7 +92,32 @@ pub unreadable :
 unfolding isDigit digits numberAt fieldAt pairAt isHexDigit everyHexDigit isHex hexAt begins sizeAt spanOf
     jackForm mapForm streamForm powerForm readForm writeForm controlForm playForm captureForm eventForm
     storeForm fillForm ramForm dumpForm guestLine callLine partLine lineOf
-unreadable = (refl, refl, refl, refl, refl, refl, refl, refl, refl, refl, refl, refl, refl, refl, refl, refl, refl, refl, refl, refl, refl, refl, refl, refl)
+unreadable = (
+  refl,
+  refl,
+  refl,
+  refl,
+  refl,
+  refl,
+  refl,
+  refl,
+  refl,
+  refl,
+  refl,
+  refl,
+  refl,
+  refl,
+  refl,
+  refl,
+  refl,
+  refl,
+  refl,
+  refl,
+  refl,
+  refl,
+  refl,
+  refl,
+)
 
 pub bytes-of-hex : (bytesOfHex (bytes "00ff1a") ≡ 0 ∷ 255 ∷ 26 ∷ []) × (bytesOfHex (bytes "-") ≡ [])
 unfolding nibble bytesOfHex

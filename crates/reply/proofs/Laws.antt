@@ -19,6 +19,7 @@ use Rattle.card.specs.declared.Parts.{Parts}
 use Rattle.card.specs.declared.Stream.{Stream}
 use Rattle.card.proofs.Setters.{fit-with-jack, fit-with-stream}
 use Rattle.meaning.specs.Card.{partsOf}
+pub use Rattle.meaning.proofs.Streams.{stream-at}
 use Rattle.rules.specs.Control as rules
 use Rattle.rules.specs.Device.{bytesOf}
 use Rattle.reply.specs.Reply.{Outcome, outcome, completedWith, postedBy, partsWith, Serves}
@@ -91,9 +92,6 @@ module _ (p : Parts) where
 
   pub jack-at : (i : ℕ) → i < p .«jack_count» → rules.jackIn (partsOf p) i ≡ getD (p .jacks) i rules.noJack
   jack-at i h = getD-take (p .«jack_count») (p .jacks) i rules.noJack h
-
-  pub stream-at : (i : ℕ) → i < p .«stream_count» → rules.streamIn (partsOf p) i ≡ getD (p .streams) i noStream
-  stream-at i h = getD-take (p .«stream_count») (p .streams) i noStream h
 
   pub jack-set : (i : ℕ) (j : Jack) → i < p .«jack_count» → partsOf (withJackAt i j p) ≡ rules.withJack i j (partsOf p)
   jack-set i j h = rw (take-set-lt (p .«jack_count») (p .jacks) i j h)

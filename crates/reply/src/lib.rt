@@ -11,9 +11,6 @@ use counts::PageNumber;
 use ranges::Ranges;
 use ring::Posted;
 
-// The number of the control queue.
-const CONTROL_QUEUE: u16 = 0;
-
 // What the completion of a control message needs: the queue's page, how many were completed before, the
 // message's head and its writable side.
 pub struct Pending {
@@ -39,7 +36,7 @@ pub struct Served {
 pub fn close(m: &mut [u8], pending: Pending, len: u32) -> Posted
     ensures { λ r. ⌜ completion (now (m .exit)) r ≡ closedOf pending len (now (m .entry)) ⌝ }
 {
-    let size = registers::queue_size(CONTROL_QUEUE);
+    let size = registers::queue_size(registers::CONTROL_QUEUE);
     ring::post(m, pending.page, size, pending.completed, pending.head, len)
 }
 

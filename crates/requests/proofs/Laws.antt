@@ -14,15 +14,15 @@ use Rattle.meaning.specs.Card.{partsOf}
 use Rattle.reply.proofs.Laws.{jack-total, jack-at}
 use Rattle.rules.specs.Control as rules
 use Rattle.rules.specs.Numbers.{sBadMsg, sNotSupp}
-use Rattle.requests.specs.Requests.{checked, foundOf}
+use Rattle.requests.specs.Requests.{checked, partFound}
 use Rattle.requests.specs.declared.Found.the-variants.{There, Absent}
 use Rattle.requests.specs.declared.Check.the-variants.{Passed, Failed}
 
-pub found-there : (b : Bool) (id i : ℕ) → foundOf b id ≡ There i → (b ≡ true) × (i ≡ id)
+pub found-there : (b : Bool) (id i : ℕ) → partFound b id ≡ There i → (b ≡ true) × (i ≡ id)
 found-there true id i h = (refl, cc)
 found-there false id i h = let z : _≡_ {A = ℕ} 0 1 = cc in absurd (omega arith)
 
-pub found-absent : (b : Bool) (id : ℕ) → foundOf b id ≡ Absent → b ≡ false
+pub found-absent : (b : Bool) (id : ℕ) → partFound b id ≡ Absent → b ≡ false
 found-absent true id h = let z : _≡_ {A = ℕ} 0 1 = cc in absurd (omega arith)
 found-absent false id h = refl
 

@@ -9,5 +9,5 @@ use Rattle.requests.specs.declared.Found.the-variants.{There, Absent}
 abbrev pub checked : Bool → Check
 checked b = cond b Passed Failed
 
-abbrev pub foundOf : Bool → ℕ → Found
-foundOf b i = cond b (There i) Absent
+abbrev pub partFound : Bool → ℕ → Found
+partFound b i = cond b (There i) Absent

@@ -11,7 +11,7 @@ ghost use Rattle.reply.specs.Reply.{Serves, outcome, completedWith};
 ghost use Rattle.rules.specs.Control.{information as informationOf, remap as remapOf, remapAt, remappable, fourBits};
 ghost use Rattle.rules.specs.Control.{itemsOf, fitted, joined, spaced, listed, roomy, status};
 ghost use Rattle.rules.specs.Numbers.{sOk};
-ghost use Rattle.requests.specs.Requests.{checked, foundOf};
+ghost use Rattle.requests.specs.Requests.{checked, partFound};
 use card::Jack;
 use card::Parts;
 use reply::Kind;
@@ -33,7 +33,7 @@ pub enum Found {
 
 // The number of a jack or a stream of which there are `count`.
 pub fn find(id: u32, count: usize) -> Found
-    ensures { λ r. ⌜ r ≡ foundOf (ltb id count) id ⌝ }
+    ensures { λ r. ⌜ r ≡ partFound (ltb id count) id ⌝ }
 {
     if (id as usize) < count {
         return Found::There(id as usize);

@@ -125,7 +125,8 @@ module _ (m : List ℕ) (base N completed head len : ℕ) where
 
 -- the length of memory never changes
 pub length-completed :
-    (m : List ℕ) (page : PageNumber) (N completed : ℕ) (head : DescriptorNumber) (len : ℕ) (reply : List Range) (offset : ℕ) (bytes : List ℕ) (n : ℕ)
+    (m : List ℕ) (page : PageNumber) (N completed : ℕ) (head : DescriptorNumber) (len : ℕ) (reply : List Range) (offset : ℕ)
+    (bytes : List ℕ) (n : ℕ)
     → length (completedOf m page N completed head len reply offset bytes n .memory) ≡ length m
 unfolding completedOf postOf
 length-completed m page N completed head len reply offset bytes n = rw (length-posted, length-putAt)

@@ -21,7 +21,7 @@ baseOf page = addressOfPage page .0
 
 -- ---- what is found
 
--- "New entries = index − taken, modulo 65,536."
+-- "New entries = index − taken, modulo 65,536.": an index below the count taken has wrapped
 abbrev pub newOf : ℕ → ℕ → ℕ
 newOf index taken = (index + (65536 - taken)) % 65536
 

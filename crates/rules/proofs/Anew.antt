@@ -7,7 +7,8 @@ use native.Mathlib.Decide.{ℕ-discrete}
 use borrow.Author.Tests.{ne-eqb}
 use lib.Dec.{eqb, leb, ltb}
 use Rattle.registers.specs.Map.{registerAt, configAt}
-use Rattle.registers.specs.Rules.{writeOf, writeRegister, wroteFeatures, wrotePage, wroteSelector, wroteNotify, wroteStatus, driverOk, wrote, withPage}
+use Rattle.registers.specs.Rules.{writeOf, writeRegister, wroteFeatures, wrotePage, wroteSelector, wroteNotify, wroteStatus, driverOk}
+use Rattle.registers.specs.Rules.{wrote, withPage}
 use Rattle.registers.specs.declared.Effect.{Effect}
 use Rattle.registers.specs.declared.Registers.{Registers}
 use Rattle.registers.specs.declared.Written.{Written}
@@ -77,7 +78,8 @@ module _ (r : Registers) (v : ℕ) where
 
   -- QUEUE_PFN: the selected queue, where the write is not dropped
   selected : (ok : Bool) → Dec (r .selector ≡ 2)
-      → clearsQueue output (cond (ltb (r .selector) 4 && ok) (wrote (withPage r (r .selector) v) (Effect.Based (r .selector))) (wrote r Effect.Nothing) .effect)
+      → clearsQueue output
+      (cond (ltb (r .selector) 4 && ok) (wrote (withPage r (r .selector) v) (Effect.Based (r .selector))) (wrote r Effect.Nothing) .effect)
       ≡ (eqb (r .selector) 2 && ok)
   selected true (yes e) = rw e
   selected false (yes e) = rw e

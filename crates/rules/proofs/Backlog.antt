@@ -26,7 +26,9 @@ use Rattle.card.specs.Rules.{streamReset}
 use Rattle.card.specs.declared.Jack.{Jack}
 use Rattle.card.specs.declared.Stream.{Stream}
 use Rattle.rules.specs.Backlog.{backlogAfter, lastBacklog, Remembers}
-use Rattle.rules.specs.Calls.{Request, ReadRegister, WriteRegister, Control, Play, Capture, Event, Call, affectedRest, isRunning, Transferred, transferred, transferStep, readStep, writeStep, rememberedIf, remembering, transferBy, asked, step}
+use Rattle.rules.specs.Calls.{Request, ReadRegister, WriteRegister, Control, Play, Capture, Event, Call, affectedRest, isRunning}
+use Rattle.rules.specs.Calls.{Transferred, transferred, transferStep, readStep, writeStep, rememberedIf, remembering, transferBy}
+use Rattle.rules.specs.Calls.{asked, step}
 use Rattle.rules.specs.Claim.{start, after, toldBy}
 use Rattle.rules.specs.Control.{withBacklog}
 use Rattle.rules.specs.Device.{Direction, output, input, streamNumber, Rest, Device, withRegisters, streamAt}
@@ -147,7 +149,8 @@ remembered-word : (r : Rest) (i backlog id : ℕ) (x : Bool) → (x ≡ true →
     → streamAt (rememberedIf x i backlog r) id .backlog ≡ cond (eqb id i && x) backlog (streamAt r id .backlog)
 remembered-word r i backlog id true h = by (eqb id i) refl
   where
-    by : (b : Bool) → eqb id i ≡ b → streamAt (rememberedIf true i backlog r) id .backlog ≡ cond (b && true) backlog (streamAt r id .backlog)
+    by : (b : Bool) → eqb id i ≡ b → streamAt (rememberedIf true i backlog r) id .backlog
+        ≡ cond (b && true) backlog (streamAt r id .backlog)
     by true e = set-word r i backlog id (h refl) true e
     by false e = set-word r i backlog id (h refl) false e
 remembered-word r i backlog id false h = rw (and-false (eqb id i))

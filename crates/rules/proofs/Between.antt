@@ -19,7 +19,8 @@ use Rattle.ring.specs.declared.Head.{Head}
 use Rattle.rules.specs.Answers.{going}
 use Rattle.rules.specs.Counters.{countersOf, isNone, takingIn, further}
 use Rattle.rules.specs.Device.{Direction, Virtqueue, queueSize, Taking, Ending, finished, released, illFormed, Message, Queue}
-use Rattle.rules.specs.Transfer.{Ops, Run, begun, isNil, isWell, walkedTaking, takingOf, completed, moved, settled, worked, givenUp, taking, entered, met, next, transferMore, releaseMore, transferRun, releaseRun}
+use Rattle.rules.specs.Transfer.{Ops, Run, begun, isNil, isWell, walkedTaking, takingOf, completed, moved, settled, worked, givenUp}
+use Rattle.rules.specs.Transfer.{taking, entered, met, next, transferMore, releaseMore, transferRun, releaseRun}
 use Rattle.rules.proofs.Host.{loop-keeps, loop-ends}
 
 -- how many are in work
@@ -189,7 +190,8 @@ module _ (v : Virtqueue) where
   entered-room : (t : Taking) (s : Run Queue) → entered ops v t s .room ≡ s .room
   unfolding entered
   entered-room t s =
-      by-cond (λ (u : Run Queue). u .room ≡ s .room) (isWell (t .form)) {x = taking ops v t s} {y = completed ops v illFormed (taking ops v t s)}
+      by-cond (λ (u : Run Queue). u .room ≡ s .room) (isWell (t .form)) {x = taking ops v t s}
+      {y = completed ops v illFormed (taking ops v t s)}
       (λ e. refl) (λ e. completed-room illFormed (taking ops v t s))
 
   met-room : (h : Head) (s : Run Queue) → met ops v h s .room ≡ s .room
@@ -225,7 +227,8 @@ module _ (v : Virtqueue) where
 
   given-none : (s : Run Queue) → isNone (givenUp ops v s .queue .work) ≡ true
   given-none s =
-      by-cond (λ (u : Run Queue). isNone (u .queue .work) ≡ true) (isNone (s .queue .work)) {x = s} {y = completed ops v released s} (λ e. e)
+      by-cond (λ (u : Run Queue). isNone (u .queue .work) ≡ true) (isNone (s .queue .work)) {x = s}
+      {y = completed ops v released s} (λ e. e)
       (λ e. completed-none released s)
 
   abbrev Any : Run Queue → Type 0

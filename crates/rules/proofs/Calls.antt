@@ -12,12 +12,17 @@ use Rattle.registers.specs.declared.Registers.{Registers}
 use Rattle.registers.specs.declared.answers.Answer.{Answer}
 use Rattle.registers.proofs.Keeps.{by-cond}
 use Rattle.ring.specs.declared.Check.{Check}
-use Rattle.rules.specs.Calls.{Request, ReadRegister, WriteRegister, Control, Play, Capture, Event, Step, Result, Order, Done, ReleaseFirst, Pending, Emptied, emptied, virtqueueOf, releaseQueue, clearsQueue, orderOf, releasedOf, Transferred, untouched, isRunning, transferFound, transferred, eventOf, ended, readStep, writeStep, releaseStep, ordered, remembering, transferStep, transferBy, asked}
+use Rattle.rules.specs.Calls.{Request, ReadRegister, WriteRegister, Control, Play, Capture, Event, Step, Result, Order, Done}
+use Rattle.rules.specs.Calls.{ReleaseFirst, Pending, Emptied, emptied, virtqueueOf, releaseQueue, clearsQueue, orderOf, releasedOf}
+use Rattle.rules.specs.Calls.{Transferred, untouched, isRunning, transferFound, transferred, eventOf, ended, readStep, writeStep}
+use Rattle.rules.specs.Calls.{releaseStep, ordered, remembering, transferStep, transferBy, asked}
 use Rattle.rules.specs.Claim.{clears, bytesFor, shownAs}
-use Rattle.rules.specs.Device.{Direction, output, input, streamNumber, queueNumber, directionOf, Virtqueue, Rest, Device, queueFor, withQueue, withRegisters}
+use Rattle.rules.specs.Device.{Direction, output, input, streamNumber, queueNumber, directionOf, Virtqueue, Rest, Device, queueFor}
+use Rattle.rules.specs.Device.{withQueue, withRegisters}
 use Rattle.rules.specs.Transfer.{Ops, found}
 use Rattle.rules.proofs.Cases.{map-cond, by-cond₂}
-use Rattle.rules.proofs.Natural.{Alike, lowEmptied, lowTransferred, found-same, transferredBy-same, transfer-keeps, emptied-same, emptied-keeps}
+use Rattle.rules.proofs.Natural.{Alike, lowEmptied, lowTransferred, found-same, transferredBy-same, transfer-keeps, emptied-same}
+use Rattle.rules.proofs.Natural.{emptied-keeps}
 
 -- ---- a transfer, past its checks or refused by one
 
@@ -133,7 +138,8 @@ module _
   unfolding remembering low
   remembering-same id backlog s = refl
 
-  transferBy-same : (d : Direction) (host : List ℕ) (backlog : ℕ) → transferBy D d host backlog (shownAs f b) m ≡ low f (transferBy A d host backlog b m)
+  transferBy-same : (d : Direction) (host : List ℕ) (backlog : ℕ) → transferBy D d host backlog (shownAs f b) m
+      ≡ low f (transferBy A d host backlog b m)
   transferBy-same d host backlog =
       rw (shown-queue d, transferred-same (A d) (D d) d f (I d) (L d) (w d) (b .rest) (queueFor d b) m host backlog (i d))
       (rw (transferStep-same d host (transferred (A d) d backlog (b .rest) (queueFor d b) m host))
@@ -197,8 +203,10 @@ module _
       (d : Direction) (host : List ℕ) (backlog : ℕ)
       → Kept d (transferBy A d host backlog b m .told .bytes) (transferBy A d host backlog b m)
   unfolding transferStep remembering
-  transfer-keeps-own output host backlog = transferred-keeps (A output) (D output) output f (I output) (L output) (w output) (b .rest) (b .play) m host backlog (i output)
-  transfer-keeps-own input host backlog = transferred-keeps (A input) (D input) input f (I input) (L input) (w input) (b .rest) (b .capture) m host backlog (i input)
+  transfer-keeps-own output host backlog =
+      transferred-keeps (A output) (D output) output f (I output) (L output) (w output) (b .rest) (b .play) m host backlog (i output)
+  transfer-keeps-own input host backlog =
+      transferred-keeps (A input) (D input) input f (I input) (L input) (w input) (b .rest) (b .capture) m host backlog (i input)
 
   transfer-keeps-output : (host : List ℕ) (backlog : ℕ) → Kept output [] (transferBy A input host backlog b m)
   unfolding transferStep remembering

@@ -19,7 +19,8 @@ use Rattle.register_map.specs.declared.Register.the-variants.{Status, Isr, Devi
 use Rattle.registers.specs.Answers.{done, noQueue, plain}
 use Rattle.registers.specs.Map.{sizeOf}
 use Rattle.registers.specs.Rules.{readOf, writeOf, readRegister, writeRegister, live, hasBit, signalled, broken, isrRead, onlyOffered}
-use Rattle.registers.specs.Rules.{wroteFeatures, wrotePage, wroteSelector, wroteNotify, wroteStatus, fitting, storedStatus, featuresOk, driverOk}
+use Rattle.registers.specs.Rules.{wroteFeatures, wrotePage, wroteSelector, wroteNotify, wroteStatus, fitting, storedStatus, featuresOk}
+use Rattle.registers.specs.Rules.{driverOk}
 use Rattle.registers.specs.declared.Config.{Config}
 use Rattle.registers.specs.declared.Effect.{Effect}
 use Rattle.registers.specs.declared.Effect.the-variants.{Nothing, Reset, Based, Rung}
@@ -32,10 +33,16 @@ use Rattle.ring.specs.declared.Check.{Check}
 use Rattle.ring.specs.declared.Head.{Head}
 use Rattle.ring.specs.declared.Stop.{Stop}
 use Rattle.rules.specs.Answers.{numberOf, brokenAnswer, answerBy, brokenBy}
-use Rattle.rules.specs.Calls.{Request, ReadRegister, WriteRegister, Control, Play, Capture, Event, Call, Step, Result, Order, Pending, replied, acted, readMessage, controlHead, controlFound, orderOf, Emptied, virtqueueOf, indirect, releasedOf, Transferred, isRunning, transferFound, transferred, eventAllowed, recorded, eventPosted, eventRoom, Tried, Ended, Further, Sent, eventChain, eventHead, tried, onward, eventRun, eventFound, eventOf, affectedRest, readStep, writeStep, releaseStep, transferStep, remembering, ordered, transferBy, asked, step, configOf}
+use Rattle.rules.specs.Calls.{Request, ReadRegister, WriteRegister, Control, Play, Capture, Event, Call, Step, Result, Order, Pending}
+use Rattle.rules.specs.Calls.{replied, acted, readMessage, controlHead, controlFound, orderOf, Emptied, virtqueueOf, indirect}
+use Rattle.rules.specs.Calls.{releasedOf, Transferred, isRunning, transferFound, transferred, eventAllowed, recorded, eventPosted}
+use Rattle.rules.specs.Calls.{eventRoom, Tried, Ended, Further, Sent, eventChain, eventHead, tried, onward, eventRun, eventFound}
+use Rattle.rules.specs.Calls.{eventOf, affectedRest, readStep, writeStep, releaseStep, transferStep, remembering, ordered, transferBy}
+use Rattle.rules.specs.Calls.{asked, step, configOf}
 use Rattle.rules.specs.Causes.{saysBroken, orderQueue, queueMet, Split, Unchanged}
 use Rattle.rules.specs.Control.{Served, Reply, Release, served, partsIn, status}
-use Rattle.rules.specs.Device.{Direction, output, input, streamNumber, queueNumber, directionOf, Rest, Device, queueFor, withQueue, withControl, oneTaken, pageOf, signalledIf}
+use Rattle.rules.specs.Device.{Direction, output, input, streamNumber, queueNumber, directionOf, Rest, Device, queueFor, withQueue}
+use Rattle.rules.specs.Device.{withControl, oneTaken, pageOf, signalledIf}
 use Rattle.rules.specs.Numbers.{controlQueue, eventQueue, jackConnected, jackDisconnected, sBadMsg}
 use Rattle.rules.specs.Transfer.{Ops, begun, transferRun, found}
 
@@ -370,7 +377,8 @@ module _ {Q : Type 0} (ops : Direction → Ops Q) (b : Device Q) (m : List ℕ) 
 
   moved-split :
       (d : Direction) (host : List ℕ) (backlog : ℕ)
-      → Split g (transferBy ops d host backlog b m .state .rest .registers) (queueNumber d) (transferBy ops d host backlog b m .told .answer)
+      → Split g (transferBy ops d host backlog b m .state .rest .registers) (queueNumber d)
+      (transferBy ops d host backlog b m .told .answer)
   unfolding transferStep
   moved-split d host backlog =
       let t = transferred (ops d) d backlog (b .rest) (queueFor d b) m host in
@@ -401,4 +409,9 @@ split ops b c = asked-split ops b (c .lent) (c .asked)
 pub unchanged : {Q : Type 0} (ops : Ops Q) (c c′ : Cause) → Unchanged ops c c′
 unfolding releasedOf
 unchanged ops c c′ =
-    record { results = λ queue r m. refl; releases = λ id p m signal. refl; checks = λ d backlog r q m host. refl; heads = λ v queue g r. refl }
+    record {
+      results = λ queue r m. refl;
+      releases = λ id p m signal. refl;
+      checks = λ d backlog r q m host. refl;
+      heads = λ v queue g r. refl;
+    }

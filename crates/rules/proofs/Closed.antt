@@ -23,10 +23,17 @@ use Rattle.card.specs.Card.{freshState, releasedState, noStream}
 use Rattle.card.specs.declared.Jack.{Jack}
 use Rattle.card.specs.declared.Params.{Params}
 use Rattle.card.specs.declared.Stream.{Stream}
-use Rattle.rules.specs.Calls.{Control, Event, Order, Done, ReleaseFirst, Pending, Result, Tried, Ended, Further, Sent, replied, acted, readMessage, controlHead, controlFound, orderOf, releasedOf, releaseStep, recorded, withConnected, eventPosted, eventChain, eventHead, tried, onward, eventRun, eventFound, eventOf, ordered, asked, emptied, indirect, eventRoom, eventAllowed, releaseQueue}
+use Rattle.rules.specs.Calls.{Control, Event, Order, Done, ReleaseFirst, Pending, Result, Tried, Ended, Further, Sent, replied, acted}
+use Rattle.rules.specs.Calls.{readMessage, controlHead, controlFound, orderOf, releasedOf, releaseStep, recorded, withConnected}
+use Rattle.rules.specs.Calls.{eventPosted, eventChain, eventHead, tried, onward, eventRun, eventFound, eventOf, ordered, asked}
+use Rattle.rules.specs.Calls.{emptied, indirect, eventRoom, eventAllowed, releaseQueue}
 use Rattle.rules.specs.Claim.{start}
-use Rattle.rules.specs.Control.{Parts, Served, Reply, Release, partsIn, passing, refusal, word, remappedTo, withDefconf, withState, withParams, jackIn, streamIn, noJack, information, remap, remapAt, spaced, listed, roomy, fourBits, layoutOf, status, judgedParams, setParams, paramsOf, setBy, moves, led, remappable, commanded, answerTo, answered, decodedOf, served}
-use Rattle.rules.specs.Device.{Direction, output, input, Rest, Device, queueFor, withQueue, withJacks, withControl, directionOf, pageOf, oneTaken, streamAt}
+use Rattle.rules.specs.Control.{Parts, Served, Reply, Release, partsIn, passing, refusal, word, remappedTo, withDefconf, withState}
+use Rattle.rules.specs.Control.{withParams, jackIn, streamIn, noJack, information, remap, remapAt, spaced, listed, roomy, fourBits}
+use Rattle.rules.specs.Control.{layoutOf, status, judgedParams, setParams, paramsOf, setBy, moves, led, remappable, commanded}
+use Rattle.rules.specs.Control.{answerTo, answered, decodedOf, served}
+use Rattle.rules.specs.Device.{Direction, output, input, Rest, Device, queueFor, withQueue, withJacks, withControl, directionOf}
+use Rattle.rules.specs.Device.{pageOf, oneTaken, streamAt}
 use Rattle.rules.specs.Lifecycle.{transition}
 use Rattle.rules.specs.Numbers.{controlQueue, eventQueue, jackConnected, jackDisconnected, sOk, sBadMsg, sNotSupp}
 use Rattle.rules.specs.Transfer.{Ops}

@@ -18,7 +18,9 @@ use Rattle.ring.specs.declared.Cause.{Cause}
 use Rattle.ring.specs.declared.Check.{Check}
 use Rattle.ring.specs.declared.Stop.{Stop}
 use Rattle.rules.specs.Answers.{numberOf, going, answerBy}
-use Rattle.rules.specs.Calls.{Control, Play, ReleaseFirst, Pending, emptiedFound, emptied, virtqueueOf, releaseQueue, orderOf, releasedOf, Transferred, isRunning, transferFound, transferred, releaseStep, transferStep, remembering, asked}
+use Rattle.rules.specs.Calls.{Control, Play, ReleaseFirst, Pending, emptiedFound, emptied, virtqueueOf, releaseQueue, orderOf}
+use Rattle.rules.specs.Calls.{releasedOf, Transferred, isRunning, transferFound, transferred, releaseStep, transferStep, remembering}
+use Rattle.rules.specs.Calls.{asked}
 use Rattle.rules.specs.Claim.{Good, queueOf, card, account}
 use Rattle.rules.specs.Device.{Direction, output, streamNumber, queueNumber, Virtqueue, queueSize, Rest, Device, pageOf}
 use Rattle.rules.specs.Histories.{History}

@@ -15,9 +15,9 @@ use Rattle.ring.proofs.Laws.{place-over-the-wrap}
 use Rattle.rules.specs.Claim.{Good, workOf, queueOf, card, account}
 use Rattle.rules.specs.Counters.{isNone}
 use Rattle.rules.specs.Device.{Direction, output, input, queueNumber, Taking, Ending}
-use Rattle.rules.specs.Histories.{History, number, current, handedNow, waiting, took, noted, entered}
+use Rattle.rules.specs.Histories.{History, number, current, handedNow, waiting, took, noted, withEntry}
 use Rattle.rules.specs.Transfer.{payloadOf}
-use Rattle.rules.proofs.Keeps.{blank-good, noted-good, entered-good, took-good, same-number, none-noted, none-left}
+use Rattle.rules.proofs.Keeps.{blank-good, noted-good, with-entry-good, took-good, same-number, none-noted, none-left}
 use Rattle.rules.proofs.Lists.{only-append, handedOf-same}
 use Rattle.rules.proofs.Natural.{Alike}
 
@@ -71,9 +71,10 @@ module _ (d : Direction) where
   unfolding noted
   noted-busy h bytes xs = refl
 
-  entered-same : (w : List ℕ) (h : History) (e : Ending) (n : ℕ) → Good d w h → card d .complete e n (queueOf h) ≡ queueOf (entered d e n h)
-  unfolding entered
-  entered-same w h e n g = rw (next-wrap, length-append, le-leb (length (h .takings)) (number h + 1) (omega (arith, g .one)))
+  with-entry-same : (w : List ℕ) (h : History) (e : Ending) (n : ℕ) → Good d w h → card d .complete e n (queueOf h)
+      ≡ queueOf (withEntry d e n h)
+  unfolding withEntry
+  with-entry-same w h e n g = rw (next-wrap, length-append, le-leb (length (h .takings)) (number h + 1) (omega (arith, g .one)))
 
   pub nothing-left : (h : History) → drop (handedNow h) (payloadOf d (current h)) ≡ [] → waiting d h ≡ []
   nothing-left h e = none-left d h (omega (arith, simp length-drop at (ap length e)))
@@ -98,6 +99,6 @@ module _ (d : Direction) where
         hand-same = noted-same;
         hand-keeps = λ w h bytes room g all. noted-good d w h g bytes room all;
         hand-busy = noted-busy;
-        complete-same = λ w h e n g busy. entered-same w h e n g;
-        complete-keeps = λ w h e n g busy all. entered-good d w h g e n busy (λ k. nothing-left h (all k));
+        complete-same = λ w h e n g busy. with-entry-same w h e n g;
+        complete-keeps = λ w h e n g busy all. with-entry-good d w h g e n busy (λ k. nothing-left h (all k));
       }

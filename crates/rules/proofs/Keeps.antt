@@ -15,10 +15,12 @@ use Rattle.ranges.specs.Ranges.{upFrom}
 use Rattle.ranges.proofs.Laws.{length-upFrom}
 use Rattle.rules.specs.Device.{Direction, Taking, nobody, Ending, released}
 use Rattle.rules.specs.Transfer.{payloadOf}
-use Rattle.rules.specs.Histories.{Note, History, blank, unanswered, handedOf, readOf, lostOf, notesOf, lossesOf, number, current, handedNow, waiting, took, noted, entered}
+use Rattle.rules.specs.Histories.{Note, History, blank, unanswered, handedOf, addressesOf, lostOf, notesOf, lossesOf, number, current}
+use Rattle.rules.specs.Histories.{handedNow, waiting, took, noted, withEntry}
 use Rattle.rules.specs.Claim.{Good, waitingOf, payloadAt}
 use Rattle.rules.proofs.Cases.{cond-same}
-use Rattle.rules.proofs.Lists.{nil-left, take-self, getD-snoc-other, only-append, handedOf-same, readOf-same, notesOf-other, bytes-notesOf, lostOf-same, lostOf-other, hand-on}
+use Rattle.rules.proofs.Lists.{nil-left, take-self, getD-snoc-other, only-append, handedOf-same, addressesOf-same, notesOf-other}
+use Rattle.rules.proofs.Lists.{bytes-notesOf, lostOf-same, lostOf-other, hand-on}
 
 module _ (d : Direction) where
   -- no message, no payload
@@ -85,16 +87,28 @@ module _ (d : Direction) where
         rw (q, eq-eqb (number h) (number h) refl, none-lost said h g, only-append, handedOf-same)
         (hand-on (handedOf (number h) (h .notes)) (length xs) (length (payloadOf d (current h))) some-fit (once-now said h g))
     noted-once t (no n) =
-        rw (ne-eqb t (number h) n, only-append, notesOf-other t _ (number h) _ bytes xs n, append-nil (handedOf t (h .notes))) (rw (ne-eqb t (number h) n) at (g .once t))
+        rw (ne-eqb t (number h) n, only-append, notesOf-other t _ (number h) _ bytes xs n, append-nil (handedOf t (h .notes)))
+        (rw (ne-eqb t (number h) n) at (g .once t))
 
     noted-read :
         (t : ℕ)
         → Dec (t ≡ number h)
-        → readOf t (h .notes ++ notesOf (number h) (handedNow h) bytes xs)
+        → addressesOf t (h .notes ++ notesOf (number h) (handedNow h) bytes xs)
         ≡ take (length (handedOf t (h .notes ++ notesOf (number h) (handedNow h) bytes xs))) (payloadAt d t h)
     unfolding handedNow
     noted-read t (yes q) =
-        rw (q, only-append, readOf-same, only-append, handedOf-same, length-append, length-upFrom, take-add, take-self, g .read (number h))
+        rw (
+          q,
+          only-append,
+          addressesOf-same,
+          only-append,
+          handedOf-same,
+          length-append,
+          length-upFrom,
+          take-add,
+          take-self,
+          g .read (number h),
+        )
     noted-read t (no n) =
         simp (
           only-append,
@@ -119,37 +133,39 @@ module _ (d : Direction) where
 
   -- ---- an entry: nothing may wait, unless it is a Release's
 
-  module _ (said : List ℕ) (h : History) (g : Good d said h) (e : Ending) (latency : ℕ) (busy : leb (length (h .takings)) (number h) ≡ false)
+  module _ (said : List ℕ) (h : History) (g : Good d said h) (e : Ending) (latency : ℕ)
+      (busy : leb (length (h .takings)) (number h) ≡ false)
       (all : (e ≡ released → ⊥) → waiting d h ≡ []) where
-    entered-waits : waiting d (entered d e latency h) ≡ []
-    unfolding entered
-    entered-waits = none-waits (entered d e latency h) (rw length-append (omega (arith, g .one)))
+    with-entry-waits : waiting d (withEntry d e latency h) ≡ []
+    unfolding withEntry
+    with-entry-waits = none-waits (withEntry d e latency h) (rw length-append (omega (arith, g .one)))
 
-    entered-once :
+    with-entry-once :
         (t : ℕ)
         → Dec (t ≡ number h)
-        → handedOf t (h .notes) ++ (lostOf t (h .losses ++ lossesOf (number h) (waiting d h)) ++ waitingOf d t (entered d e latency h))
+        → handedOf t (h .notes) ++ (lostOf t (h .losses ++ lossesOf (number h) (waiting d h)) ++ waitingOf d t (withEntry d e latency h))
         ≡ upFrom 0 (length (payloadAt d t h))
-    entered-once t (yes q) =
-        rw (q, only-append, lostOf-same, entered-waits, cond-same, append-nil) (rw (eq-eqb (number h) (number h) refl) at (g .once (number h)))
-    entered-once t (no n) =
-        rw (only-append, lostOf-other t (number h) (waiting d h) n, append-nil, entered-waits, cond-same)
+    with-entry-once t (yes q) =
+        rw (q, only-append, lostOf-same, with-entry-waits, cond-same, append-nil)
+        (rw (eq-eqb (number h) (number h) refl) at (g .once (number h)))
+    with-entry-once t (no n) =
+        rw (only-append, lostOf-other t (number h) (waiting d h) n, append-nil, with-entry-waits, cond-same)
         (rw (ne-eqb t (number h) n) at (g .once t))
 
-    entered-blamed :
+    with-entry-blamed :
         (t : ℕ)
         → Dec (t ≡ number h)
-        → (getD (entered d e latency h .entries) t unanswered .ending ≡ released → ⊥)
-        → lostOf t (entered d e latency h .losses) ≡ []
-    unfolding entered
-    entered-blamed t (yes q) k = rw (q, only-append, none-lost said h g, all (rw (q, getD-append-seam) at k))
-    entered-blamed t (no n) k =
+        → (getD (withEntry d e latency h .entries) t unanswered .ending ≡ released → ⊥)
+        → lostOf t (withEntry d e latency h .losses) ≡ []
+    unfolding withEntry
+    with-entry-blamed t (yes q) k = rw (q, only-append, none-lost said h g, all (rw (q, getD-append-seam) at k))
+    with-entry-blamed t (no n) k =
         rw (only-append, lostOf-other t (number h) (waiting d h) n, append-nil)
         (g .blamed t (rw (getD-snoc-other (h .entries) _ t unanswered n) at k))
 
-    pub entered-good : Good d said (entered d e latency h)
-    unfolding entered
-    entered-good =
+    pub with-entry-good : Good d said (withEntry d e latency h)
+    unfolding withEntry
+    with-entry-good =
         let b : number h < length (h .takings) = leb-false (length (h .takings)) (number h) busy in
         let o : length (h .takings) ≤ suc (number h) = g .one in
         record {
@@ -164,9 +180,9 @@ module _ (d : Direction) where
                 take-suc (map (λ (t : Taking). t .head) (h .takings)) (number h) 0 (rw length-map b),
                 List·getD-map (λ (t : Taking). t .head) (h .takings) (number h) nobody,
               );
-          once = λ t. entered-once t (ℕ-discrete t (number h));
+          once = λ t. with-entry-once t (ℕ-discrete t (number h));
           read = g .read;
-          blamed = λ t. entered-blamed t (ℕ-discrete t (number h));
+          blamed = λ t. with-entry-blamed t (ℕ-discrete t (number h));
           bytes = g .bytes;
         }
 
@@ -199,7 +215,7 @@ module _ (d : Direction) where
     took-read :
         (t : ℕ)
         → Dec (t ≡ number h)
-        → readOf t (h .notes) ≡ take (length (handedOf t (h .notes))) (payloadOf d (getD (h .takings ++ x ∷ []) t nobody))
+        → addressesOf t (h .notes) ≡ take (length (handedOf t (h .notes))) (payloadOf d (getD (h .takings ++ x ∷ []) t nobody))
     took-read t (yes q) = rw (q, none-noted) (rw none-noted at (g .read (number h)))
     took-read t (no n) = rw (getD-snoc-other (h .takings) x t nobody (λ e. n (e ∙ sym same-number))) (g .read t)
 
@@ -210,7 +226,10 @@ module _ (d : Direction) where
         record {
           few = rw length-append (omega arith);
           one = rw length-append (omega arith);
-          heads = rw (map-append, take-append-le (number h) (map (λ (t : Taking). t .head) (h .takings)) _ (rw length-map (g .few))) (g .heads);
+          heads = rw (
+            map-append,
+            take-append-le (number h) (map (λ (t : Taking). t .head) (h .takings)) _ (rw length-map (g .few)),
+          ) (g .heads);
           once = λ t. took-once t (ℕ-discrete t (number h));
           read = λ t. took-read t (ℕ-discrete t (number h));
           blamed = g .blamed;

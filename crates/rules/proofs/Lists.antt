@@ -10,7 +10,7 @@ use lib.ListN.{length, take, drop, getD, length-append}
 use Rattle.ranges.specs.Ranges.{upFrom}
 use Rattle.ranges.proofs.Laws.{length-upFrom, upFrom-add}
 use Rattle.rules.specs.Transfer.{isNil}
-use Rattle.rules.specs.Histories.{Note, only, handedOf, readOf, lostOf, notesOf, lossesOf}
+use Rattle.rules.specs.Histories.{Note, only, handedOf, addressesOf, lostOf, notesOf, lossesOf}
 use Rattle.rules.proofs.Cases.{map-cond}
 
 -- ---- lists
@@ -36,7 +36,8 @@ getD-snoc-other (y ∷ l) x (suc i) d h = getD-snoc-other l x i d (λ e. h (ap s
 
 -- ---- the elements with a key
 
-pub only-append : {A : Type 0} (key val : A → ℕ) (t : ℕ) (xs ys : List A) → only key val t (xs ++ ys) ≡ only key val t xs ++ only key val t ys
+pub only-append : {A : Type 0} (key val : A → ℕ) (t : ℕ) (xs ys : List A) → only key val t (xs ++ ys) ≡ only key val t xs
+    ++ only key val t ys
 only-append key val t [] ys = refl
 only-append key val t (x ∷ xs) ys =
     rw (only-append key val t xs ys) (map-cond (λ (l : List ℕ). l ++ only key val t ys) (eqb (key x) t) (λ e. refl) (λ e. refl))
@@ -47,9 +48,9 @@ module _ (t : ℕ) where
   handedOf-same p bytes [] = refl
   handedOf-same p bytes (x ∷ xs) = rw (eq-eqb t t refl, handedOf-same (p + 1) (drop 1 bytes) xs)
 
-  pub readOf-same : (p : ℕ) (bytes xs : List ℕ) → readOf t (notesOf t p bytes xs) ≡ xs
-  readOf-same p bytes [] = refl
-  readOf-same p bytes (x ∷ xs) = rw (eq-eqb t t refl, readOf-same (p + 1) (drop 1 bytes) xs)
+  pub addressesOf-same : (p : ℕ) (bytes xs : List ℕ) → addressesOf t (notesOf t p bytes xs) ≡ xs
+  addressesOf-same p bytes [] = refl
+  addressesOf-same p bytes (x ∷ xs) = rw (eq-eqb t t refl, addressesOf-same (p + 1) (drop 1 bytes) xs)
 
   -- the notes of another taking are none of t's
   pub notesOf-other :

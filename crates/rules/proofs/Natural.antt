@@ -16,7 +16,8 @@ use Rattle.rules.specs.Answers.{going}
 use Rattle.rules.specs.Calls.{Emptied, emptiedBy, emptiedFound, emptied, Transferred, transferredBy}
 use Rattle.rules.specs.Device.{Direction, Virtqueue, queueSize, Taking, Ending, finished, released, illFormed}
 use Rattle.rules.specs.Loop.{loop}
-use Rattle.rules.specs.Transfer.{Ops, Run, isWell, isNil, payloadOf, takingOf, begun, completed, bytesMoved, moved, settled, worked, givenUp, taking, entered, met, next, transferMore, releaseMore, transferRun, releaseRun, found}
+use Rattle.rules.specs.Transfer.{Ops, Run, isWell, isNil, payloadOf, takingOf, begun, completed, bytesMoved, moved, settled, worked}
+use Rattle.rules.specs.Transfer.{givenUp, taking, entered, met, next, transferMore, releaseMore, transferRun, releaseRun, found}
 use Rattle.rules.proofs.Cases.{map-cond}
 use Rattle.rules.proofs.Host.{Past, all-bytes, completed-past, moved-past, next-past, begun-past}
 use Rattle.rules.proofs.Lists.{nil-true}

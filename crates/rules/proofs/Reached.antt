@@ -18,7 +18,8 @@ use Rattle.card.specs.Rules.{jackReset, streamReset}
 use Rattle.card.specs.declared.Jack.{Jack}
 use Rattle.card.specs.declared.Params.{Params}
 use Rattle.card.specs.declared.Stream.{Stream}
-use Rattle.rules.specs.Calls.{Request, ReadRegister, WriteRegister, Control, Play, Capture, Event, Call, transferStep, readStep, writeStep, affectedRest, withConnected, asked, step, rememberedIf, remembering, transferred}
+use Rattle.rules.specs.Calls.{Request, ReadRegister, WriteRegister, Control, Play, Capture, Event, Call, transferStep, readStep}
+use Rattle.rules.specs.Calls.{writeStep, affectedRest, withConnected, asked, step, rememberedIf, remembering, transferred}
 use Rattle.rules.specs.Claim.{start, after}
 use Rattle.rules.specs.Control.{need, remappedTo, withDefconf, withBacklog, noJack, judgedParams, remappable}
 use Rattle.rules.specs.Device.{Direction, output, input, Rest, Device, withRegisters, streamAt}

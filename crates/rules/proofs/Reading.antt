@@ -14,7 +14,7 @@ use Rattle.ranges.specs.Ranges.{upFrom}
 use Rattle.ranges.proofs.Laws.{length-upFrom}
 use Rattle.rules.specs.Claim.{Good, waitingOf, payloadAt}
 use Rattle.rules.specs.Device.{Direction, Ending, finished, released, illFormed}
-use Rattle.rules.specs.Histories.{History, unanswered, handedOf, readOf, lostOf, number}
+use Rattle.rules.specs.Histories.{History, unanswered, handedOf, addressesOf, lostOf, number}
 
 -- ---- how often p stands in a list
 
@@ -69,5 +69,5 @@ module _ (d : Direction) (w : List ℕ) (h : History) (g : Good d w h) (t : ℕ)
     pub whole : handedOf t (h .notes) ≡ upFrom 0 (length (payloadAt d t h))
     whole = rw (ne-eqb t (number h) (λ e. omega arith), g .blamed t n, append-nil) at (g .once t)
 
-    pub whole-read : readOf t (h .notes) ≡ payloadAt d t h
+    pub whole-read : addressesOf t (h .notes) ≡ payloadAt d t h
     whole-read = rw (g .read t, whole, length-upFrom, take-length)

@@ -19,7 +19,8 @@ use Rattle.rules.specs.Device.{Virtqueue, queueSize, Taking, Ending, fin
 use Rattle.rules.specs.Histories as history
 use Rattle.rules.specs.Histories.{History, number, handedNow, took, noted}
 use Rattle.rules.specs.Loop.{loop}
-use Rattle.rules.specs.Transfer.{Ops, Run, isNil, isWell, takingOf, completed, moved, settled, worked, givenUp, taking, entered, met, next, transferMore, releaseMore, transferRun, releaseRun}
+use Rattle.rules.specs.Transfer.{Ops, Run, isNil, isWell, takingOf, completed, moved, settled, worked, givenUp, taking, entered, met}
+use Rattle.rules.specs.Transfer.{next, transferMore, releaseMore, transferRun, releaseRun}
 use Rattle.rules.proofs.Histories.{free, alike}
 use Rattle.rules.proofs.Lists.{only-append, handedOf-same}
 use Rattle.rules.proofs.Natural.{Moved, give-keeps, next-keeps, moved-next, worked-keeps, transfer-free, release-free}
@@ -49,7 +50,7 @@ module _ (v : Virtqueue) where
   taking-one t s = record { one-is = λ e. rw length-append }
 
   ill-formed-one : (t : Taking) (s : Run History) → One s (completed ops v illFormed (taking ops v t s))
-  unfolding completed took history.entered
+  unfolding completed took history.withEntry
   ill-formed-one t s = record { one-is = λ e. rw length-append }
 
   entered-one : (t : Taking) (s : Run History) → One s (entered ops v t s)
@@ -68,7 +69,7 @@ module _ (v : Virtqueue) where
       (C : Run History → Type 0) (e : Ending) (s : Run History)
       → size s ≤ suc (number (s .queue))
       → Left C s (completed ops v e s)
-  unfolding completed history.entered
+  unfolding completed history.withEntry
   completed-left C e s o =
       record { size-is = refl; stop-is = refl; free-is = λ c. rw length-append (le-leb (size s) (number (s .queue) + 1) (omega arith)) }
 
@@ -125,7 +126,8 @@ module _ (v : Virtqueue) where
         go :
             (b : Bool)
             → more u ≡ b
-            → (P onward → going (onward .stop) ≡ true → going (run k onward .stop) ≡ true → C (run k onward) → (size (run k onward) ≡ size onward + k) × (free (run k onward .queue) ≡ true))
+            → (P onward → going (onward .stop) ≡ true → going (run k onward .stop) ≡ true → C (run k onward)
+            → (size (run k onward) ≡ size onward + k) × (free (run k onward .queue) ≡ true))
             → going (cond b (run k onward) u .stop) ≡ true
             → C (cond b (run k onward) u)
             → (size (cond b (run k onward) u) ≡ size s + suc k) × (free (cond b (run k onward) u .queue) ≡ true)

@@ -18,15 +18,18 @@ use Rattle.ring.specs.declared.Head.{Head}
 use Rattle.rules.specs.Account.{InOrder, memoryAfter}
 use Rattle.rules.specs.Answers.{going}
 use Rattle.rules.specs.Claim.{Good, queueOf, card}
-use Rattle.rules.specs.Device.{output, Virtqueue, Form, wellFormed, refused, silent, unwalked, Taking, Ending, finished, released, illFormed}
+use Rattle.rules.specs.Device.{output, Virtqueue, Form, wellFormed, refused, silent, unwalked, Taking, Ending, finished, released}
+use Rattle.rules.specs.Device.{illFormed}
 use Rattle.rules.specs.Histories as history
 use Rattle.rules.specs.Histories.{History, number, current, handedNow, waiting, took, noted}
-use Rattle.rules.specs.Transfer.{Ops, Run, begun, isNil, isWell, payloadOf, takingOf, completed, moved, settled, worked, givenUp, taking, entered, met, next, transferMore, releaseMore, transferRun, releaseRun}
+use Rattle.rules.specs.Transfer.{Ops, Run, begun, isNil, isWell, payloadOf, takingOf, completed, moved, settled, worked, givenUp}
+use Rattle.rules.specs.Transfer.{taking, entered, met, next, transferMore, releaseMore, transferRun, releaseRun}
 use Rattle.rules.proofs.Histories.{free, alike, nothing-left, took-busy}
 use Rattle.rules.proofs.Host.{loop-keeps, loop-ends}
 use Rattle.rules.proofs.Keeps.{same-number, none-left, took-good}
 use Rattle.rules.proofs.Lists.{nil-true}
-use Rattle.rules.proofs.Natural.{Moved, moved-keeps, moved-busy, moved-next, works-busy, worked-keeps, give-keeps, next-keeps, transfer-free, release-free, begun-moved}
+use Rattle.rules.proofs.Natural.{Moved, moved-keeps, moved-busy, moved-next, works-busy, worked-keeps, give-keeps, next-keeps}
+use Rattle.rules.proofs.Natural.{transfer-free, release-free, begun-moved}
 use Rattle.rules.proofs.Written.{v, ops, grows-none, Sofar, taking-sofar, moved-sofar, Fits, played, ended, ill, completed-sofar}
 
 -- the message in work, if any, is well-formed
@@ -72,7 +75,7 @@ module _ (lies : Virtqueue) (call : Ending) (m : List ℕ) (h : History) where
 
   -- no message is in work after a completion
   completed-free : (w : List ℕ) (s : Run History) (e : Ending) → Good output w (s .queue) → free (completed hs q e s .queue) ≡ true
-  unfolding completed history.entered
+  unfolding completed history.withEntry
   completed-free w s e g =
       rw length-append (le-leb (length (s .queue .takings)) (number (s .queue) + 1) (omega (arith, g .one)))
 
@@ -221,7 +224,8 @@ module _ (lies : Virtqueue) (m : List ℕ) (h : History) (w host : List ℕ) whe
   -- after work, something of a message in work waits
   worked-waits : (s : Run History) → Playing s → Waits (worked over vq s .queue)
   worked-waits s p =
-      by-cond (λ (u : Run History). Waits (u .queue)) (ltb 0 (s .room) && not (free (s .queue))) {x = settled over vq (moved over vq s)} {y = s}
+      by-cond (λ (u : Run History). Waits (u .queue)) (ltb 0 (s .room) && not (free (s .queue)))
+      {x = settled over vq (moved over vq s)} {y = s}
       (λ e. settled-waits s p (works-busy over (card output) vq queueOf (Good output) (alike output) w host s e))
       (λ e b. p .waits (no-room (s .room) (unless (ltb 0 (s .room)) (free (s .queue)) e b)) b)
 
@@ -237,7 +241,8 @@ module _ (lies : Virtqueue) (m : List ℕ) (h : History) (w host : List ℕ) whe
 
   some-room : (s : Run History) → transferMore over vq s ≡ true → s .room ≡ 0 → ⊥
   some-room s e z =
-      let r = and-eq-true-iff (going (s .stop)) (ltb 0 (s .room)) .0 (and-eq-true-iff (going (s .stop) && ltb 0 (s .room)) (free (s .queue)) .0 e .0) .1 in
+      let r = and-eq-true-iff (going (s .stop)) (ltb 0 (s .room)) .0
+      (and-eq-true-iff (going (s .stop) && ltb 0 (s .room)) (free (s .queue)) .0 e .0) .1 in
       omega (arith, ltb-true 0 (s .room) r)
 
   next-playing : (s : Run History) → Playing s → transferMore over vq s ≡ true → Playing (next over vq s)
@@ -261,7 +266,8 @@ module _ (lies : Virtqueue) (m : List ℕ) (h : History) (w host : List ℕ) whe
     pub play-fair : Fair lies finished m h (transferRun over vq k (begun h m host))
     unfolding transferRun
     play-fair =
-        loop-keeps Playing (worked over vq) (transferMore over vq) (next over vq) worked-playing next-playing k (begun h m host) begins .fair
+        loop-keeps Playing (worked over vq) (transferMore over vq) (next over vq) worked-playing next-playing k
+        (begun h m host) begins .fair
 
     pub play-waits : Waits (transferRun over vq k (begun h m host) .queue)
     unfolding transferRun

@@ -15,7 +15,8 @@ use Rattle.ring.specs.Rules.{baseOf, newOf, entriesOf, foundOf, checkOf, headAt
 use Rattle.ring.specs.declared.Cause.{Cause}
 use Rattle.ring.specs.declared.Check.{Check}
 use Rattle.ring.specs.declared.Head.{Head}
-use Rattle.rules.specs.Calls.{Order, ReleaseFirst, Pending, controlHead, controlFound, orderOf, releaseQueue, emptiedFound, emptied, releasedOf, releaseStep, ordered}
+use Rattle.rules.specs.Calls.{Order, ReleaseFirst, Pending, controlHead, controlFound, orderOf, releaseQueue, emptiedFound, emptied}
+use Rattle.rules.specs.Calls.{releasedOf, releaseStep, ordered}
 use Rattle.rules.specs.Control.{served, decodedOf, information, remap, judgedParams}
 use Rattle.rules.specs.Counters.{isNone, countersOf}
 use Rattle.rules.specs.Device.{output, Virtqueue, Message, Queue, Device, pageOf, bytesOf}
@@ -93,7 +94,8 @@ release-breaks b m p o based h =
     ∙ ap (λ (x : Check). releaseStep 0 p b (emptiedFound (countersOf output) v (b .play) m x) .told .answer) f
 
 pub table : Table
-unfolding readOf writeOf registerAt configAt wroteFeatures wroteStatus storedStatus served decodedOf information remap judgedParams physicalBits bytesOf le
+unfolding readOf writeOf registerAt configAt wroteFeatures wroteStatus storedStatus served decodedOf information remap judgedParams
+    physicalBits bytesOf le
 table =
     record {
       one-new = refl;

@@ -6,8 +6,10 @@ use mathlib.Core.List.{List, [], _∷_, _++_}
 use Prim.Native.Nat.{ℕ, _+_}
 use lib.ListN.{length, length-append, length-map}
 use Rattle.description.specs.declared.Description.{Description}
-use Rattle.rules.specs.Calls.{Request, ReadRegister, WriteRegister, Control, Play, Capture, Event, Call, transferStep, remembering, asked, step}
-use Rattle.rules.specs.Claim.{start, toldBy, after, clears, bytesFor, countFor, heard, counted, Good, queueOf, shownAs, card, account, Holds}
+use Rattle.rules.specs.Calls.{Request, ReadRegister, WriteRegister, Control, Play, Capture, Event, Call, transferStep, remembering}
+use Rattle.rules.specs.Calls.{asked, step}
+use Rattle.rules.specs.Claim.{start, toldBy, after, clears, bytesFor, countFor, heard, counted, Good, queueOf, shownAs, card, account}
+use Rattle.rules.specs.Claim.{Holds}
 use Rattle.rules.specs.Device.{Direction, output, input, Device, queueFor}
 use Rattle.rules.specs.Histories.{History}
 use Rattle.rules.proofs.Calls.{low, asked-same, asked-keeps}

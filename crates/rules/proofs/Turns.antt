@@ -18,8 +18,12 @@ use Rattle.registers.specs.declared.answers.Answer.{Answer}
 use Rattle.ring.specs.declared.Cause.{Cause}
 use Rattle.ring.specs.declared.Check.{Check}
 use Rattle.ring.specs.declared.Stop.{Stop}
-use Rattle.rules.specs.Account.{takingAt, entryAt, entriesWritten, Answered, AnsweredBy, Adds, ifNew, ordersRelease, addsBy, startsAnew, releaseReplied, Turn, Book, end}
-use Rattle.rules.specs.Calls.{Request, ReadRegister, WriteRegister, Control, Play, Capture, Event, Call, Told, Order, Done, ReleaseFirst, Pending, Emptied, emptiedFound, emptied, virtqueueOf, releaseQueue, clearsQueue, orderOf, replied, releasedOf, Transferred, untouched, isRunning, transferFound, transferred, readStep, writeStep, releaseStep, transferStep, remembering, ordered, asked}
+use Rattle.rules.specs.Account.{takingAt, entryAt, entriesWritten, Answered, AnsweredBy, Adds, ifNew, ordersRelease, addsBy}
+use Rattle.rules.specs.Account.{startsAnew, releaseReplied, Turn, Book, end}
+use Rattle.rules.specs.Calls.{Request, ReadRegister, WriteRegister, Control, Play, Capture, Event, Call, Told, Order, Done}
+use Rattle.rules.specs.Calls.{ReleaseFirst, Pending, Emptied, emptiedFound, emptied, virtqueueOf, releaseQueue, clearsQueue, orderOf}
+use Rattle.rules.specs.Calls.{replied, releasedOf, Transferred, untouched, isRunning, transferFound, transferred, readStep, writeStep}
+use Rattle.rules.specs.Calls.{releaseStep, transferStep, remembering, ordered, asked}
 use Rattle.rules.specs.Claim.{Good, clears, account}
 use Rattle.rules.specs.Device.{output, Virtqueue, Taking, Ending, finished, released, Rest, Device, pageOf, bytesOf}
 use Rattle.rules.specs.Histories.{Entry, History, blank, number}
@@ -60,19 +64,23 @@ module _ (w : List ℕ) (h : History) (g : Good output w h) (b : Book h) where
       (f : Fair lies call m h s)
       (x : Waits (s .queue))
       (as′ : (k : ℕ) → Answered (lies .latency) call (takingAt (s .queue) k) (entryAt (s .queue) k)
-      → AnsweredBy finished (takingAt (s .queue) k) (entryAt (s .queue) k) ⊎ AnsweredBy released (takingAt (s .queue) k) (entryAt (s .queue) k)) where
+      → AnsweredBy finished (takingAt (s .queue) k) (entryAt (s .queue) k)
+      ⊎ AnsweredBy released (takingAt (s .queue) k) (entryAt (s .queue) k)) where
     old-answer :
         (k : ℕ) → k < number h
-        → AnsweredBy finished (takingAt (s .queue) k) (entryAt (s .queue) k) ⊎ AnsweredBy released (takingAt (s .queue) k) (entryAt (s .queue) k)
+        → AnsweredBy finished (takingAt (s .queue) k) (entryAt (s .queue) k)
+        ⊎ AnsweredBy released (takingAt (s .queue) k) (entryAt (s .queue) k)
     old-answer k l =
         let a = f .sofar .adds in
-        let t : takingAt (s .queue) k ≡ takingAt h k = rw (a .takings .is) (List·getD-append (h .takings) (a .takings .added) _ k (omega (arith, g .few))) in
+        let t : takingAt (s .queue) k ≡ takingAt h k =
+        rw (a .takings .is) (List·getD-append (h .takings) (a .takings .added) _ k (omega (arith, g .few))) in
         let e : entryAt (s .queue) k ≡ entryAt h k = rw (a .entries .is) (List·getD-append (h .entries) (a .entries .added) _ k l) in
         rw (t, e) (b .answers k l)
 
     answer-at :
         (k : ℕ) → k < number (s .queue) → (x : Bool) → leb (number h) k ≡ x
-        → AnsweredBy finished (takingAt (s .queue) k) (entryAt (s .queue) k) ⊎ AnsweredBy released (takingAt (s .queue) k) (entryAt (s .queue) k)
+        → AnsweredBy finished (takingAt (s .queue) k) (entryAt (s .queue) k)
+        ⊎ AnsweredBy released (takingAt (s .queue) k) (entryAt (s .queue) k)
     answer-at k l true e = as′ k (f .sofar .adds .answered k (leb-true (number h) k e) l)
     answer-at k l false e = old-answer k (leb-false (number h) k e)
 
@@ -91,7 +99,8 @@ module _ (w : List ℕ) (h : History) (g : Good output w h) (b : Book h) where
     record Played (t : Transferred History) (o : Option Ending) : Type 0 where
       same : o ≡ none → t .queue ≡ h
       adds : o ≡ some finished
-          → Adds (virtqueueOf r output backlog) finished m h (t .queue) (t .bytes) × (t .mem ≡ entriesWritten (pageOf r playQueue) h (t .queue) m)
+          → Adds (virtqueueOf r output backlog) finished m h (t .queue) (t .bytes)
+          × (t .mem ≡ entriesWritten (pageOf r playQueue) h (t .queue) m)
       book : Book (t .queue)
 
     unplayed : (answer : Answer) (x : Registers) → Played (untouched answer x h m) none
@@ -116,8 +125,10 @@ module _ (w : List ℕ) (h : History) (g : Good output w h) (b : Book h) where
         go :
             (x y z : Bool)
             → Played
-            (cond x (cond y (cond z (transferFound (account output) output backlog r h m host (found (account output) (virtqueueOf r output backlog) h m))
-            (untouched (plain notRunning) (r .registers) h m)) (untouched (plain notLive) (r .registers) h m)) (untouched (plain lengthDiffers) (r .registers) h m))
+            (cond x (cond y (cond z
+            (transferFound (account output) output backlog r h m host (found (account output) (virtqueueOf r output backlog) h m))
+            (untouched (plain notRunning) (r .registers) h m)) (untouched (plain notLive) (r .registers) h m))
+            (untouched (plain lengthDiffers) (r .registers) h m))
             (cond (x && y && z) (ifNew finished (found (account output) (virtqueueOf r output backlog) h m)) none)
         go true true true = found-played (found (account output) (virtqueueOf r output backlog) h m)
         go true true false = unplayed _ _
@@ -130,7 +141,8 @@ module _ (w : List ℕ) (h : History) (g : Good output w h) (b : Book h) where
     record Given (e : Emptied History) (o : Option Ending) : Type 0 where
       same : o ≡ none → e .queue ≡ h
       adds : o ≡ some released
-          → Adds (releaseQueue 0 (p .rest)) released m h (e .queue) [] × (e .mem ≡ entriesWritten (pageOf (p .rest) playQueue) h (e .queue) m)
+          → Adds (releaseQueue 0 (p .rest)) released m h (e .queue) []
+          × (e .mem ≡ entriesWritten (pageOf (p .rest) playQueue) h (e .queue) m)
       book : Book (e .queue)
 
     found-given : (c : Check) → Given (emptiedFound (account output) (releaseQueue 0 (p .rest)) h m c) (ifNew released c)
@@ -142,7 +154,8 @@ module _ (w : List ℕ) (h : History) (g : Good output w h) (b : Book h) where
         record {
           same = λ e. absurd (none-some released (sym e));
           adds = λ e. (rw (q .mute) at (q .fair .sofar .adds), q .fair .sofar .memory);
-          book = book-after (releaseQueue 0 (p .rest)) released m _ (q .fair) (λ e. absurd (true≢false (sym x ∙ e))) (λ k a. inr (by-own a));
+          book = book-after (releaseQueue 0 (p .rest)) released m _ (q .fair) (λ e. absurd (true≢false (sym x ∙ e)))
+              (λ k a. inr (by-own a));
         }
 
     given :
@@ -257,12 +270,14 @@ module _ (w : List ℕ) (b : Device History) (g : Good output w (b .play)) (k : 
       let l = emptied (account output) (releaseQueue 0 (p .rest)) h m in
       rw o (a .0, release-memory p (l .mem) (l .stop) (l .signal) ∙ rw (a .1))
 
-  write-anew : (offset width v : ℕ) → clearsQueue output (writeOf (b .rest .registers) offset width v .effect) ≡ startsAnew (WriteRegister offset width v) (b .rest)
+  write-anew : (offset width v : ℕ) → clearsQueue output (writeOf (b .rest .registers) offset width v .effect)
+      ≡ startsAnew (WriteRegister offset width v) (b .rest)
   unfolding clears
   write-anew offset width v = anew-clears (WriteRegister offset width v) (b .rest)
 
   pub turns :
-      (q : Request) → Turn (b .rest) h (call q) (asked account q b m .told) (asked account q b m .state .play) × Book (asked account q b m .state .play)
+      (q : Request) → Turn (b .rest) h (call q) (asked account q b m .told) (asked account q b m .state .play)
+      × Book (asked account q b m .state .play)
   unfolding readStep writeStep transferStep remembering addsBy startsAnew
   turns (ReadRegister offset width) = (idle-turn (ReadRegister offset width) _ refl refl, k)
   turns (WriteRegister offset width v) =
@@ -283,7 +298,8 @@ module _ (w : List ℕ) (b : Device History) (g : Good output w (b .play)) (k : 
           anew = λ e. absurd (true≢false (sym e));
           nothing = λ a e. p .same e;
           played = p .adds;
-          released = λ q o e. absurd (play-no-release (eqb (length m) (b .rest .ram) && live (b .rest .registers) && isRunning (b .rest) 0) (found (account output) (virtqueueOf (b .rest) output backlog) h m) e);
+          released = λ q o e. absurd (play-no-release (eqb (length m) (b .rest .ram) && live (b .rest .registers) && isRunning (b .rest) 0)
+              (found (account output) (virtqueueOf (b .rest) output backlog) h m) e);
         },
         p .book,
       )

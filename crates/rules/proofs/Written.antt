@@ -16,12 +16,15 @@ use Rattle.memory.specs.Bytes.{le}
 use Rattle.ranges.specs.Ranges.{places, bytesAt}
 use Rattle.registers.specs.Map.{sizeOf}
 use Rattle.ring.specs.Rules.{baseOf, postedAt}
-use Rattle.rules.specs.Account.{takingAt, entryAt, Grows, Each, statusWritten, written, memoryAfter, entriesWritten, Held, Answers, finishedOk, releasedIoErr, illFormedIoErr, illFormedMute, Answered, Adds, InOrder, end, next}
+use Rattle.rules.specs.Account.{takingAt, entryAt, Grows, Each, statusWritten, written, memoryAfter, entriesWritten, Held, Answers}
+use Rattle.rules.specs.Account.{finishedOk, releasedIoErr, illFormedIoErr, illFormedMute, Answered, Adds, InOrder, end, next}
 use Rattle.rules.specs.Claim.{Good}
-use Rattle.rules.specs.Device.{output, Virtqueue, Form, wellFormed, refused, silent, unwalked, Taking, Ending, finished, released, illFormed}
+use Rattle.rules.specs.Device.{output, Virtqueue, Form, wellFormed, refused, silent, unwalked, Taking, Ending, finished, released}
+use Rattle.rules.specs.Device.{illFormed}
 use Rattle.rules.specs.Histories as history
-use Rattle.rules.specs.Histories.{Entry, Note, History, number, current, handedNow, waiting, took, noted, notesOf, lossesOf, historiesOf}
-use Rattle.rules.specs.Transfer.{Ops, Run, isWell, payloadOf, statusOf, withStatus, usedLength, takingOf, completed, moved, taking}
+use Rattle.rules.specs.Histories.{Entry, Note, History, number, current, handedNow, waiting, took, noted, notesOf, lossesOf}
+use Rattle.rules.specs.Histories.{historiesOf}
+use Rattle.rules.specs.Transfer.{Ops, Run, isWell, payloadOf, statusOf, statusInReply, usedLength, takingOf, completed, moved, taking}
 use Rattle.rules.proofs.Histories.{free}
 use Rattle.rules.proofs.Keeps.{same-number}
 use Rattle.rules.proofs.Lists.{getD-snoc-other, bytes-notesOf}
@@ -225,7 +228,8 @@ module _ (lies : Virtqueue) where
                 f .memory
                 ∙ sym (memory-same page q (took output t q) (number h) (number q - number h) m
                 (took-same (number h + (number q - number h)) (omega arith)));
-            order = order-higher 0 (length (q .takings)) (length (q .takings ++ t ∷ [])) (q .notes) (rw length-append (omega arith)) (f .order);
+            order = order-higher 0 (length (q .takings)) (length (q .takings ++ t ∷ [])) (q .notes)
+                (rw length-append (omega arith)) (f .order);
           }
 
     -- ---- bytes handed on
@@ -277,7 +281,8 @@ module _ (lies : Virtqueue) where
           let a = f .adds in
           let l : number h ≤ number now = grows-length (h .entries) (now .entries) (a .entries) in
           let news : List Note = notesOf (number now) (handedNow now) (bytesAt (s .mem) xs) xs in
-          let still = f .memory ∙ sym (memory-same page now after (number h) (number now - number h) m (noted-same (number h + (number now - number h)))) in
+          let still = f .memory
+          ∙ sym (memory-same page now after (number h) (number now - number h) m (noted-same (number h + (number now - number h)))) in
           record {
             adds =
                 record {
@@ -287,7 +292,8 @@ module _ (lies : Virtqueue) where
                   losses = a .losses;
                   took =
                       λ k lo hi.
-                      rw (memory-same page now after (number h) (k - number h) m (noted-same (number h + (k - number h)))) (a .took k lo hi);
+                      rw (memory-same page now after (number h) (k - number h) m (noted-same (number h + (k - number h))))
+                      (a .took k lo hi);
                   answered = a .answered;
                   held =
                       each-append (Held vq m h after) (a .notes .added) news
@@ -296,7 +302,11 @@ module _ (lies : Virtqueue) where
                       (rw (a .notes .is) at (order-each 0 (length (now .takings)) (now .notes) (f .order)))))
                       (a .held))
                       (held-notes (handedNow now) xs still xs-places);
-                  handed = rw (map-append, a .handed, bytes-notesOf (number now) (handedNow now) (bytesAt (s .mem) xs) xs (length-map xs _));
+                  handed = rw (
+                    map-append,
+                    a .handed,
+                    bytes-notesOf (number now) (handedNow now) (bytesAt (s .mem) xs) xs (length-map xs _),
+                  );
                   kept = a .kept;
                 };
             memory = still;
@@ -329,7 +339,7 @@ module _ (lies : Virtqueue) where
           }
 
       abbrev done : History
-      done = history.entered output e (lies .latency) cur
+      done = history.withEntry output e (lies .latency) cur
 
       last-one : length (cur .takings) ≡ suc (number cur)
       last-one = let b = leb-false (length (cur .takings)) (number cur) busy in omega (arith, g .one)
@@ -347,22 +357,22 @@ module _ (lies : Virtqueue) where
       answers f is (ill n x) = ill-answers f is n x
 
       entered-same : Same (number cur) cur done
-      unfolding history.entered
+      unfolding history.withEntry
       entered-same =
           record { taking-is = λ k b. refl; entry-is = λ k b. getD-snoc-other (cur .entries) entry k _ (λ z. omega arith) }
 
       status-written : (x : Option ℕ)
-          → withStatus x (lies .latency) (current cur .reply) (s .mem) ≡ statusWritten x (lies .latency) (current cur .reply) (s .mem)
+          → statusInReply x (lies .latency) (current cur .reply) (s .mem) ≡ statusWritten x (lies .latency) (current cur .reply) (s .mem)
       status-written none = refl
       status-written (some code) = refl
 
       -- its entry is written behind the others
       last-written : completed ops vq e s .mem ≡ written page done (number cur) (s .mem)
-      unfolding completed history.entered written postedAt sizeOf
+      unfolding completed history.withEntry written postedAt sizeOf
       last-written = rw (status-written (statusOf output e (current cur .form)), getD-append-seam)
 
       entered-number : number done ≡ suc (number cur)
-      unfolding history.entered
+      unfolding history.withEntry
       entered-number = rw length-append (omega arith)
 
       all-written : s .mem ≡ entriesWritten page h cur m → number h ≤ number cur → completed ops vq e s .mem ≡ entriesWritten page h done m
@@ -381,15 +391,16 @@ module _ (lies : Virtqueue) where
           → k < number done
           → Dec (k ≡ number cur)
           → Answered (vq .latency) call (takingAt done k) (entryAt done k)
-      unfolding history.entered
+      unfolding history.withEntry
       entry-answered a all k lo hi (yes z) = rw (z, getD-append-seam) all
       entry-answered a all k lo hi (no n) =
           let b : k < number cur = omega (arith, simp length-append at hi) in
           rw (getD-snoc-other (cur .entries) entry k _ n) (a .answered k lo b)
 
       pub completed-sofar :
-          Fits e (current cur .form) → (call ≡ finished → waiting output cur ≡ []) → Sofar call m h s → Sofar call m h (completed ops vq e s)
-      unfolding completed history.entered
+          Fits e (current cur .form) → (call ≡ finished → waiting output cur ≡ []) → Sofar call m h s
+          → Sofar call m h (completed ops vq e s)
+      unfolding completed history.withEntry
       completed-sofar fits spent f =
           let a = f .adds in
           let l : number h ≤ number cur = grows-length (h .entries) (cur .entries) (a .entries) in

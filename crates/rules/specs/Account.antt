@@ -16,9 +16,11 @@ use Rattle.ring.specs.Rules.{baseOf, postedOf}
 use Rattle.ring.specs.declared.Check.{Check}
 use Rattle.registers.specs.Answers.{done}
 use Rattle.registers.specs.Rules.{live, hasBit}
-use Rattle.rules.specs.Calls.{Request, ReadRegister, WriteRegister, Control, Play, Capture, Event, Call, Told, Order, Done, ReleaseFirst, Pending, orderOf, isRunning, virtqueueOf, releaseQueue}
+use Rattle.rules.specs.Calls.{Request, ReadRegister, WriteRegister, Control, Play, Capture, Event, Call, Told, Order, Done}
+use Rattle.rules.specs.Calls.{ReleaseFirst, Pending, orderOf, isRunning, virtqueueOf, releaseQueue}
 use Rattle.rules.specs.Control.{status}
-use Rattle.rules.specs.Device.{output, Virtqueue, Form, wellFormed, refused, silent, unwalked, Taking, nobody, Ending, finished, released, illFormed, Rest, pageOf, bytesOf}
+use Rattle.rules.specs.Device.{output, Virtqueue, Form, wellFormed, refused, silent, unwalked, Taking, nobody, Ending, finished}
+use Rattle.rules.specs.Device.{released, illFormed, Rest, pageOf, bytesOf}
 use Rattle.rules.specs.Histories.{Entry, Note, History, blank, unanswered, number, current, waiting, historiesOf}
 use Rattle.rules.specs.Numbers.{controlQueue, playQueue, sOk, sIoErr}
 use Rattle.rules.specs.Transfer.{takingOf, found}
@@ -52,7 +54,8 @@ written page h k m =
     let e : Entry = entryAt h k in
     let element : ℕ = 4616 + 8 * (k % 256) in
     put 2
-    (put 4 (put 4 (statusWritten (e .status) (e .latency) (takingAt h k .reply) m) (baseOf page + element) (e .head)) (baseOf page + (element + 4)) (e .length))
+    (put 4 (put 4 (statusWritten (e .status) (e .latency) (takingAt h k .reply) m) (baseOf page + element) (e .head))
+    (baseOf page + (element + 4)) (e .length))
     (baseOf page + 4614) ((k + 1) % 65536)
 
 -- memory once n entries, from number k on, are written
@@ -84,7 +87,8 @@ pub data Answers : Ending → Taking → Entry → Type 0 where
   finishedOk :
       {t : Taking} {e : Entry} → t .form ≡ wellFormed → e .ending ≡ finished → e .status ≡ some sOk → e .length ≡ 8 → Answers finished t e
   releasedIoErr :
-      {t : Taking} {e : Entry} → t .form ≡ wellFormed → e .ending ≡ released → e .status ≡ some sIoErr → e .length ≡ 8 → Answers released t e
+      {t : Taking} {e : Entry} → t .form ≡ wellFormed → e .ending ≡ released → e .status ≡ some sIoErr → e .length ≡ 8
+      → Answers released t e
   illFormedIoErr :
       {call : Ending} {t : Taking} {e : Entry}
       → t .form ≡ refused
@@ -163,7 +167,8 @@ addsBy (ReadRegister offset width) r h m = none
 addsBy (WriteRegister offset width v) r h m = none
 addsBy Control r h m = ordersRelease (orderOf r m) h m
 addsBy (Play host backlog) r h m =
-    cond (eqb (length m) (r .ram) && live (r .registers) && isRunning r 0) (ifNew finished (found (historiesOf output) (virtqueueOf r output backlog) h m)) none
+    cond (eqb (length m) (r .ram) && live (r .registers) && isRunning r 0)
+    (ifNew finished (found (historiesOf output) (virtqueueOf r output backlog) h m)) none
 addsBy (Capture host backlog) r h m = none
 addsBy (Event code data′) r h m = none
 
@@ -182,7 +187,8 @@ startsAnew (Event code data′) r = false
 -- ".. then replies.": the reply to a RELEASE, of the control queue (N = 64), on the memory that the play queue's part left
 abbrev pub releaseReplied : Pending → List ℕ → List ℕ
 releaseReplied p m =
-    postedOf (putAt m (places (p .reply)) (status sOk)) (baseOf (pageOf (p .rest) controlQueue)) 64 (p .rest .control .completed) (p .head) 4
+    postedOf (putAt m (places (p .reply)) (status sOk)) (baseOf (pageOf (p .rest) controlQueue)) 64
+    (p .rest .control .completed) (p .head) 4
 
 -- one call, from the account's rest and history before it to the history after it
 pub record Turn (r : Rest) (h : History) (c : Call) (t : Told) (n : History) : Type 0 where

@@ -12,8 +12,8 @@ use Rattle.rules.specs.Claim.{start, after, toldBy}
 use Rattle.rules.specs.Device.{Direction, streamAt}
 use Rattle.rules.specs.Transfer.{Ops}
 
--- of stream `id` after a call, where it was n before: a reset is 0 written to STATUS (offset 18, one byte), "such call" a play of the output
--- (stream 0) or a capture of the input (1)
+-- of stream `id` after a call, where it was n before: a reset is 0 written to STATUS (offset 18, one byte), "such call" a play of the
+-- output (stream 0) or a capture of the input (1)
 unfoldable pub backlogAfter : ℕ → Request → Told → ℕ → ℕ
 backlogAfter id (ReadRegister offset width) t n = n
 backlogAfter id (WriteRegister offset width v) t n = cond (eqb offset 18 && eqb width 1 && eqb v 0) 0 n

@@ -12,7 +12,7 @@ use Rattle.ranges.specs.Ranges.{total, places, bytesAt, putAt, allInside}
 use Rattle.ranges.specs.declared.Range.{Range}
 use Rattle.registers.specs.Answers.{done, lengthDiffers, notLive, notRunning, eventNotAllowed, noEventBuffer, noQueue, plain}
 use Rattle.registers.specs.Map.{sizeOf}
-use Rattle.registers.specs.Rules.{readOf, writeOf, live, broken, hasBit}
+use Rattle.registers.specs.Rules.{readOf, writeOf, live, broken, hasBit, indirectNegotiated}
 use Rattle.registers.specs.declared.Config.{Config}
 use Rattle.registers.specs.declared.Effect.{Effect}
 use Rattle.registers.specs.declared.Effect.the-variants.{Nothing, Reset, Based, Rung}
@@ -29,14 +29,18 @@ use Rattle.card.specs.Card.{noCounters, runningState, releasedState}
 use Rattle.card.specs.Rules.{jackReset, streamReset, rungOf}
 use Rattle.card.specs.declared.Jack.{Jack}
 use Rattle.rules.specs.Answers.{brokenAnswer, byStop, answerBy, brokenBy}
-use Rattle.rules.specs.Control.{Served, Reply, Release, served, partsIn, withParts, status, noJack, withState, withBacklog, withStream}
-use Rattle.rules.specs.Device.{Direction, output, input, streamNumber, queueNumber, directionOf, Virtqueue, Rest, Device, queueFor, withQueue, withRegisters, withJacks, withControl, withEvent, pageOf, streamAt, signalledIf, oneTaken, oneCompleted, bytesOf}
+use Rattle.rules.specs.Control.{Served, Reply, Release, served, partsIn, withParts, status, noJack, withState, withBacklog}
+use Rattle.rules.specs.Control.{withStream}
+use Rattle.rules.specs.Device.{Direction, output, input, streamNumber, queueNumber, directionOf, Virtqueue, Rest, Device, queueFor}
+use Rattle.rules.specs.Device.{withQueue, withRegisters, withJacks, withControl, withEvent, pageOf, streamAt, signalledIf, oneTaken}
+use Rattle.rules.specs.Device.{oneCompleted, bytesOf}
 use Rattle.rules.specs.Numbers.{controlQueue, eventQueue, jackConnected, jackDisconnected, pcmXrun, sOk, sBadMsg}
 use Rattle.rules.specs.Transfer.{Ops, Run, begun, transferRun, releaseRun, found}
 
 -- ---- calls, and what their callers are told
 
--- the play call lends its host buffer, the capture call its host bytes. Order 5: "The play and capture calls now take the host's backlog
+-- "Play lends a host buffer, capture lends host bytes; both answer a byte count." Order 5: "The play and capture calls now take the host's
+-- backlog
 -- in bytes (32 bits)": the number behind them
 pub data Request : Type 0 where
   ReadRegister : ℕ → ℕ → Request
@@ -46,7 +50,8 @@ pub data Request : Type 0 where
   Capture : List ℕ → ℕ → Request
   Event : ℕ → ℕ → Request
 
--- a call: what is asked, and the memory lent to it
+-- a call: what is asked, and the memory lent to it. "nobody else writes memory during one; between calls the length of memory may change
+-- too": each call brings its own
 pub record Call : Type 0 where
   pub asked : Request
   pub lent : List ℕ
@@ -73,11 +78,11 @@ pub record Result : Type 0 where
   pub count : ℕ
   pub mem : List ℕ
 
--- "nothing changed"
+-- "nothing changed"; "Answers 1 to 8 count 0."
 abbrev pub refused : ℕ → Rest → List ℕ → Result
 refused number r m = record { rest = r; answer = plain number; count = 0; mem = m }
 
--- a queue is broken: "NEEDS_RESET and ISR bit 1 set"
+-- a queue is broken: "earlier writes .. stand ..; NEEDS_RESET and ISR bit 1 set"
 abbrev pub broke : ℕ → Cause → Rest → List ℕ → Result
 broke queue cause r m =
     record { rest = withRegisters (broken (r .registers)) r; answer = brokenAnswer queue cause; count = 0; mem = m }
@@ -86,9 +91,9 @@ broke queue cause r m =
 abbrev pub admitted : {A : Type 0} → Rest → List ℕ → (ℕ → A) → A → A
 admitted r m refuse go = cond (eqb (length m) (r .ram)) (cond (live (r .registers)) go (refuse notLive)) (refuse lengthDiffers)
 
--- bit 28 "as the guest features have it"
+-- "without bit 28 negotiated": as the guest features have it
 abbrev pub indirect : Rest → Bool
-indirect r = hasBit (r .registers .features) 28
+indirect r = indirectNegotiated (r .registers)
 
 -- the queue of a direction in a call whose statuses carry this latency
 abbrev pub virtqueueOf : Rest → Direction → ℕ → Virtqueue
@@ -154,11 +159,12 @@ pub data Order : Type 0 where
   Done : Result → Order
   ReleaseFirst : ℕ → Pending → Order
 
--- the reply is written, the message completed; the answer counts it
+-- the reply is written, the message completed: "the answer counts those completed, 0 or 1"
 unfoldable pub replied : Pending → List ℕ → List ℕ → Result
 replied p bytes m =
     let base = baseOf (pageOf (p .rest) controlQueue) in
-    let after = postedOf (putAt m (places (p .reply)) bytes) base (sizeOf controlQueue) (p .rest .control .completed) (p .head) (length bytes) in
+    let after = postedOf (putAt m (places (p .reply)) bytes) base (sizeOf controlQueue) (p .rest .control .completed) (p .head)
+    (length bytes) in
     record {
       rest =
           withRegisters (signalledIf (interrupts after base (sizeOf controlQueue)) (p .rest .registers))
@@ -244,7 +250,7 @@ pub record Transferred (Q : Type 0) : Type 0 where
   pub bytes : List ℕ
   pub mem : List ℕ
 
--- .. on this queue
+-- .. on this queue: "earlier writes and handed bytes stand and are counted" where it broke
 abbrev pub transferredBy : {Q : Type 0} → ℕ → Registers → Run Q → Transferred Q
 transferredBy queue g r =
     record {
@@ -361,7 +367,7 @@ eventFound code data′ r m Check.Idle = record { result = refused noEventBuffer
 eventFound code data′ r m (Check.Broken cause) = record { result = broke eventQueue cause r m; left = 0 }
 eventFound code data′ r m (Check.New n) = eventRun code data′ n r m
 
--- "Event: 1, 5, 7, then 8 or 9."
+-- "Event: 1, 5, 7, then 8 or 9." Answer 8 leaves "jack state recorded; bad chains completed".
 unfoldable pub eventOf : Rest → ℕ → ℕ → List ℕ → Result
 eventOf r code data′ m =
     admitted r m (λ answer. refused answer r m)

@@ -12,7 +12,8 @@ use Rattle.ring.specs.declared.Cause.{Cause}
 use Rattle.ring.specs.declared.Check.{Check}
 use Rattle.ring.specs.declared.Stop.{Stop}
 use Rattle.rules.specs.Answers.{brokenAnswer}
-use Rattle.rules.specs.Calls.{Request, ReadRegister, WriteRegister, Control, Play, Capture, Event, Result, Order, Done, ReleaseFirst, Pending, broke, releasedOf, orderOf, Transferred, transferredBy, transferFound}
+use Rattle.rules.specs.Calls.{Request, ReadRegister, WriteRegister, Control, Play, Capture, Event, Result, Order, Done, ReleaseFirst}
+use Rattle.rules.specs.Calls.{Pending, broke, releasedOf, orderOf, Transferred, transferredBy, transferFound}
 use Rattle.rules.specs.Device.{Direction, output, input, queueNumber, directionOf, Virtqueue, Rest}
 use Rattle.rules.specs.Numbers.{controlQueue, eventQueue}
 use Rattle.rules.specs.Transfer.{Ops, Run, stopped}

@@ -15,7 +15,9 @@ use Rattle.card.specs.Card.{noCounters, jackAtPower, freshStream}
 use Rattle.rules.specs.Calls.{Request, ReadRegister, WriteRegister, Control, Play, Capture, Event, Call, Told, step, clearsQueue}
 use Rattle.rules.specs.Counters.{countersOf}
 use Rattle.rules.specs.Device.{Direction, output, input, Taking, nobody, released, Message, Queue, Rest, Device, queueFor}
-use Rattle.rules.specs.Histories.{Entry, Note, History, unanswered, handedOf, readOf, lostOf, number, current, handedNow, waiting, historiesOf}
+use Rattle.rules.specs.Histories.{Entry, Note, History, unanswered, handedOf, addressesOf, lostOf, number, current, handedNow}
+use Rattle.rules.specs.Histories.{waiting}
+use Rattle.rules.specs.Histories.{historiesOf}
 use Rattle.rules.specs.Transfer.{Ops, payloadOf}
 
 -- ---- lists of calls
@@ -104,7 +106,7 @@ pub record Good (d : Direction) (said : List ℕ) (h : History) : Type 0 where
   -- each payload position of each message taken is in exactly one place, in order: handed on, given up or waiting
   pub once : (t : ℕ) → handedOf t (h .notes) ++ (lostOf t (h .losses) ++ waitingOf d t h) ≡ upFrom 0 (length (payloadAt d t h))
   -- what was handed on was read at the payload's own addresses, position by position
-  pub read : (t : ℕ) → readOf t (h .notes) ≡ take (length (handedOf t (h .notes))) (payloadAt d t h)
+  pub read : (t : ℕ) → addressesOf t (h .notes) ≡ take (length (handedOf t (h .notes))) (payloadAt d t h)
   -- given up only by a Release that answered this message IO_ERR
   pub blamed : (t : ℕ) → (getD (h .entries) t unanswered .ending ≡ released → ⊥) → lostOf t (h .losses) ≡ []
   -- the bytes noted are those that the transfers moved

@@ -17,6 +17,7 @@ use Rattle.card.specs.Card.{noStream}
 use Rattle.card.specs.declared.Counters.{Counters}
 use Rattle.card.specs.declared.Jack.{Jack}
 use Rattle.card.specs.declared.Stream.{Stream}
+use Rattle.rules.specs.Numbers.{playQueue, captureQueue}
 
 -- ---- directions: output stream 0 on the play queue, input stream 1 on the capture queue
 
@@ -28,8 +29,8 @@ streamNumber output = 0
 streamNumber input = 1
 
 abbrev pub queueNumber : Direction → ℕ
-queueNumber output = 2
-queueNumber input = 3
+queueNumber output = playQueue
+queueNumber input = captureQueue
 
 -- the direction of a stream of the card
 abbrev pub directionOf : ℕ → Direction
@@ -55,7 +56,8 @@ pub data Form : Type 0 where
   wellFormed refused silent : Form
   unwalked : Fault → Form
 
--- "A taking notes head, ranges and faults as memory then shows them."
+-- "A taking notes head, ranges and faults as memory then shows them." "Ranges are remembered when a message is taken": no rule reads the
+-- chain again after a part was played
 pub record Taking : Type 0 where
   pub head : ℕ
   pub request : List Range
@@ -85,6 +87,7 @@ emptyQueue = record { taken = 0; completed = 0; work = none }
 
 -- ---- all but the stream queues
 
+-- "Guest RAM is a lent slice, address 0 first; its length is fixed at power-up.": `ram` is that length
 pub record Rest : Type 0 where
   pub ram : ℕ
   pub registers : Registers

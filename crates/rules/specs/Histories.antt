@@ -54,8 +54,8 @@ only key val t (x ∷ xs) = cond (eqb (key x) t) (val x ∷ only key val t xs) (
 abbrev pub handedOf : ℕ → List Note → List ℕ
 handedOf t l = only (λ (n : Note). n .of) (λ n. n .pos) t l
 
-abbrev pub readOf : ℕ → List Note → List ℕ
-readOf t l = only (λ (n : Note). n .of) (λ n. n .from) t l
+abbrev pub addressesOf : ℕ → List Note → List ℕ
+addressesOf t l = only (λ (n : Note). n .of) (λ n. n .from) t l
 
 abbrev pub lostOf : ℕ → List Loss → List ℕ
 lostOf t l = only (λ (n : Loss). n .of) (λ n. n .pos) t l
@@ -79,7 +79,7 @@ abbrev pub lossesOf : ℕ → List ℕ → List Loss
 lossesOf t ps = map (λ (p : ℕ). record { of = t; pos = p }) ps
 
 module _ (d : Direction) where
-  -- the positions of the message in work that wait
+  -- "the rest wait": the positions of the message in work that were not handed
   unfoldable pub waiting : History → List ℕ
   unfolding handedNow
   waiting h = upFrom (handedNow h) (length (payloadOf d (current h)) - handedNow h)
@@ -91,12 +91,17 @@ module _ (d : Direction) where
   unfoldable pub noted : List ℕ → List ℕ → History → History
   unfolding handedNow
   noted bytes xs h =
-      record { takings = h .takings; entries = h .entries; notes = h .notes ++ notesOf (number h) (handedNow h) bytes xs; losses = h .losses }
+      record {
+        takings = h .takings;
+        entries = h .entries;
+        notes = h .notes ++ notesOf (number h) (handedNow h) bytes xs;
+        losses = h .losses;
+      }
 
   -- the taking in work gets its entry; what still waits is given up
-  unfoldable pub entered : Ending → ℕ → History → History
+  unfoldable pub withEntry : Ending → ℕ → History → History
   unfolding waiting
-  entered e latency h =
+  withEntry e latency h =
       record {
         takings = h .takings;
         entries =
@@ -127,5 +132,5 @@ module _ (d : Direction) where
         left = λ h. drop (handedNow h) (payloadOf d (current h));
         take = took;
         hand = noted;
-        complete = entered;
+        complete = withEntry;
       }

@@ -16,7 +16,8 @@ use Rattle.ring.specs.declared.Check.{Check}
 use Rattle.ring.specs.declared.Head.{Head}
 use Rattle.ring.specs.declared.Stop.{Stop}
 use Rattle.rules.specs.Answers.{going}
-use Rattle.rules.specs.Device.{Direction, output, input, streamNumber, Virtqueue, queueSize, Form, wellFormed, refused, silent, unwalked, Taking, Ending, finished, released, illFormed, bytesOf}
+use Rattle.rules.specs.Device.{Direction, output, input, streamNumber, Virtqueue, queueSize, Form, wellFormed, refused, silent}
+use Rattle.rules.specs.Device.{unwalked, Taking, Ending, finished, released, illFormed, bytesOf}
 use Rattle.rules.specs.Loop.{loop}
 use Rattle.rules.specs.Numbers.{sOk, sIoErr}
 
@@ -31,11 +32,13 @@ abbrev pub sized : Direction → ℕ → ℕ → Bool
 sized output request reply = leb 4 request && eqb reply 8
 sized input request reply = eqb request 4
 
--- "walk fault, writable outside RAM, reply under 8: length 0. Then readable outside RAM, wrong stream id, or ..: IO_ERR"
+-- "walk fault, writable outside RAM, reply under 8: length 0. Then readable outside RAM, wrong stream id, or ..: IO_ERR
+-- .. Without these a message is well-formed"
 unfoldable pub formOf : Direction → List ℕ → List Range → List Range → Form
 formOf d m request reply =
     cond (allInside (length m) reply && leb 8 (total reply))
-    (cond (allInside (length m) request && eqb (idOf m request) (streamNumber d) && sized d (total request) (total reply)) wellFormed refused)
+    (cond (allInside (length m) request && eqb (idOf m request) (streamNumber d) && sized d (total request) (total reply))
+    wellFormed refused)
     silent
 
 abbrev pub walkedTaking : Direction → List ℕ → ℕ → Outcome → Taking
@@ -61,7 +64,7 @@ payloadOf d t = cond (isWell (t .form)) (payloadPlaces d t) []
 
 -- ---- what a completion answers
 
--- the status: OK for a finished message; a Release gives "Output: IO_ERR .. Input: OK"; "Ill-formed messages get their own
+-- the status: "Finished: OK"; a Release gives "Output: IO_ERR .. Input: OK"; "Ill-formed messages get their own
 -- answer"
 abbrev pub statusOf : Direction → Ending → Form → Option ℕ
 statusOf d finished f = some sOk
@@ -72,13 +75,13 @@ statusOf d illFormed refused = some sIoErr
 statusOf d illFormed silent = none
 statusOf d illFormed (unwalked f) = none
 
--- "Status (code, latency ..) is the last 8 reply bytes."
+-- "Status (code, latency ..) is the last 8 reply bytes.", for a capture too: never right behind the recorded bytes
 abbrev pub statusBytes : ℕ → ℕ → List ℕ
 statusBytes code latency = bytesOf 4 code ++ bytesOf 4 latency
 
-abbrev pub withStatus : Option ℕ → ℕ → List Range → List ℕ → List ℕ
-withStatus none latency reply m = m
-withStatus (some code) latency reply m = putAt m (drop (total reply - 8) (places reply)) (statusBytes code latency)
+abbrev pub statusInReply : Option ℕ → ℕ → List Range → List ℕ → List ℕ
+statusInReply none latency reply m = m
+statusInReply (some code) latency reply m = putAt m (drop (total reply - 8) (places reply)) (statusBytes code latency)
 
 -- "length 8 for play, 8 + recorded for capture"
 abbrev pub usedLength : Direction → Option ℕ → ℕ → ℕ
@@ -135,7 +138,7 @@ module _ {Q : Type 0} (ops : Ops Q) (v : Virtqueue) where
       let t : Taking = ops .work (r .queue) in
       let status : Option ℕ = statusOf (v .direction) e (t .form) in
       let after : List ℕ =
-      postedAt (withStatus status (v .latency) (t .reply) (r .mem)) (baseOf (v .page)) (queueSize v) (ops .usedPlace (r .queue))
+      postedAt (statusInReply status (v .latency) (t .reply) (r .mem)) (baseOf (v .page)) (queueSize v) (ops .usedPlace (r .queue))
       (ops .usedIndex (r .queue)) (t .head) (usedLength (v .direction) status (ops .done (r .queue))) in
       record {
         queue = ops .complete e (v .latency) (r .queue);
@@ -221,7 +224,8 @@ module _ {Q : Type 0} (ops : Ops Q) (v : Virtqueue) where
   unfoldable pub releaseRun : ℕ → Run Q → Run Q
   releaseRun new r = loop givenUp releaseMore next new r
 
-  -- "New entries = index − taken, modulo 65,536 .. new plus in work exceeds N"
+  -- "The available index is read once per call (for a Release, once more on the stream's queue), before that queue's writes." "New
+  -- entries = index − taken, modulo 65,536 .. new plus in work exceeds N"
   abbrev pub found : Q → List ℕ → Check
   found q m =
       foundOf m (v .page) (queueSize v) (ops .new q (indexOf m (v .page) (queueSize v))) (cond (ops .idle q) 0 1)

@@ -49,7 +49,8 @@ pub release-goes-idle : (f : Flow) → releaseGoesOn f ≡ true → f .message .
 release-goes-idle f h = eqb-true (f .message .count) 0 (and-eq-true-iff (going (f .stop)) (eqb (f .message .count) 0) .0 h .1)
 
 pub goes-idle : (f : Flow) (room : ℕ) → goesOn f room ≡ true → f .message .count ≡ 0
-goes-idle f room h = eqb-true (f .message .count) 0 (and-eq-true-iff (going (f .stop) && ltb (f .moved) room) (eqb (f .message .count) 0) .0 h .1)
+goes-idle f room h =
+    eqb-true (f .message .count) 0 (and-eq-true-iff (going (f .stop) && ltb (f .moved) room) (eqb (f .message .count) 0) .0 h .1)
 
 pub fresh-fit : (len room : ℕ) (ws : List ℕ) (c : Counters) (message : Message) → FitMessage len ws message
     → FitFlow len room ws (freshFlow c message)

@@ -27,7 +27,8 @@ module _ (v : rules.Virtqueue) (ws m host : List ℕ) (f : Flow) (n : ℕ) where
       → restRun v n (runOf ws f m host)
       ≡ restRun v k (worked (countersOf (v .direction)) v (next (countersOf (v .direction)) v (runOf ws f m host)))
   rest-more k e h =
-      whiles-more (worked (countersOf (v .direction)) v) (transferMore (countersOf (v .direction)) v) (next (countersOf (v .direction)) v) n k
+      whiles-more (worked (countersOf (v .direction)) v) (transferMore (countersOf (v .direction)) v)
+      (next (countersOf (v .direction)) v) n k
       (runOf ws f m host) e (goes-on v ws m host f ∙ h)
 
   pub release-none : n ≡ 0 → releaseRest v n (runOf ws f m host) ≡ runOf ws f m host
@@ -42,5 +43,6 @@ module _ (v : rules.Virtqueue) (ws m host : List ℕ) (f : Flow) (n : ℕ) where
       → releaseRest v n (runOf ws f m host)
       ≡ releaseRest v k (givenUp (countersOf (v .direction)) v (next (countersOf (v .direction)) v (runOf ws f m host)))
   release-more k e h =
-      whiles-more (givenUp (countersOf (v .direction)) v) (releaseMore (countersOf (v .direction)) v) (next (countersOf (v .direction)) v) n k
+      whiles-more (givenUp (countersOf (v .direction)) v) (releaseMore (countersOf (v .direction)) v)
+      (next (countersOf (v .direction)) v) n k
       (runOf ws f m host) e (release-goes-on v ws m host f ∙ h)

@@ -13,7 +13,7 @@ use lib.ListN.{length, getD, take, drop, take-append-drop, length-drop}
 use lib.Seq.{take-take, take-at, drop-at, getD-at, length-take-le, drop-drop, getD-drop}
 use Rattle.wave.specs.Lists.{Known}
 use Rattle.wave.specs.File.{headerOf, padOf, fileOf, fileLen}
-use Rattle.wave.specs.Outcome.{maxData, judged, holds, hasWords, hasNumbers, hasPad, refusal, accepted, readWith, readOf, dataIn}
+use Rattle.wave.specs.Outcome.{maxData, judged, holds, hasWords, hasNumbers, hasPad, refusal, accepted, readWith, fileRead, dataIn}
 use Rattle.wave.specs.Outcome.{formatIn, channelsIn, rateIn, lengthIn}
 use Rattle.wave.specs.Promise.{Writable, Back, Accepted}
 use Rattle.wave.specs.declared.Found.{Found}
@@ -71,7 +71,7 @@ module _ (f c r : ℕ) (d : List ℕ) where
           p,
         )
 
-    reads : readOf (fileOf f c r d) ≡ accepted f c r (length d)
+    reads : fileRead (fileOf f c r d) ≡ accepted f c r (length d)
     reads =
         let k = w .known in
         let s = w .short in
@@ -208,12 +208,12 @@ module _ (f c r n : ℕ) (file : List ℕ) (t : Passed f c r n (take 44 file) (l
       (take-append-drop 44 file)
 
 -- "The reader takes exactly the files the writer can write"
-pub accepted-file : (file : List ℕ) → readOf file .answer ≡ 0 → Accepted file (readOf file)
+pub accepted-file : (file : List ℕ) → fileRead file .answer ≡ 0 → Accepted file (fileRead file)
 accepted-file file ok = by (passed _ _ _ _ _ _ _ ok)
   where
     by : Passed (formatIn (take 44 file)) (channelsIn (take 44 file)) (rateIn (take 44 file)) (lengthIn (take 44 file)) (take 44 file)
         (length file) (getD file (length file - 1) 0)
-        → Accepted file (readOf file)
+        → Accepted file (fileRead file)
     by t =
         rw (t .so)
         (record {

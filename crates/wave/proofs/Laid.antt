@@ -4,15 +4,12 @@ use mathlib.Core.List.{List, _++_, append-assoc}
 use Prim.Native.Nat.{ℕ, _+_, _≤_, _<_}
 use native.Mathlib.Omega.{arith}
 use lib.ListN.{length, take, drop, length-append}
-use lib.Seq.{paste, take-length, length-paste, take-paste, drop-paste, drop-drop}
+use lib.Seq.{paste, take-length, take-paste, drop-paste, drop-drop}
 use Rattle.wave.specs.Outcome.{laid}
 
 pub laid-pasted : (d : List ℕ) (at : ℕ) (s : List ℕ) → paste d at s (length s) ≡ laid d at s
 unfolding laid
 laid-pasted d at s = rw (take-length s)
-
-pub length-laid : (d : List ℕ) (at : ℕ) (s : List ℕ) → at + length s ≤ length d → length (laid d at s) ≡ length d
-length-laid d at s h = rw (← (laid-pasted d at s)) (length-paste d at s (length s) h (omega arith))
 
 -- what a loop has pasted at its end
 pub whole-pasted : (d : List ℕ) (at : ℕ) (s : List ℕ) (n : ℕ) (out : List ℕ) → n ≡ length s → out ≡ paste d at s n → out ≡ laid d at s

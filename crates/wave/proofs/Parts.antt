@@ -18,10 +18,6 @@ module _ (f c r n : ℕ) where
   unfolding formatPart bytes
   length-format = refl
 
-  pub length-data : length (dataPart n) ≡ 8
-  unfolding dataPart bytes
-  length-data = refl
-
   pub length-header : length (headerOf f c r n) ≡ 44
   unfolding headerOf riffPart formatPart dataPart bytes
   length-header = refl

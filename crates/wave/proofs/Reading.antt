@@ -10,14 +10,14 @@ use lib.Dec.{eqb, ltb}
 use lib.ListN.{length, take, drop}
 use lib.Seq.{take-all}
 use Rattle.wave.specs.File.{RIFF, WAVE, «fmt», «data», headerOf, fileLen}
-use Rattle.wave.specs.Outcome.{judged, holds, hasWords, hasNumbers, hasPad, refusal, accepted, readWith, readOf}
+use Rattle.wave.specs.Outcome.{judged, holds, hasWords, hasNumbers, hasPad, refusal, accepted, readWith, fileRead}
 use Rattle.wave.specs.Promise.{Writable, Words, Numbers, Reading}
 use Rattle.wave.proofs.Lists.{first, second}
 use Rattle.wave.proofs.Answers.{fine, judged-fine}
 use Rattle.wave.proofs.Parts.{length-header}
 use Rattle.wave.proofs.Compared.{holds-there, holds-of}
 
-pub short : (file : List ℕ) → length file < 44 → refusal 23 ≡ readOf file
+pub short : (file : List ℕ) → length file < 44 → refusal 23 ≡ fileRead file
 unfolding readWith
 short file h = rw (take-all 44 file (omega arith), lt-ltb (length file) 44 h)
 

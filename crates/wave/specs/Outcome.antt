@@ -103,8 +103,8 @@ readWith f c r n head len last =
 abbrev pub readBy : List ℕ → ℕ → ℕ → Found
 readBy head len last = readWith (formatIn head) (channelsIn head) (rateIn head) (lengthIn head) head len last
 
-abbrev pub readOf : List ℕ → Found
-readOf file = readBy (take 44 file) (length file) (getD file (length file - 1) 0)
+abbrev pub fileRead : List ℕ → Found
+fileRead file = readBy (take 44 file) (length file) (getD file (length file - 1) 0)
 
 -- what C is told beside the answer: format, channels, rate, and where the data starts and how long it is; as it was on a refusal
 abbrev pub toldOf : Found → List ℕ → List ℕ
@@ -113,4 +113,4 @@ toldOf r was =
 
 -- "the data as a part of the file"
 abbrev pub dataIn : List ℕ → List ℕ
-dataIn file = take (readOf file .len) (drop (readOf file .start) file)
+dataIn file = take (fileRead file .len) (drop (fileRead file .start) file)

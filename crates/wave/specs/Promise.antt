@@ -7,7 +7,7 @@ use Prim.Native.Nat.{ℕ, _+_, _%_, _≤_, _<_}
 use lib.ListN.{length, take, drop}
 use Rattle.wave.specs.Lists.{Known}
 use Rattle.wave.specs.File.{RIFF, WAVE, «fmt», «data», headerOf, fileOf, fileLen, riffSize, byteRate, blockAlign, padOf}
-use Rattle.wave.specs.Outcome.{maxData, judged, Outcome, outcome, refusal, readOf, accepted, dataIn}
+use Rattle.wave.specs.Outcome.{maxData, judged, Outcome, outcome, refusal, fileRead, accepted, dataIn}
 use Rattle.wave.specs.declared.Found.{Found}
 
 -- what the writer can write
@@ -55,7 +55,7 @@ pub record Reading (f c r n : ℕ) (head : List ℕ) (len last : ℕ) (o : Found
 
 -- "gives back what was written"
 pub record Back (f c r : ℕ) (d : List ℕ) : Type 0 where
-  pub found : readOf (fileOf f c r d) ≡ accepted f c r (length d)
+  pub found : fileRead (fileOf f c r d) ≡ accepted f c r (length d)
   pub same : dataIn (fileOf f c r d) ≡ d
 
 -- "The reader takes exactly the files the writer can write": an accepted file is the one that writing what was read gives

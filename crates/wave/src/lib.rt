@@ -5,7 +5,7 @@ ghost use lib.ListN.{length, getD};
 ghost use Rattle.wave.specs.Lists.{listed, bitsOf, hzOf, formatWith, rateWith};
 ghost use Rattle.wave.specs.File.{blockAlign, byteRate, riffPart, formatPart, dataPart, headerOf, fileLen, fileOf};
 ghost use Rattle.wave.specs.Outcome.{maxData, judged, laid, after, writtenOf, headedOf};
-ghost use Rattle.wave.specs.Outcome.{holds, hasWords, hasNumbers, hasPad, refusal, readWith, readBy, readOf, toldOf};
+ghost use Rattle.wave.specs.Outcome.{holds, hasWords, hasNumbers, hasPad, refusal, readWith, readBy, fileRead, toldOf};
 use samples::S16;
 use samples::S24_3;
 use samples::S32;
@@ -424,7 +424,7 @@ pub fn read_header(head: &[u8], file_len: u64, last: u8) -> Found
 
 // A file that is in memory as a whole.
 pub fn read(file: &[u8]) -> Found
-    ensures { λ r. ⌜ r ≡ readOf (now (file .entry)) ⌝ }
+    ensures { λ r. ⌜ r ≡ fileRead (now (file .entry)) ⌝ }
 {
     let len = file.len();
     if len < HEADER {
@@ -452,7 +452,7 @@ pub extern "C" fn wekshurag_wave_header(
 // `read`, for C: the answer, and beside 0 in `found` the format, channels, rate, where the data starts and how long it is.
 #[no_mangle]
 pub extern "C" fn wekshurag_wave_read(file: &[u8], found: &mut [u64; 5]) -> u32
-    ensures { λ r. let o = readOf (now (file .entry)) in
+    ensures { λ r. let o = fileRead (now (file .entry)) in
         ⌜ (r ≡ o .answer) × (now (found .exit) ≡ toldOf o (now (found .entry))) ⌝ }
 {
     let r = read(file);

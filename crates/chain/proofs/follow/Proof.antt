@@ -6,7 +6,7 @@ use native.Mathlib.Omega.{arith}
 use borrow.Author.Tests.{not-true, not-false}
 use lib.ListN.{length}
 use Rattle.ranges.specs.Ranges.{rangesOf, rangesIn}
-use Rattle.chain.specs.Walk.{descriptors, inTable, direct, walkOf, SoundChain}
+use Rattle.chain.specs.Walk.{descriptors, onward, inTable, direct, walkOf, SoundChain}
 use Rattle.chain.proofs.Laws.{sound-empty, inTable-none, direct-none, inTable-past, direct-past, inTableTurn, directTurn}
 use Rattle.chain.proofs.Laws.{inTable-more, direct-more, onward-fault, onward-last, onward-next}
 use Rattle.chain.proofs.follow.Statement.{statement}
@@ -35,21 +35,48 @@ Inv-walk m list₀ table size indirect chain₀ number₀ left₀ list chain num
 abbrev μ-walk : tie.MeasureT-walk
 μ-walk m list₀ table size indirect chain₀ number₀ left₀ list chain number left = left
 
+-- ---- places: a turn in the direct table, the descriptor read in it, a turn in an indirect table, the descriptor read there and joined
+
+abbrev start : tie.At-walk Inv-loop μ-loop Inv-walk μ-walk → tie.Start Inv-loop μ-loop Inv-walk μ-walk
+start c = c .before .before .before .before
+
+abbrev turn : tie.After-read Inv-loop μ-loop Inv-walk μ-walk → tie.At-walk Inv-loop μ-loop Inv-walk μ-walk
+turn c = c .before .before .before .before
+
+abbrev naming : tie.After-enum-told Inv-loop μ-loop Inv-walk μ-walk → tie.After-read Inv-loop μ-loop Inv-walk μ-walk
+naming c = c .before .before .before .before .before
+
+abbrev into : tie.At-loop Inv-loop μ-loop Inv-walk μ-walk → tie.After-enum-told Inv-loop μ-loop Inv-walk μ-walk
+into c = c .before .before
+
+abbrev turn-inside : tie.After-read2 Inv-loop μ-loop Inv-walk μ-walk → tie.At-loop Inv-loop μ-loop Inv-walk μ-walk
+turn-inside c = c .before .before .before .before .before
+
+abbrev read-inside : tie.After-joined Inv-loop μ-loop Inv-walk μ-walk → tie.After-read2 Inv-loop μ-loop Inv-walk μ-walk
+read-inside c = c .before .before .before .before
+
+abbrev inside-joined : tie.After-chain Inv-loop μ-loop Inv-walk μ-walk → tie.After-joined Inv-loop μ-loop Inv-walk μ-walk
+inside-joined c = c .before .before .before
+
+abbrev read-outside : tie.After-joined2 Inv-loop μ-loop Inv-walk μ-walk → tie.After-read Inv-loop μ-loop Inv-walk μ-walk
+read-outside c = c .before .before .before .before
+
+abbrev outside-joined : tie.After-chain2 Inv-loop μ-loop Inv-walk μ-walk → tie.After-joined2 Inv-loop μ-loop Inv-walk μ-walk
+outside-joined c = c .before .before .before
+
+-- ---- facts
+
 -- the rest of the walk from a descriptor of the direct table
 outer :
     (c : tie.After-read Inv-loop μ-loop Inv-walk μ-walk)
-    → let at-walk = c .before .before .before .before in
-    let start = at-walk .before .before .before .before in
-    let l = at-walk .walk in
-    let a = start .args in
+    → let l = turn c .walk in
+    let a = start (turn c) .args in
     directTurn (a .m .now) (a .indirect) (l .left) (l .left - 1) (descriptors (a .m .now) (a .table .0) (a .size)) (c .read .result)
     (rangesOf (l .list) (l .chain .request)) (rangesOf (l .list) (l .chain .reply))
     ≡ walkOf (a .m .now) (a .table .0) (a .size) (a .head .0) (a .indirect)
 outer c =
-    let at-walk = c .before .before .before .before in
-    let start = at-walk .before .before .before .before in
-    let l = at-walk .walk in
-    let a = start .args in
+    let l = turn c .walk in
+    let a = start (turn c) .args in
     sym
     (direct-more (a .m .now) (a .table .0) (a .size) (l .left) (l .left - 1) (l .number .0) _ _ (omega arith) (c .read .result)
     (omega arith) (c .read .ensures) (a .indirect))
@@ -58,12 +85,9 @@ outer c =
 -- the rest of the walk from the start of an indirect table
 inside :
     (c : tie.After-enum-told Inv-loop μ-loop Inv-walk μ-walk)
-    → let at-read = c .before .before .before .before .before in
-    let at-walk = at-read .before .before .before .before in
-    let start = at-walk .before .before .before .before in
-    let l = at-walk .walk in
-    let a = start .args in
-    let d = at-read .read .result in
+    → let l = turn (naming c) .walk in
+    let a = start (turn (naming c)) .args in
+    let d = naming c .read .result in
     inTable (l .left) (descriptors (a .m .now) (d .at .0) (d .len / 16)) 0 (rangesOf (l .list) (l .chain .request))
     (rangesOf (l .list) (l .chain .reply))
     ≡ walkOf (a .m .now) (a .table .0) (a .size) (a .head .0) (a .indirect)
@@ -72,16 +96,14 @@ inside c =
       sym (c .before .before .before .before .is-indirect .ensures) ∙ c .before .before .before .if3 .taken,
       sym (c .before .before .enter .ensures) ∙ c .enum-told .given .1,
     )
-    at (outer (c .before .before .before .before .before))
+    at (outer (naming c))
 
 -- .. with the number that is read first there
 entry :
     (c : tie.After-of Inv-loop μ-loop Inv-walk μ-walk)
-    → let at-read = c .before .before .before .before .before .before in
-    let at-walk = at-read .before .before .before .before in
-    let start = at-walk .before .before .before .before in
-    let l = at-walk .walk in
-    let a = start .args in
+    → let at-read = naming (c .before) in
+    let l = turn at-read .walk in
+    let a = start (turn at-read) .args in
     let d = at-read .read .result in
     inTable (l .left) (descriptors (a .m .now) (d .at .0) (d .len / 16)) (c .of .result .0) (rangesOf (l .list) (l .chain .request))
     (rangesOf (l .list) (l .chain .reply))
@@ -91,47 +113,59 @@ entry c = rw (c .of .ensures) (inside (c .before))
 -- the rest of the walk from a descriptor of it
 inner :
     (c : tie.After-read2 Inv-loop μ-loop Inv-walk μ-walk)
-    → let at-loop = c .before .before .before .before .before in
-    let at-read = at-loop .before .before .before .before .before .before .before in
-    let mid-back19 = at-read .before .before .before .before .before .before in
-    let back19 = mid-back19 .before in
-    let start = back19 .before in
-    let l = at-loop .loop in
-    let a = start .args in
+    → let l = turn-inside c .loop in
+    let at-read = naming (into (turn-inside c)) in
+    let a = start (turn at-read) .args in
     let d = at-read .read .result in
     inTableTurn (l .left - 1) (descriptors (a .m .now) (d .at .0) (d .len / 16)) (c .read2 .result)
     (rangesOf (l .list) (l .chain .request)) (rangesOf (l .list) (l .chain .reply))
     ≡ walkOf (a .m .now) (a .table .0) (a .size) (a .head .0) (a .indirect)
 inner c =
-    let at-loop = c .before .before .before .before .before in
-    let at-read = at-loop .before .before .before .before .before .before .before in
-    let mid-back19 = at-read .before .before .before .before .before .before in
-    let back19 = mid-back19 .before in
-    let start = back19 .before in
-    let l = at-loop .loop in
+    let l = turn-inside c .loop in
+    let at-read = naming (into (turn-inside c)) in
+    let a = start (turn at-read) .args in
     let d = at-read .read .result in
     let some-left = c .before .before .before .before .if4 .left in
     sym
-    (inTable-more (start .args .m .now) (d .at .0) (d .len / 16) (l .left) (l .left - 1) (l .number .0) _ _ (omega (arith, some-left))
+    (inTable-more (a .m .now) (d .at .0) (d .len / 16) (l .left) (l .left - 1) (l .number .0) _ _ (omega (arith, some-left))
     (c .read2 .result) (omega arith) (c .read2 .ensures))
     ∙ l .inv .3
-    ∙ entry (at-loop .before)
+    ∙ entry (turn-inside c .before)
+
+-- the rest of the walk from a descriptor that is joined: one of the direct table, one of an indirect table
+outer-joined :
+    (c : tie.After-joined2 Inv-loop μ-loop Inv-walk μ-walk)
+    → let at-read = read-outside c in
+    let l = turn at-read .walk in
+    let a = start (turn at-read) .args in
+    let d = at-read .read .result in
+    onward d (rangesOf (l .list) (l .chain .request)) (rangesOf (l .list) (l .chain .reply))
+    (direct (a .m .now) (a .indirect) (l .left - 1) (descriptors (a .m .now) (a .table .0) (a .size)) (d .next .0))
+    ≡ walkOf (a .m .now) (a .table .0) (a .size) (a .head .0) (a .indirect)
+outer-joined c =
+    rw (sym (c .before .before .before .is-indirect .ensures) ∙ c .before .before .if3 .left) at (outer (read-outside c))
+
+inner-joined :
+    (c : tie.After-joined Inv-loop μ-loop Inv-walk μ-walk)
+    → let at-read2 = read-inside c in
+    let l = turn-inside at-read2 .loop in
+    let at-read = naming (into (turn-inside at-read2)) in
+    let a = start (turn at-read) .args in
+    let d = at-read .read .result in
+    onward (at-read2 .read2 .result) (rangesOf (l .list) (l .chain .request)) (rangesOf (l .list) (l .chain .reply))
+    (inTable (l .left - 1) (descriptors (a .m .now) (d .at .0) (d .len / 16)) (at-read2 .read2 .result .next .0))
+    ≡ walkOf (a .m .now) (a .table .0) (a .size) (a .head .0) (a .indirect)
+inner-joined c =
+    rw (sym (c .before .before .before .is-indirect2 .ensures) ∙ c .before .before .if6 .left) at (inner (read-inside c))
 
 -- the list keeps its length in an indirect table
 long :
     (c : tie.At-loop Inv-loop μ-loop Inv-walk μ-walk)
-    → let back6 = c .before .before .before .before .before .before in
-    let back12 = back6 .before .before .before .before .before .before in
-    length (c .loop .list) ≡ length (back12 .before .before .before .args .list .now)
-long c =
-    let back6 = c .before .before .before .before .before .before in
-    c .loop .inv .2 ∙ back6 .before .before .before .before .before .walk .inv .2
+    → length (c .loop .list) ≡ length (start (turn (naming (into c))) .args .list .now)
+long c = c .loop .inv .2 ∙ turn (naming (into c)) .walk .inv .2
 
 room : (c : tie.At-loop Inv-loop μ-loop Inv-walk μ-walk) → 68 ≤ length (c .loop .list)
-room c =
-    let back6 = c .before .before .before .before .before .before in
-    let back12 = back6 .before .before .before .before .before .before in
-    rw (long c) (back12 .before .before .before .pre)
+room c = rw (long c) (start (turn (naming (into c))) .pre)
 
 empty-requires : tie.Need-empty-requires Inv-loop μ-loop Inv-walk μ-walk
 empty-requires c κs = omega arith
@@ -162,10 +196,7 @@ of-requires : tie.Need-of-requires Inv-loop μ-loop Inv-walk μ-walk
 of-requires c κs = omega arith
 
 loop-holds : tie.Need-loop-holds Inv-loop μ-loop Inv-walk μ-walk
-loop-holds c =
-    let at-read = c .before .before .before .before .before .before in
-    let at-walk = at-read .before .before .before .before in
-    let l = at-walk .walk in (l .inv .0, l .inv .1, refl, refl)
+loop-holds c = let l = turn (naming (c .before)) .walk in (l .inv .0, l .inv .1, refl, refl)
 
 number-requires-2 : tie.Need-number-requires-2 Inv-loop μ-loop Inv-walk μ-walk
 number-requires-2 c κs = omega arith
@@ -181,8 +212,8 @@ is-indirect-requires-2 c κs = omega arith
 
 joined-requires : tie.Need-joined-requires Inv-loop μ-loop Inv-walk μ-walk
 joined-requires c κs =
-    let back6 = c .before .before .before .before .before .before in
-    (back6 .before .before .loop .inv .0, omega arith, room (back6 .before .before))
+    let at-loop = turn-inside (c .before .before .before) in
+    (at-loop .loop .inv .0, omega arith, room at-loop)
 
 enum-known-stop : tie.Need-enum-known-stop Inv-loop μ-loop Inv-walk μ-walk
 enum-known-stop c = omega arith
@@ -201,28 +232,20 @@ loop-less c = omega arith
 
 loop-again : tie.Need-loop-again Inv-loop μ-loop Inv-walk μ-walk
 loop-again c =
-    let back6 = c .before .before .before .before .before .before in
-    let at-joined = back6 .before .before in
-    let at-if6 = at-joined .before .before in
-    let at-is-indirect2 = at-if6 .before in
-    let back12 = at-is-indirect2 .before in
-    let at-loop = back12 .before .before .before .before .before in
-    let back18 = at-loop .before in
-    let l = at-loop .loop in
+    let at-joined = inside-joined (c .before .before .before .before .before) in
+    let at-loop = turn-inside (read-inside at-joined) in
     let j = at-joined .joined in (
       j .ensures .sound,
       omega arith,
-      j .kept .0 ∙ l .inv .2,
+      j .kept .0 ∙ at-loop .loop .inv .2,
       sym (onward-next (j .ensures) _ (c .before .before .before .enum-told2 .given .1)
           (sym (c .before .before .has-next .ensures) ∙ not-false _ (c .before .if7 .left)))
-          ∙ rw (sym (at-is-indirect2 .is-indirect2 .ensures) ∙ at-if6 .if6 .left) at (inner back12)
-          ∙ sym (entry back18),
+          ∙ inner-joined at-joined
+          ∙ sym (entry (at-loop .before)),
     )
 
 joined-requires-2 : tie.Need-joined-requires-2 Inv-loop μ-loop Inv-walk μ-walk
-joined-requires-2 c κs =
-    let back6 = c .before .before .before .before .before .before in
-    let l = back6 .before .walk in (l .inv .0, omega arith, omega arith)
+joined-requires-2 c κs = let l = turn (c .before .before .before) .walk in (l .inv .0, omega arith, omega arith)
 
 enum-known-stop-2 : tie.Need-enum-known-stop-2 Inv-loop μ-loop Inv-walk μ-walk
 enum-known-stop-2 c = omega arith
@@ -241,20 +264,15 @@ walk-less c = omega arith
 
 walk-again : tie.Need-walk-again Inv-loop μ-loop Inv-walk μ-walk
 walk-again c =
-    let back6 = c .before .before .before .before .before .before in
-    let at-joined2 = back6 .before .before in
-    let at-if3 = at-joined2 .before .before in
-    let at-is-indirect = at-if3 .before in
-    let back12 = at-is-indirect .before in
-    let at-walk = back12 .before .before .before .before in
-    let l = at-walk .walk in
-    let j = at-joined2 .joined2 in (
+    let at-joined = outside-joined (c .before .before .before .before .before) in
+    let l = turn (read-outside at-joined) .walk in
+    let j = at-joined .joined2 in (
       j .ensures .sound,
       omega arith,
       j .kept .0 ∙ l .inv .2,
       sym (onward-next (j .ensures) _ (c .before .before .before .enum-told3 .given .1)
           (sym (c .before .before .has-next2 .ensures) ∙ not-false _ (c .before .if8 .left)))
-          ∙ rw (sym (at-is-indirect .is-indirect .ensures) ∙ at-if3 .if3 .left) at (outer back12),
+          ∙ outer-joined at-joined,
     )
 
 returns : tie.Need-returns Inv-loop μ-loop Inv-walk μ-walk
@@ -264,9 +282,9 @@ returns c =
 
 returns-2 : tie.Need-returns-2 Inv-loop μ-loop Inv-walk μ-walk
 returns-2 c =
-    let back6 = c .before .before .before .before .before .before in
-    let l = c .before .before .before .walk in
-    let a = back6 .before .args in
+    let at-walk = c .before .before .before in
+    let l = at-walk .walk in
+    let a = start at-walk .args in
     record {
       outcome =
           sym
@@ -278,16 +296,16 @@ returns-2 c =
 
 returns-3 : tie.Need-returns-3 Inv-loop μ-loop Inv-walk μ-walk
 returns-3 c =
-    let back6 = c .before .before .before .before .before .before in
-    let at-walk = back6 .before .before .before .before in
+    let at-enter = c .before .before .before in
+    let at-read = at-enter .before .before .before in
     record {
       outcome =
           rw (
-            sym (c .before .before .before .before .before .is-indirect .ensures) ∙ c .before .before .before .before .if3 .taken,
-            sym (c .before .before .before .enter .ensures) ∙ c .before .fault .given .1,
+            sym (at-enter .before .before .is-indirect .ensures) ∙ at-enter .before .if3 .taken,
+            sym (at-enter .enter .ensures) ∙ c .before .fault .given .1,
           )
-          at (outer back6);
-      sound = at-walk .walk .inv .0;
+          at (outer at-read);
+      sound = turn at-read .walk .inv .0;
     }
 
 returns-4 : tie.Need-returns-4 Inv-loop μ-loop Inv-walk μ-walk
@@ -297,84 +315,60 @@ returns-4 c =
 
 returns-5 : tie.Need-returns-5 Inv-loop μ-loop Inv-walk μ-walk
 returns-5 c =
-    let back5 = c .before .before .before .before .before in
-    let at-read = back5 .before .before .before .before .before .before in
-    let mid-back18 = at-read .before .before .before .before .before .before in
-    let back18 = mid-back18 .before in
-    let start = back18 .before in
-    let l = c .before .before .before .before .loop in
+    let at-loop = c .before .before .before .before in
+    let at-read = naming (into at-loop) in
+    let l = at-loop .loop in
     let d = at-read .read .result in
-    let m = start .args .m .now in
+    let m = start (turn at-read) .args .m .now in
     record {
       outcome =
           sym (inTable-past m (d .at .0) (d .len / 16) (l .left) (l .left - 1) (l .number .0) _ _ (omega arith) (omega arith))
           ∙ l .inv .3
-          ∙ entry back5;
+          ∙ entry (at-loop .before);
       sound = l .inv .0;
     }
 
 returns-6 : tie.Need-returns-6 Inv-loop μ-loop Inv-walk μ-walk
 returns-6 c =
-    let back2 = c .before .before in
-    let at-loop = back2 .before .before .before .before .before in
+    let at-read2 = c .before .before in
     record {
-      outcome = rw (sym (c .before .is-indirect2 .ensures) ∙ c .if6 .taken) at (inner back2);
-      sound = at-loop .loop .inv .0;
+      outcome = rw (sym (c .before .is-indirect2 .ensures) ∙ c .if6 .taken) at (inner at-read2);
+      sound = turn-inside at-read2 .loop .inv .0;
     }
 
 returns-7 : tie.Need-returns-7 Inv-loop μ-loop Inv-walk μ-walk
 returns-7 c =
-    let back6 = c .before .before .before .before .before .before in
-    let at-is-indirect2 = back6 .before .before .before in
-    let back10 = at-is-indirect2 .before in
-    let j = c .before .before .before .before .before .before .joined in
-    record {
-      outcome =
-          sym (onward-fault (j .ensures) _ (c .before .stop .given .1))
-          ∙ rw (sym (at-is-indirect2 .is-indirect2 .ensures) ∙ back6 .before .before .if6 .left) at (inner back10);
-      sound = j .ensures .sound;
-    }
+    let at-joined = inside-joined (c .before .before .before) in
+    let j = at-joined .joined in
+    record { outcome = sym (onward-fault (j .ensures) _ (c .before .stop .given .1)) ∙ inner-joined at-joined; sound = j .ensures .sound }
 
 returns-8 : tie.Need-returns-8 Inv-loop μ-loop Inv-walk μ-walk
 returns-8 c =
-    let back6 = c .before .before .before .before .before .before in
-    let at-if6 = back6 .before .before .before in
-    let at-is-indirect2 = at-if6 .before in
-    let back11 = at-is-indirect2 .before in
-    let j = back6 .before .joined in
+    let at-joined = inside-joined (c .before .before .before .before) in
+    let j = at-joined .joined in
     record {
       outcome =
           sym (onward-last (j .ensures) _ (c .before .before .enum-told2 .given .1)
           (sym (c .before .has-next .ensures) ∙ not-true _ (c .if7 .taken)))
-          ∙ rw (sym (at-is-indirect2 .is-indirect2 .ensures) ∙ at-if6 .if6 .left) at (inner back11);
+          ∙ inner-joined at-joined;
       sound = j .ensures .sound;
     }
 
 returns-9 : tie.Need-returns-9 Inv-loop μ-loop Inv-walk μ-walk
 returns-9 c =
-    let back6 = c .before .before .before .before .before .before in
-    let at-is-indirect = back6 .before .before .before in
-    let back10 = at-is-indirect .before in
-    let j = c .before .before .before .before .before .before .joined2 in
-    record {
-      outcome =
-          sym (onward-fault (j .ensures) _ (c .before .stop2 .given .1))
-          ∙ rw (sym (at-is-indirect .is-indirect .ensures) ∙ back6 .before .before .if3 .left) at (outer back10);
-      sound = j .ensures .sound;
-    }
+    let at-joined = outside-joined (c .before .before .before) in
+    let j = at-joined .joined2 in
+    record { outcome = sym (onward-fault (j .ensures) _ (c .before .stop2 .given .1)) ∙ outer-joined at-joined; sound = j .ensures .sound }
 
 returns-10 : tie.Need-returns-10 Inv-loop μ-loop Inv-walk μ-walk
 returns-10 c =
-    let back6 = c .before .before .before .before .before .before in
-    let at-if3 = back6 .before .before .before in
-    let at-is-indirect = at-if3 .before in
-    let back11 = at-is-indirect .before in
-    let j = back6 .before .joined2 in
+    let at-joined = outside-joined (c .before .before .before .before) in
+    let j = at-joined .joined2 in
     record {
       outcome =
           sym (onward-last (j .ensures) _ (c .before .before .enum-told3 .given .1)
           (sym (c .before .has-next2 .ensures) ∙ not-true _ (c .if8 .taken)))
-          ∙ rw (sym (at-is-indirect .is-indirect .ensures) ∙ at-if3 .if3 .left) at (outer back11);
+          ∙ outer-joined at-joined;
       sound = j .ensures .sound;
     }
 
@@ -394,21 +388,17 @@ same-length-5 : tie.Need-same-length-5 Inv-loop μ-loop Inv-walk μ-walk
 same-length-5 c = omega arith
 
 same-length-6 : tie.Need-same-length-6 Inv-loop μ-loop Inv-walk μ-walk
-same-length-6 c =
-    let back6 = c .before .before .before .before .before .before in
-    long (back6 .before)
+same-length-6 c = long (turn-inside (c .before .before))
 
 same-length-7 : tie.Need-same-length-7 Inv-loop μ-loop Inv-walk μ-walk
 same-length-7 c =
-    let back6 = c .before .before .before .before .before .before in
-    let back12 = back6 .before .before .before .before .before .before in
-    c .before .before .before .before .before .before .joined .kept .0 ∙ long (back12 .before .before .before)
+    let at-joined = inside-joined (c .before .before .before) in
+    at-joined .joined .kept .0 ∙ long (turn-inside (read-inside at-joined))
 
 same-length-8 : tie.Need-same-length-8 Inv-loop μ-loop Inv-walk μ-walk
 same-length-8 c =
-    let back6 = c .before .before .before .before .before .before in
-    let back12 = back6 .before .before .before .before .before .before in
-    back6 .before .joined .kept .0 ∙ long (back12 .before .before .before .before)
+    let at-joined = inside-joined (c .before .before .before .before) in
+    at-joined .joined .kept .0 ∙ long (turn-inside (read-inside at-joined))
 
 same-length-9 : tie.Need-same-length-9 Inv-loop μ-loop Inv-walk μ-walk
 same-length-9 c = omega arith

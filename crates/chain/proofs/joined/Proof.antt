@@ -1,3 +1,4 @@
+-- One test of each kind decides, in the definition's order; a range that is put extends its side.
 use mathlib.Core.Path.{_≡_, _∙_, sym}
 use mathlib.Core.List.{List}
 use Prim.Native.Nat.{ℕ, _+_, _≤_}
@@ -15,6 +16,20 @@ use Rattle.chain.proofs.Laws.{reply-kept, reply-more, reply-sound, requ
 use borrow.Author.Needs.{needs}
 use Rattle.chain.proofs.joined.Statement.{statement}
 use Rattle.chain.proofs.joined.Tie as tie
+
+-- ---- places: where it starts, and where the descriptor was found writable or readable, with nothing writable before it
+
+abbrev start : tie.After-is-writable → tie.Start
+start c = c .before .before .before .before .before
+
+abbrev writable : tie.Else2 → tie.Then1
+writable c = c .before .before .before
+
+abbrev alone : tie.Else4 → tie.Else3
+alone c = c .before .before .before
+
+abbrev readable : tie.Else3 → tie.Else1
+readable c = c .before .before
 
 -- a fault leaves the chain as it was
 stops :
@@ -40,12 +55,13 @@ stopped-requires c κs = search needs
 returns : tie.Need-returns
 unfolding joinedOf
 returns c =
-    let back6 = c .before .before .before .before .before .before in
-    let p = back6 .before .before .before .before .pre in
-    let a = back6 .before .before .before .before .args in
+    let at-then1 = c .before .before .before .before in
+    let begun = start (at-then1 .before) in
+    let p = begun .pre in
+    let a = begun .args in
     stops (p .0) (c .stopped .ensures)
     (rw (
-      sym (c .before .before .before .before .before .is-writable .ensures) ∙ c .before .before .before .before .if1 .taken,
+      sym (at-then1 .before .is-writable .ensures) ∙ at-then1 .if1 .taken,
       ← (p .0 .reply),
       lt-leb (a .chain .reply .bytes + a .d .len) 1048576 (omega arith),
     ))
@@ -71,18 +87,19 @@ same-length c = search needs
 returns-2 : tie.Need-returns-2
 unfolding joinedOf
 returns-2 c =
-    let back6 = c .before .before .before .before .before .before in
-    let back12 = back6 .before .before .before .before .before .before in
-    let p = back12 .before .before .before .before .pre in
-    let a = back12 .before .before .before .before .args in
+    let at-put-range = c .before .before .before in
+    let at-then1 = writable (at-put-range .before .before .before .before) in
+    let begun = start (at-then1 .before) in
+    let p = begun .pre in
+    let a = begun .args in
     let w = c .with-reply .ensures in
-    let e = rw (back6 .before .before .before .before .before .before .range .ensures) at (c .before .before .before .put-range .ensures) in
+    let e = rw (at-then1 .before .before .range .ensures) at (at-put-range .put-range .ensures) in
     let x = rangeOf (a .d) in
     let fits : a .chain .reply .bytes + a .d .len ≤ 1048576 = omega arith in
     record {
       outcome = rw (
         w,
-        sym (back6 .before .before .before .before .before .is-writable .ensures) ∙ back6 .before .before .before .before .if1 .taken,
+        sym (at-then1 .before .is-writable .ensures) ∙ at-then1 .if1 .taken,
         ← (p .0 .reply),
         le-leb (a .chain .reply .bytes + a .d .len) 1048576 fits,
         reply-kept (a .list .now) (a .chain) x (p .0) (p .1) (p .2) fits _ e,
@@ -98,12 +115,12 @@ stopped-requires-2 c κs = search needs
 returns-3 : tie.Need-returns-3
 unfolding joinedOf
 returns-3 c =
-    let back6 = c .before .before .before .before .before .before in
-    let p = back6 .before .before .before .pre in
-    let a = back6 .before .before .before .args in
-    stops (p .0) (c .stopped2 .ensures)
+    let at-else1 = c .before .before .before in
+    let begun = start (at-else1 .before) in
+    let a = begun .args in
+    stops (begun .pre .0) (c .stopped2 .ensures)
     (rw (
-      sym (c .before .before .before .before .is-writable .ensures) ∙ c .before .before .before .if1 .left,
+      sym (at-else1 .before .is-writable .ensures) ∙ at-else1 .if1 .left,
       length-rangesIn (a .list .now) (a .chain .reply .first) (a .chain .reply .count),
       ne-eqb (a .chain .reply .count) 0 (λ z. omega arith),
     ))
@@ -117,12 +134,13 @@ stopped-requires-3 c κs = search needs
 returns-4 : tie.Need-returns-4
 unfolding joinedOf
 returns-4 c =
-    let back6 = c .before .before .before .before .before .before in
-    let p = back6 .before .before .before .before .before .before .pre in
-    let a = back6 .before .before .before .before .before .before .args in
+    let at-else1 = readable (c .before .before .before .before) in
+    let begun = start (at-else1 .before) in
+    let p = begun .pre in
+    let a = begun .args in
     stops (p .0) (c .stopped3 .ensures)
     (rw (
-      sym (back6 .before .is-writable .ensures) ∙ c .before .before .before .before .before .before .if1 .left,
+      sym (at-else1 .before .is-writable .ensures) ∙ at-else1 .if1 .left,
       length-rangesIn (a .list .now) (a .chain .reply .first) (a .chain .reply .count),
       eq-eqb (a .chain .reply .count) 0 (omega arith),
       ← (p .0 .request),
@@ -150,19 +168,21 @@ same-length-2 c = search needs
 returns-5 : tie.Need-returns-5
 unfolding joinedOf
 returns-5 c =
-    let back6 = c .before .before .before .before .before .before in
-    let back12 = back6 .before .before .before .before .before .before in
-    let p = back12 .before .before .before .before .before .before .pre in
-    let a = back12 .before .before .before .before .before .before .args in
+    let at-put-range2 = c .before .before .before in
+    let at-else3 = alone (at-put-range2 .before .before .before .before) in
+    let at-else1 = readable at-else3 in
+    let begun = start (at-else1 .before) in
+    let p = begun .pre in
+    let a = begun .args in
     let w = c .with-request .ensures in
-    let e = rw (back12 .before .before .range .ensures) at (c .before .before .before .put-range2 .ensures) in
+    let e = rw (at-else1 .before .before .range .ensures) at (at-put-range2 .put-range2 .ensures) in
     let x = rangeOf (a .d) in
-    let none : a .chain .reply .count ≡ 0 = omega arith in
+    let none : a .chain .reply .count ≡ 0 = omega (arith, at-else3 .if3 .left) in
     let fits : a .chain .request .bytes + a .d .len ≤ 1048576 = omega arith in
     record {
       outcome = rw (
         w,
-        sym (back12 .before .is-writable .ensures) ∙ back6 .before .before .before .before .before .before .if1 .left,
+        sym (at-else1 .before .is-writable .ensures) ∙ at-else1 .if1 .left,
         length-rangesIn (a .list .now) (a .chain .reply .first) (a .chain .reply .count),
         eq-eqb (a .chain .reply .count) 0 none,
         ← (p .0 .request),

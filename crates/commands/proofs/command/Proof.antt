@@ -20,33 +20,29 @@ use Rattle.commands.proofs.command.Tie as tie
 -- the stream that was found is the one asked for
 the-stream : (c : tie.After-known-told) →
     let at-i = c .before in
-    let mid-start = at-i .before .before .before .before .before .before in
-    let start = mid-start .before in
+    let at-slice-known = at-i .before .before .before .before .before .before in
+    let start = at-slice-known .before in
     at-i .i .given .0 .0 ≡ word (start .args .request .now) 1
 the-stream c =
-    let at-i = c .before in
-    let at-find = at-i .before .before in
-    let at-number32 = at-find .before in
+    let at-number32 = c .before .before .before .before in
     let start = at-number32 .before .before .before .before in
     found-there (ltb (at-number32 .number32 .result) (start .args .t3 .«stream_count»)) _ _
-    (sym (at-find .find .ensures) ∙ at-i .i .given .1) .1
+    (sym (c .before .before .before .find .ensures) ∙ c .before .i .given .1) .1
     ∙ at-number32 .number32 .ensures
 
 there : (c : tie.After-known-told) →
-    let mid-back7 = c .before .before .before .before .before .before in
-    let back7 = mid-back7 .before in
-    let start = back7 .before in
+    let at-shared-slice-known = c .before .before .before .before .before .before in
+    let at-slice-known = at-shared-slice-known .before in
+    let start = at-slice-known .before in
     ltb (word (start .args .request .now) 1) (start .args .t3 .«stream_count») ≡ true
 there c =
-    let at-i = c .before in
-    let at-find = at-i .before .before in
-    let at-number32 = at-find .before in
-    rw (← (at-number32 .number32 .ensures)) (found-there _ _ _ (sym (at-find .find .ensures) ∙ at-i .i .given .1) .0)
+    let at-number32 = c .before .before .before .before in
+    rw (← (at-number32 .number32 .ensures)) (found-there _ _ _ (sym (c .before .before .before .find .ensures) ∙ c .before .i .given .1) .0)
 
 inside : (c : tie.After-known-told) →
     let at-i = c .before in
-    let mid-start = at-i .before .before .before .before .before .before in
-    let start = mid-start .before in
+    let at-slice-known = at-i .before .before .before .before .before .before in
+    let start = at-slice-known .before in
     at-i .i .given .0 .0 < start .args .t3 .«stream_count»
 inside c = rw (the-stream c) (ltb-true _ _ (there c))
 
@@ -83,16 +79,14 @@ returns c =
 
 mul-stream : tie.Need-mul-stream
 mul-stream c =
-    let back6 = c .before .before .before .before .before .before in
-    let back7 = back6 .before in
-    let start = back7 .before in
+    let at-shared-slice-known = c .before .before .before .before .before .before in
+    let start = at-shared-slice-known .before .before in
     omega (arith, inside c, start .pre .streams)
 
 element-copy-out-stream : tie.Need-element-copy-out-stream
 element-copy-out-stream c =
-    let back6 = c .before .before .before .before .before .before in
-    let back7 = back6 .before in
-    let start = back7 .before in
+    let at-shared-slice-known = c .before .before .before .before .before .before in
+    let start = at-shared-slice-known .before .before in
     omega (arith, inside c, start .pre .streams)
 
 lifecycle-requires : tie.Need-lifecycle-requires
@@ -112,54 +106,50 @@ same-length-2 c = search needs
 
 returns-2 : tie.Need-returns-2
 returns-2 c =
-    let at-answer2 = c .before .before in
-    let at-enum-told2 = at-answer2 .before .before in
+    let at-enum-told2 = c .before .before .before .before in
     let at-lifecycle = at-enum-told2 .before .before in
     let at-known-told = at-lifecycle .before .before in
-    let mid-back15 = at-known-told .before .before .before .before .before .before in
-    let back15 = mid-back15 .before in
-    let start = back15 .before in
+    let at-i = at-known-told .before in
+    let at-slice-known = at-i .before .before .before .before .before .before in
+    let start = at-slice-known .before in
     let a = start .args in
     let unlawful : transition (a .asked) (getD (a .t3 .streams) (word (a .request .now) 1) noStream .state)
     ≡ none = rw (← (the-stream at-known-told))
-    (led-nowhere (transition (a .asked) (getD (a .t3 .streams) (at-known-told .before .i .given .0 .0) noStream .state))
+    (led-nowhere (transition (a .asked) (getD (a .t3 .streams) (at-i .i .given .0 .0) noStream .state))
     (sym (at-lifecycle .lifecycle .ensures .0) ∙ at-enum-told2 .enum-told2 .given .1)) in
     rw (command-led (a .t3) (start .pre) (a .asked) (a .request .now) (there at-known-told) none unlawful)
-    (serves-same _ (a .pending) (a .t3) _ _ _ _ (start .pre) (at-answer2 .answer2 .ensures))
+    (serves-same _ (a .pending) (a .t3) _ _ _ _ (start .pre) (c .before .before .answer2 .ensures))
 
 obey-requires : tie.Need-obey-requires
 obey-requires c κs =
-    let at-state = c .before .before in
-    let at-lifecycle = at-state .before .before in
+    let at-lifecycle = c .before .before .before .before in
     let at-known-told = at-lifecycle .before .before in
-    let mid-back13 = at-known-told .before .before .before .before .before .before in
-    let back13 = mid-back13 .before in
-    let start = back13 .before in
-    (start .pre, inside at-known-told, rw (at-state .state .given .1) at (at-lifecycle .lifecycle .ensures .1))
+    let at-shared-slice-known = at-known-told .before .before .before .before .before .before in
+    let start = at-shared-slice-known .before .before in
+    (start .pre, inside at-known-told, rw (c .before .before .state .given .1) at (at-lifecycle .lifecycle .ensures .1))
 
 same-length-3 : tie.Need-same-length-3
 same-length-3 c = search needs
 
 returns-3 : tie.Need-returns-3
 returns-3 c =
-    let at-obey = c .before .before in
-    let at-state = at-obey .before .before .before in
+    let at-state = c .before .before .before .before .before in
     let at-lifecycle = at-state .before .before in
     let at-known-told = at-lifecycle .before .before in
-    let mid-back16 = at-known-told .before .before .before .before .before .before in
-    let back16 = mid-back16 .before in
-    let start = back16 .before in
+    let at-i = at-known-told .before in
+    let at-slice-known = at-i .before .before .before .before .before .before in
+    let start = at-slice-known .before in
     let a = start .args in
     let state = at-state .state .given .0 .0 in
     let lawful : transition (a .asked) (getD (a .t3 .streams) (word (a .request .now) 1) noStream .state)
     ≡ some state = rw (← (the-stream at-known-told))
-    (led-to (transition (a .asked) (getD (a .t3 .streams) (at-known-told .before .i .given .0 .0) noStream .state)) state
+    (led-to (transition (a .asked) (getD (a .t3 .streams) (at-i .i .given .0 .0) noStream .state)) state
     (sym (at-lifecycle .lifecycle .ensures .0) ∙ at-state .state .given .1)) in
     rw (
       command-led (a .t3) (start .pre) (a .asked) (a .request .now) (there at-known-told) (some state) lawful,
       ← (the-stream at-known-told),
     )
-    (at-obey .obey .ensures)
+    (c .before .before .obey .ensures)
 
 pub command-spec : {M : Type 1} → statement M
 command-spec =

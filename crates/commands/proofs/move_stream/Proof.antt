@@ -1,6 +1,7 @@
 -- The stream keeps all but its state. `t2` is the parameter `parts`.
 use mathlib.Core.Path.{_∙_}
-use Rattle.reply.proofs.Laws.{serves-stream, stream-at}
+use Rattle.meaning.proofs.Streams.{stream-at}
+use Rattle.reply.proofs.Laws.{serves-stream}
 use borrow.Author.Needs.{needs}
 use Rattle.commands.proofs.move_stream.Statement.{statement}
 use Rattle.commands.proofs.move_stream.Tie as tie
@@ -22,14 +23,12 @@ same-length c = search needs
 
 returns : tie.Need-returns
 returns c =
-    let at-answer = c .before .before in
-    let at-with-stream = at-answer .before in
-    let mid-start = at-with-stream .before .before .before .before .before .before in
-    let start = mid-start .before in
+    let at-info = c .before .before .before .before .before .before in
+    let start = at-info .before .before .before .before in
     let a = start .args in
     rw (stream-at (a .t3) (a .i) (start .pre .1))
     (serves-stream _ (a .pending) (a .t3) _ _ _ (a .i) _ _ (start .pre .0) (start .pre .1) (start .pre .2)
-    (at-answer .answer .ensures ∙ rw (at-with-stream .with-stream .ensures)))
+    (c .before .before .answer .ensures ∙ rw (c .before .before .before .with-stream .ensures)))
 
 pub move-stream-spec : {M : Type 1} → statement M
 move-stream-spec =

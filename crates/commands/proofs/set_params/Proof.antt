@@ -11,29 +11,28 @@ use Rattle.commands.proofs.set_params.Statement.{statement}
 use Rattle.commands.proofs.set_params.Tie as tie
 
 unpadding : (c : tie.After-enum-told) →
-    let mid-back7 = c .before .before .before .before .before .before in
-    let back7 = mid-back7 .before in
-    let start = back7 .before in
+    let at-shared-slice-known = c .before .before .before .before .before .before in
+    let at-slice-known = at-shared-slice-known .before in
+    let start = at-slice-known .before in
     unpadded (le 1 (start .args .request .now) 23) ≡ true
 unpadding c =
-    let at-is-unpadded = c .before .before in
-    let at-number8 = at-is-unpadded .before in
+    let at-number8 = c .before .before .before in
     rw (← (at-number8 .number8 .ensures))
-    (check-passed (unpadded (at-number8 .number8 .result)) (sym (at-is-unpadded .is-unpadded .ensures) ∙ c .enum-told .given .1))
+    (check-passed (unpadded (at-number8 .number8 .result)) (sym (c .before .before .is-unpadded .ensures) ∙ c .enum-told .given .1))
 
 sizes : (c : tie.After-enum-told3) →
-    let back6 = c .before .before .before .before .before .before in
-    let at-params-in = back6 .before in
+    let at-number8 = c .before .before .before .before .before .before in
+    let at-params-in = at-number8 .before in
     sized (at-params-in .params-in .result) ≡ true
 sizes c = check-passed _ (sym (c .before .before .is-sized .ensures) ∙ c .enum-told3 .given .1)
 
 sizes-asked : (c : tie.After-enum-told3) →
-    let back6 = c .before .before .before .before .before .before in
-    let start = back6 .before .before .before .before .before in
+    let at-number8 = c .before .before .before .before .before .before in
+    let start = at-number8 .before .before .before .before .before in
     sized (paramsOf (start .args .request .now)) ≡ true
 sizes-asked c =
-    let back6 = c .before .before .before .before .before .before in
-    let at-params-in = back6 .before in
+    let at-number8 = c .before .before .before .before .before .before in
+    let at-params-in = at-number8 .before in
     rw (at-params-in .params-in .ensures) at (sizes c)
 
 params-in-requires : tie.Need-params-in-requires
@@ -102,8 +101,8 @@ returns-2 c =
 
 is-periodic-requires : tie.Need-is-periodic-requires
 is-periodic-requires c κs =
-    let back6 = c .before .before .before .before .before .before in
-    let at-params-in = back6 .before in
+    let at-number8 = c .before .before .before .before .before .before in
+    let at-params-in = at-number8 .before in
     sized-period (at-params-in .params-in .result) (sizes c)
 
 enum-told-5 : tie.Need-enum-told-5

@@ -16,9 +16,9 @@ use Rattle.control.proofs.serve.Statement.{statement}
 use Rattle.control.proofs.serve.Tie as tie
 
 code-is : (c : tie.After-number32) →
-    let mid-back7 = c .before .before .before .before .before .before in
-    let back7 = mid-back7 .before in
-    let start = back7 .before in
+    let at-shared-slice-known = c .before .before .before .before .before .before in
+    let at-slice-known = at-shared-slice-known .before in
+    let start = at-slice-known .before in
     c .number32 .result ≡ word (bytesAt (start .args .m .now) (places (rangesOf (start .args .list .now) (start .args .request)))) 0
 code-is c =
     let at-gather = c .before .before .before in
@@ -29,15 +29,13 @@ code-is c =
 
 known : (c : tie.After-known-told) →
     let at-asked = c .before in
-    let back7 = at-asked .before .before .before .before .before .before in
-    let start = back7 .before .before .before .before .before in
+    let at-gather = at-asked .before .before .before .before .before .before in
+    let start = at-gather .before .before .before .before .before in
     decodedOf (word (bytesAt (start .args .m .now) (places (rangesOf (start .args .list .now) (start .args .request)))) 0)
     ≡ Known (at-asked .asked .given .0 .0)
 known c =
-    let at-asked = c .before in
-    let at-decode = at-asked .before .before in
-    let at-number32 = at-decode .before in
-    rw (← (code-is at-number32)) (sym (at-decode .decode .ensures) ∙ at-asked .asked .given .1)
+    let at-number32 = c .before .before .before .before in
+    rw (← (code-is at-number32)) (sym (c .before .before .before .decode .ensures) ∙ c .before .asked .given .1)
 
 slice-aggregate-gather : tie.Need-slice-aggregate-gather
 slice-aggregate-gather c = search needs
@@ -69,18 +67,16 @@ same-length c = search needs
 returns : tie.Need-returns
 unfolding served
 returns c =
-    let at-answer = c .before .before in
-    let at-enum-told = at-answer .before .before in
+    let at-enum-told = c .before .before .before .before in
     let at-decode = at-enum-told .before .before in
     let at-number32 = at-decode .before in
-    let mid-back14 = at-number32 .before .before .before .before .before .before in
-    let back14 = mid-back14 .before in
-    let start = back14 .before in
+    let at-shared-slice-known = at-number32 .before .before .before .before .before .before in
+    let start = at-shared-slice-known .before .before in
     let a = start .args in
     let q = bytesAt (start .args .m .now) (places (rangesOf (start .args .list .now) (start .args .request))) in
     let unknown : decodedOf (word q 0) ≡ Unknown = rw (← (code-is at-number32))
     (sym (at-decode .decode .ensures) ∙ at-enum-told .enum-told .given .1) in
-    rw unknown (serves-same _ (a .pending) (a .parts) _ _ _ _ (start .pre .0) (at-answer .answer .ensures))
+    rw unknown (serves-same _ (a .pending) (a .parts) _ _ _ _ (start .pre .0) (c .before .before .answer .ensures))
 
 is-laid-out-requires : tie.Need-is-laid-out-requires
 is-laid-out-requires c κs = search needs
@@ -100,18 +96,18 @@ same-length-2 c = search needs
 returns-2 : tie.Need-returns-2
 unfolding served
 returns-2 c =
-    let at-answer2 = c .before .before in
-    let at-enum-told3 = at-answer2 .before .before in
+    let at-enum-told3 = c .before .before .before .before in
     let at-is-laid-out = at-enum-told3 .before .before in
     let at-known-told = at-is-laid-out .before in
-    let back13 = at-known-told .before .before .before .before .before .before in
-    let start = back13 .before .before .before .before .before .before in
+    let at-asked = at-known-told .before in
+    let at-gather = at-asked .before .before .before .before .before .before in
+    let start = at-gather .before .before .before .before .before in
     let a = start .args in
     let q = bytesAt (start .args .m .now) (places (rangesOf (start .args .list .now) (start .args .request))) in
-    let asked = at-known-told .before .asked .given .0 .0 in
+    let asked = at-asked .asked .given .0 .0 in
     let short : leb (layoutOf asked) (length q) ≡ false = rw (length-request (a .m .now) _ (a .request) (start .pre .1))
     (check-failed _ (sym (at-is-laid-out .is-laid-out .ensures) ∙ at-enum-told3 .enum-told3 .given .1)) in
-    rw (known at-known-told, short) (serves-same _ (a .pending) (a .parts) _ _ _ _ (start .pre .0) (at-answer2 .answer2 .ensures))
+    rw (known at-known-told, short) (serves-same _ (a .pending) (a .parts) _ _ _ _ (start .pre .0) (c .before .before .answer2 .ensures))
 
 slice-aggregate-act : tie.Need-slice-aggregate-act
 slice-aggregate-act c = search needs
@@ -125,17 +121,16 @@ same-length-3 c = search needs
 returns-3 : tie.Need-returns-3
 unfolding served
 returns-3 c =
-    let at-act = c .before .before in
-    let at-enum-told2 = at-act .before .before .before .before in
+    let at-enum-told2 = c .before .before .before .before .before .before in
     let at-is-laid-out = at-enum-told2 .before .before in
     let at-known-told = at-is-laid-out .before in
-    let back15 = at-known-told .before .before .before .before .before .before in
-    let at-gather = back15 .before in
+    let at-asked = at-known-told .before in
+    let at-gather = at-asked .before .before .before .before .before .before in
     let start = at-gather .before .before .before .before .before in
     let a = start .args in
     let ps = places (rangesOf (a .list .now) (a .request)) in
     let q = bytesAt (a .m .now) ps in
-    let asked = at-known-told .before .asked .given .0 .0 in
+    let asked = at-asked .asked .given .0 .0 in
     let long : leb (layoutOf asked) (length q) ≡ true = rw (length-request (a .m .now) _ (a .request) (start .pre .1))
     (check-passed _ (sym (at-is-laid-out .is-laid-out .ensures) ∙ at-enum-told2 .enum-told2 .given .1)) in
     rw (
@@ -144,7 +139,7 @@ returns-3 c =
       ← (answers-agree (partsOf (a .parts)) _ q (words-agree (a .m .now) ps) asked (a .pending .reply .bytes)),
       ← (at-gather .gather .ensures),
     )
-    (at-act .act .ensures)
+    (c .before .before .act .ensures)
 
 pub serve-spec : {M : Type 1} → statement M
 serve-spec =

@@ -18,7 +18,8 @@ returns-2 c =
     let s = c .before .before in
     rw (
       ne-eqb _ _ (c .before .if1 .left),
-      lt-ltb (s .args .mask) (2 ^ s .args .n) (zeros-below 64 (s .args .n) (s .args .mask) (s .fits .mask .fits) (omega arith) (c .if2 .taken)),
+      lt-ltb (s .args .mask) (2 ^ s .args .n)
+          (zeros-below 64 (s .args .n) (s .args .mask) (s .fits .mask .fits) (omega arith) (c .if2 .taken)),
     )
 
 returns-3 : tie.Need-returns-3
@@ -26,7 +27,8 @@ returns-3 c =
     let s = c .before .before in
     rw (
       ne-eqb _ _ (c .before .if1 .left),
-      le-ltb (s .args .mask) (2 ^ s .args .n) (zeros-above 64 (s .args .n) (s .args .mask) (s .fits .mask .fits) (omega arith) (c .if2 .left)),
+      le-ltb (s .args .mask) (2 ^ s .args .n)
+          (zeros-above 64 (s .args .n) (s .args .mask) (s .fits .mask .fits) (omega arith) (c .if2 .left)),
     )
 
 pub in-bits-spec : {M : Type 1} → statement M

@@ -42,12 +42,15 @@ jacks-lawful-requires c κs = search needs
 returns-5 : tie.Need-returns-5
 unfolding lawful lawfulCounts
 returns-5 c =
-    let back6 = c .before .before .before .before .before .before in
+    let at-else4 = c .before .before .before .before in
+    let at-else3 = at-else4 .before .before in
+    let at-else2 = at-else3 .before .before in
+    let at-else1 = at-else2 .before .before in
     rw (
-      le-leb _ _ (back6 .before .before .before .before .if1 .left),
-      le-leb _ _ (back6 .before .before .if2 .left),
-      eq-eqb _ _ (c .before .before .before .before .before .before .if3 .left),
-      le-leb _ _ (c .before .before .before .before .if4 .left),
+      le-leb _ _ (at-else1 .if1 .left),
+      le-leb _ _ (at-else2 .if2 .left),
+      eq-eqb _ _ (at-else3 .if3 .left),
+      le-leb _ _ (at-else4 .if4 .left),
       sym (c .before .jacks-lawful .ensures) ∙ not-true _ (c .if5 .taken),
     )
 
@@ -60,14 +63,18 @@ maps-lawful-requires c κs = search needs
 returns-6 : tie.Need-returns-6
 unfolding lawful lawfulCounts
 returns-6 c =
-    let back6 = c .before .before .before .before .before .before in
-    let back12 = back6 .before .before .before .before .before .before in
+    let at-else5 = c .before .before .before .before in
+    let at-jacks-lawful = at-else5 .before in
+    let at-else4 = at-jacks-lawful .before .before .before in
+    let at-else3 = at-else4 .before .before in
+    let at-else2 = at-else3 .before .before in
+    let at-else1 = at-else2 .before .before in
     rw (
-      le-leb _ _ (back12 .before .before .if1 .left),
-      le-leb _ _ (back12 .if2 .left),
-      eq-eqb _ _ (back6 .before .before .before .before .if3 .left),
-      le-leb _ _ (back6 .before .before .if4 .left),
-      sym (c .before .before .before .before .before .jacks-lawful .ensures) ∙ not-false _ (c .before .before .before .before .if5 .left),
+      le-leb _ _ (at-else1 .if1 .left),
+      le-leb _ _ (at-else2 .if2 .left),
+      eq-eqb _ _ (at-else3 .if3 .left),
+      le-leb _ _ (at-else4 .if4 .left),
+      sym (at-jacks-lawful .jacks-lawful .ensures) ∙ not-false _ (at-else5 .if5 .left),
       sym (c .before .maps-lawful .ensures) ∙ not-true _ (c .if6 .taken),
     )
 
@@ -83,15 +90,20 @@ streams-lawful-requires c κs = search needs
 returns-7 : tie.Need-returns-7
 unfolding lawful lawfulCounts
 returns-7 c =
-    let back6 = c .before .before .before .before .before .before in
-    let back12 = back6 .before .before .before .before .before .before in
+    let at-maps-lawful = c .before .before .before .before in
+    let at-else5 = at-maps-lawful .before .before .before in
+    let at-jacks-lawful = at-else5 .before in
+    let at-else4 = at-jacks-lawful .before .before .before in
+    let at-else3 = at-else4 .before .before in
+    let at-else2 = at-else3 .before .before in
+    let at-else1 = at-else2 .before .before in
     rw (
-      le-leb _ _ (back12 .before .before .before .before .before .if1 .left),
-      le-leb _ _ (back12 .before .before .before .if2 .left),
-      eq-eqb _ _ (back12 .before .if3 .left),
-      le-leb _ _ (back6 .before .before .before .before .before .if4 .left),
-      sym (back6 .before .before .jacks-lawful .ensures) ∙ not-false _ (back6 .before .if5 .left),
-      sym (c .before .before .before .before .maps-lawful .ensures) ∙ not-false _ (c .before .before .before .if6 .left),
+      le-leb _ _ (at-else1 .if1 .left),
+      le-leb _ _ (at-else2 .if2 .left),
+      eq-eqb _ _ (at-else3 .if3 .left),
+      le-leb _ _ (at-else4 .if4 .left),
+      sym (at-jacks-lawful .jacks-lawful .ensures) ∙ not-false _ (at-else5 .if5 .left),
+      sym (at-maps-lawful .maps-lawful .ensures) ∙ not-false _ (c .before .before .before .if6 .left),
     )
     (c .streams-lawful .ensures)
 

@@ -39,10 +39,13 @@ returns-3 c =
 returns-4 : tie.Need-returns-4
 unfolding lawfulStream
 returns-4 c =
-    let back6 = c .before .before .before .before .before .before in
+    let at-else2 = c .before .before .before .before in
+    let at-in-bits2 = at-else2 .before in
+    let at-else1 = at-in-bits2 .before in
+    let at-in-bits = at-else1 .before in
     rw (
-      sym (back6 .before .in-bits .ensures) ∙ not-false _ (c .before .before .before .before .before .before .if1 .left),
-      sym (c .before .before .before .before .before .in-bits2 .ensures) ∙ not-false _ (c .before .before .before .before .if2 .left),
+      sym (at-in-bits .in-bits .ensures) ∙ not-false _ (at-else1 .if1 .left),
+      sym (at-in-bits2 .in-bits2 .ensures) ∙ not-false _ (at-else2 .if2 .left),
       sym (c .before .before .before .channels-lawful .ensures) ∙ not-false _ (c .before .before .if3 .left),
       eq-eqb _ _ (c .if4 .taken),
     )
@@ -50,11 +53,17 @@ returns-4 c =
 returns-5 : tie.Need-returns-5
 unfolding lawfulStream
 returns-5 c =
-    let back6 = c .before .before .before .before .before .before in
+    let at-else3 = c .before .before .before .before in
+    let at-channels-lawful = at-else3 .before in
+    let at-else2 = at-channels-lawful .before in
+    let at-in-bits2 = at-else2 .before in
+    let at-else1 = at-in-bits2 .before in
+    let at-in-bits = at-else1 .before in
     rw (
-      sym (back6 .before .before .before .in-bits .ensures) ∙ not-false _ (back6 .before .before .if1 .left),
-      sym (back6 .before .in-bits2 .ensures) ∙ not-false _ (c .before .before .before .before .before .before .if2 .left),
-      sym (c .before .before .before .before .before .channels-lawful .ensures) ∙ not-false _ (c .before .before .before .before .if3 .left),
+      sym (at-in-bits .in-bits .ensures) ∙ not-false _ (at-else1 .if1 .left),
+      sym (at-in-bits2 .in-bits2 .ensures) ∙ not-false _ (at-else2 .if2 .left),
+      sym (at-channels-lawful .channels-lawful .ensures)
+          ∙ not-false _ (at-else3 .if3 .left),
       ne-eqb _ _ (c .before .before .if4 .left),
       eq-eqb _ _ (c .if5 .taken),
     )
@@ -62,11 +71,17 @@ returns-5 c =
 returns-6 : tie.Need-returns-6
 unfolding lawfulStream
 returns-6 c =
-    let back6 = c .before .before .before .before .before .before in
+    let at-else3 = c .before .before .before .before in
+    let at-channels-lawful = at-else3 .before in
+    let at-else2 = at-channels-lawful .before in
+    let at-in-bits2 = at-else2 .before in
+    let at-else1 = at-in-bits2 .before in
+    let at-in-bits = at-else1 .before in
     rw (
-      sym (back6 .before .before .before .in-bits .ensures) ∙ not-false _ (back6 .before .before .if1 .left),
-      sym (back6 .before .in-bits2 .ensures) ∙ not-false _ (c .before .before .before .before .before .before .if2 .left),
-      sym (c .before .before .before .before .before .channels-lawful .ensures) ∙ not-false _ (c .before .before .before .before .if3 .left),
+      sym (at-in-bits .in-bits .ensures) ∙ not-false _ (at-else1 .if1 .left),
+      sym (at-in-bits2 .in-bits2 .ensures) ∙ not-false _ (at-else2 .if2 .left),
+      sym (at-channels-lawful .channels-lawful .ensures)
+          ∙ not-false _ (at-else3 .if3 .left),
       ne-eqb _ _ (c .before .before .if4 .left),
       ne-eqb _ _ (c .if5 .left),
     )

@@ -21,9 +21,15 @@ same-length c = search needs
 
 returns : tie.Need-returns
 returns c =
-    let back6 = c .before .before .before .before .before .before in
-    let a = back6 .before .before .before .args in
-    rw (c .before .before .complete .ensures, c .before .before .before .before .before .queue-size .ensures, c .before .before .before .before .before .before .event-bytes .ensures)
+    let at-queue-size = c .before .before .before .before .before in
+    let at-event-bytes = at-queue-size .before in
+    let start = at-event-bytes .before .before .before in
+    let a = start .args in
+    rw (
+      c .before .before .complete .ensures,
+      at-queue-size .queue-size .ensures,
+      at-event-bytes .event-bytes .ensures,
+    )
     (delivered (a .m .now) (a .page) (a .completed) (a .head) _ _ _)
 
 pub deliver-spec : {M : Type 1} → statement M

@@ -24,22 +24,26 @@ all-inside-requires-2 c κs = search needs
 
 returns-3 : tie.Need-returns-3
 returns-3 c =
-    let back6 = c .before .before .before .before .before .before in
+    let at-else1 = c .before .before .before .before in
+    let start = at-else1 .before .before .before .before in
     rw (
-      ← (back6 .before .before .pre .0),
-      eq-eqb _ _ (c .before .before .before .before .if1 .left),
+      ← (start .pre .0),
+      eq-eqb _ _ (at-else1 .if1 .left),
       sym (c .before .before .before .all-inside .ensures) ∙ not-false _ (c .before .before .if2 .left),
       sym (c .before .all-inside2 .ensures) ∙ not-true _ (c .if3 .taken),
     )
 
 returns-4 : tie.Need-returns-4
 returns-4 c =
-    let back6 = c .before .before .before .before .before .before in
-    let p = back6 .before .before .before .before .pre in
+    let at-else2 = c .before .before .before .before in
+    let at-all-inside = at-else2 .before in
+    let at-else1 = at-all-inside .before in
+    let start = at-else1 .before .before .before .before in
+    let p = start .pre in
     rw (
       ← (p .0),
-      eq-eqb _ _ (c .before .before .before .before .before .before .if1 .left),
-      sym (c .before .before .before .before .before .all-inside .ensures) ∙ not-false _ (c .before .before .before .before .if2 .left),
+      eq-eqb _ _ (at-else1 .if1 .left),
+      sym (at-all-inside .all-inside .ensures) ∙ not-false _ (at-else2 .if2 .left),
       sym (c .before .before .before .all-inside2 .ensures) ∙ not-false _ (c .before .before .if3 .left),
       ← (p .1),
       lt-leb _ _ (c .if4 .taken),
@@ -47,12 +51,15 @@ returns-4 c =
 
 returns-5 : tie.Need-returns-5
 returns-5 c =
-    let back6 = c .before .before .before .before .before .before in
-    let p = back6 .before .before .before .before .pre in
+    let at-else2 = c .before .before .before .before in
+    let at-all-inside = at-else2 .before in
+    let at-else1 = at-all-inside .before in
+    let start = at-else1 .before .before .before .before in
+    let p = start .pre in
     rw (
       ← (p .0),
-      eq-eqb _ _ (c .before .before .before .before .before .before .if1 .left),
-      sym (c .before .before .before .before .before .all-inside .ensures) ∙ not-false _ (c .before .before .before .before .if2 .left),
+      eq-eqb _ _ (at-else1 .if1 .left),
+      sym (at-all-inside .all-inside .ensures) ∙ not-false _ (at-else2 .if2 .left),
       sym (c .before .before .before .all-inside2 .ensures) ∙ not-false _ (c .before .before .if3 .left),
       ← (p .1),
       le-leb _ _ (c .if4 .left),

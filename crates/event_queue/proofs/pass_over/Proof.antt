@@ -16,7 +16,8 @@ same-length c = search needs
 returns : tie.Need-returns
 returns c =
     let a = c .before .before .before .before .before .before .args in
-    rw (c .before .before .post .ensures, c .before .before .before .before .queue-size .ensures) (passed-over (a .m .now) (a .page) (a .completed) (a .head))
+    rw (c .before .before .post .ensures, c .before .before .before .before .queue-size .ensures)
+    (passed-over (a .m .now) (a .page) (a .completed) (a .head))
 
 pub pass-over-spec : {M : Type 1} → statement M
 pass-over-spec = tie.close (tie.spec queue-size-requires post-requires same-length returns)

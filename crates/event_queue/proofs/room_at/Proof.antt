@@ -36,13 +36,15 @@ returns c = rw (← (walked (c .before .before .before .before .before)), c .bef
 
 has-room-requires : tie.Need-has-room-requires
 has-room-requires c κs =
-    let back6 = c .before .before .before .before .before .before in
-    let w = back6 .before .before .walk in (w .ensures .sound .request, w .ensures .sound .reply)
+    let at-slice-known2 = c .before .before .before .before .before .before in
+    let at-walk = at-slice-known2 .before .before in
+    let w = at-walk .walk in (w .ensures .sound .request, w .ensures .sound .reply)
 
 returns-2 : tie.Need-returns-2
 returns-2 c =
-    let back6 = c .before .before .before .before .before .before in
-    rw (← (walked (back6 .before .before .before)), c .before .before .before .before .before .enum-told .given .1) (c .has-room .ensures)
+    let at-enum-told = c .before .before .before .before .before in
+    let at-walk = at-enum-told .before .before .before .before in
+    rw (← (walked (at-walk)), at-enum-told .enum-told .given .1) (c .has-room .ensures)
 
 same-length : tie.Need-same-length
 same-length c = search needs

@@ -17,13 +17,13 @@ head-found : (c : tie.After-next-head)
 head-found c = c .next-head .ensures ∙ rw (c .before .before .queue-size .ensures)
 
 abbrev looked : tie.After-room-at → tie.After-next-head
-looked c = c .before .before .before .before .before .before
+looked c = c .before .before .before .before .before .before .before
 
 head-at : (c : tie.After-room-at)
     → let a = start (looked c) .args in
     nextHead (a .code) (a .«data») (a .left) (a .t3) (a .counters) (a .m .now)
-    ≡ Head.At (c .before .before .before .before .head .given .0 .0)
-head-at c = sym (head-found (looked c)) ∙ c .before .before .before .before .head .given .1
+    ≡ Head.At (c .before .before .before .before .before .head .given .0 .0)
+head-at c = sym (head-found (looked c)) ∙ c .before .before .before .before .before .head .given .1
 
 element-copy-out-page : tie.Need-element-copy-out-page
 element-copy-out-page c = search needs
@@ -43,6 +43,9 @@ halted-requires c κs = search needs
 enum-known-head : tie.Need-enum-known-head
 enum-known-head c = search needs
 
+indirect-requires : tie.Need-indirect-requires
+indirect-requires c κs = search needs
+
 room-at-requires : tie.Need-room-at-requires
 room-at-requires c κs = search needs
 
@@ -57,14 +60,14 @@ same-length c = search needs
 
 returns : tie.Need-returns
 returns c =
-    let back6 = c .before .before .before .before .before .before in
-    let k = back6 .before .before in
-    let a = start (looked k) .args in
+    let at-then1 = c .before .before .before .before .before .before in
+    let at-room-at = at-then1 .before .before in
+    let a = start (looked at-room-at) .args in
     let d = c .before .before .before .deliver in
-    let room = rw (c .before .before .before .before .before .before .if1 .taken) at (k .room-at .ensures) in
+    let room = rw (at-room-at .before .before .before .indirect .ensures, at-then1 .if1 .taken) at (at-room-at .room-at .ensures) in
     rw (c .counted .ensures .0) (
       tried-delivered (a .code) (a .«data») (a .left) (a .t3) (a .counters) (a .m .now) _ (d .result) (d .last .0)
-          (rangesOf (k .room-at .last .1 .0) (k .room-at .result .reply)) (head-at k, room) (d .ensures),
+          (rangesOf (at-room-at .room-at .last .1 .0) (at-room-at .room-at .result .reply)) (head-at at-room-at, room) (d .ensures),
       rw (c .counted .ensures .0) at (c .counted .ensures .1),
       refl,
     )
@@ -83,7 +86,8 @@ returns-2 c =
     let k = c .before .before .before .before in
     let a = start k .args in
     rw (c .halted .ensures .0) (
-      tried-broken (a .code) (a .«data») (a .left) (a .t3) (a .counters) (a .m .now) _ (sym (head-found k) ∙ c .before .before .cause .given .1),
+      tried-broken (a .code) (a .«data») (a .left) (a .t3) (a .counters) (a .m .now) _
+          (sym (head-found k) ∙ c .before .before .cause .given .1),
       rw (c .halted .ensures .0) at (c .halted .ensures .1),
       refl,
     )
@@ -93,13 +97,14 @@ same-length-3 c = search needs
 
 returns-3 : tie.Need-returns-3
 returns-3 c =
-    let back6 = c .before .before .before .before .before .before in
-    let k = back6 .before in
-    let a = start (looked k) .args in
+    let at-else1 = c .before .before .before .before .before in
+    let at-room-at = at-else1 .before .before in
+    let a = start (looked at-room-at) .args in
     let d = c .before .before .before .pass-over in
-    let room = rw (c .before .before .before .before .before .if1 .left) at (k .room-at .ensures) in
+    let room = rw (at-room-at .before .before .before .indirect .ensures, at-else1 .if1 .left) at (at-room-at .room-at .ensures) in
     rw (c .counted2 .ensures .0) (
-      tried-passed (a .code) (a .«data») (a .left) (a .t3) (a .counters) (a .m .now) _ (d .result) (d .last .0) (head-at k, room) (d .ensures),
+      tried-passed (a .code) (a .«data») (a .left) (a .t3) (a .counters) (a .m .now) _ (d .result) (d .last .0) (head-at at-room-at, room)
+          (d .ensures),
       rw (c .counted2 .ensures .0) at (c .counted2 .ensures .1),
       refl,
     )
@@ -120,6 +125,7 @@ try-entry-spec =
     enum-known-cause
     halted-requires
     enum-known-head
+    indirect-requires
     slice-aggregate-room-at
     room-at-requires
     slice-aggregate-deliver

@@ -1,9 +1,18 @@
 -- `files::close_sink` is safe: the name kept lies within its buffer.
-use mathlib.Core.Path.{sym}
+use mathlib.Core.Path.{_≡_, sym}
+use lib.ListN.{length, take}
 use lib.Seq.{length-take-le}
 use borrow.Author.Needs.{needs}
 use Rattle.files.proofs.close_sink.Statement.{statement}
 use Rattle.files.proofs.close_sink.Tie as tie
+
+-- the name's length is that of its part of the buffer
+short : (c : tie.Else3)
+    → let a = c .before .before .before .before .before .before .before .args in
+    a .sink .«name_len» ≡ length (take (a .sink .«name_len») (a .name .now))
+short c =
+    let start = c .before .before .before .before .before .before .before in
+    sym (length-take-le _ (start .args .name .now) (c .if3 .left))
 
 close-requires : tie.Need-close-requires
 close-requires c κs = search needs
@@ -18,10 +27,7 @@ returns-3 : tie.Need-returns-3
 returns-3 c = search needs
 
 slice-aggregate-rename : tie.Need-slice-aggregate-rename
-slice-aggregate-rename c =
-    let t = c .before .before .before in
-    let a = t .before .before .before .before .before .before .before in
-    sym (length-take-le _ (a .args .name .now) (t .if3 .left))
+slice-aggregate-rename c = short (c .before .before .before)
 
 rename-requires : tie.Need-rename-requires
 rename-requires c κs = search needs
@@ -30,10 +36,7 @@ returns-4 : tie.Need-returns-4
 returns-4 c = search needs
 
 slice-aggregate-unlink : tie.Need-slice-aggregate-unlink
-slice-aggregate-unlink c =
-    let t = c .before .before in
-    let a = t .before .before .before .before .before .before .before in
-    sym (length-take-le _ (a .args .name .now) (t .if3 .left))
+slice-aggregate-unlink c = short (c .before .before)
 
 unlink-requires : tie.Need-unlink-requires
 unlink-requires c κs = search needs

@@ -25,27 +25,28 @@ same-length c = search needs
 
 returns : tie.Need-returns
 returns c =
-    let back6 = c .before .before .before .before .before .before in
-    let s = back6 .before .before .before .before .before .before in
-    let a = s .args in
+    let at-answer = c .before .before .before .before in
+    let at-status-of = at-answer .before .before .before in
+    let start = at-status-of .before .before .before .before .before in
+    let a = start .args in
     let f = a .f in
-    let code = back6 .before .status-of .result in
+    let code = at-status-of .status-of .result in
     let k : Completion =
     answeredOf (directionOf (a .q .direction)) (a .m .now) (a .q .page) (f .counters .completed) (f .message .head .0)
     (rangesOf (a .list .now) (f .message .reply)) (some code) (a .q .latency) (f .message .done) in
-    let e : completion (c .before .before .before .before .answer .last .0) (c .before .before .before .before .answer .result)
-    ≡ k = c .before .before .before .before .answer .ensures in
-    let em : c .before .before .before .before .answer .last .0 ≡ k .memory = ap (λ (x : Completion). x .memory) e in
-    let ec : c .before .before .before .before .answer .result .completed ≡ k .completed = ap (λ (x : Completion). x .completed) e in
-    let ei : c .before .before .before .before .answer .result .interrupt ≡ k .interrupt = ap (λ (x : Completion). x .interrupt) e in
+    let e : completion (at-answer .answer .last .0) (at-answer .answer .result)
+    ≡ k = at-answer .answer .ensures in
+    let em : at-answer .answer .last .0 ≡ k .memory = ap (λ (x : Completion). x .memory) e in
+    let ec : at-answer .answer .result .completed ≡ k .completed = ap (λ (x : Completion). x .completed) e in
+    let ei : at-answer .answer .result .interrupt ≡ k .interrupt = ap (λ (x : Completion). x .interrupt) e in
     record {
       steps = record {
         run = λ host. rw (c .either .ensures, c .before .no-message .ensures, em, ec, ei)
-            (ended-run (virtqueueIn (a .q)) (endingOf (a .ending)) code (a .list .now) (a .m .now) host f (s .pre .0)
-            (back6 .before .status-of .ensures));
+            (ended-run (virtqueueIn (a .q)) (endingOf (a .ending)) code (a .list .now) (a .m .now) host f (start .pre .0)
+            (at-status-of .status-of .ensures));
         message = rw (c .before .no-message .ensures) (no-message-fit _ _);
         moved = refl;
-        long = c .before .before .before .before .answer .kept .0;
+        long = at-answer .answer .kept .0;
       };
       free = rw (c .before .no-message .ensures);
     }

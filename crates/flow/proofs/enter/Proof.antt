@@ -50,30 +50,30 @@ same-length c = search needs
 
 returns-2 : tie.Need-returns-2
 returns-2 c =
-    let back6 = c .before .before .before .before .before .before in
-    let s = back6 .before .before in
-    refused-steps (virtqueueIn (s .args .q)) (takingIn (s .args .list .now) (s .args .taken)) _ _ _ _ _ _
-    (rw (c .before .before .before .before .enum-told2 .given .1)) (c .before .before .refuse .ensures (s .pre .0))
+    let at-enum-told2 = c .before .before .before .before in
+    let start = at-enum-told2 .before .before .before .before in
+    refused-steps (virtqueueIn (start .args .q)) (takingIn (start .args .list .now) (start .args .taken)) _ _ _ _ _ _
+    (rw (at-enum-told2 .enum-told2 .given .1)) (c .before .before .refuse .ensures (start .pre .0))
 
 same-length-2 : tie.Need-same-length-2
 same-length-2 c = search needs
 
 returns-3 : tie.Need-returns-3
 returns-3 c =
-    let back6 = c .before .before .before .before .before .before in
-    let s = back6 .before .before in
-    refused-steps (virtqueueIn (s .args .q)) (takingIn (s .args .list .now) (s .args .taken)) _ _ _ _ _ _
-    (rw (c .before .before .before .before .enum-told3 .given .1)) (c .before .before .refuse2 .ensures (s .pre .0))
+    let at-enum-told3 = c .before .before .before .before in
+    let start = at-enum-told3 .before .before .before .before in
+    refused-steps (virtqueueIn (start .args .q)) (takingIn (start .args .list .now) (start .args .taken)) _ _ _ _ _ _
+    (rw (at-enum-told3 .enum-told3 .given .1)) (c .before .before .refuse2 .ensures (start .pre .0))
 
 same-length-3 : tie.Need-same-length-3
 same-length-3 c = search needs
 
 returns-4 : tie.Need-returns-4
 returns-4 c =
-    let back6 = c .before .before .before .before .before .before in
-    let s = back6 .before .before in
-    refused-steps (virtqueueIn (s .args .q)) (takingIn (s .args .list .now) (s .args .taken)) _ _ _ _ _ _
-    (rw (c .before .before .before .before .enum-told4 .given .1)) (c .before .before .refuse3 .ensures (s .pre .0))
+    let at-enum-told4 = c .before .before .before .before in
+    let start = at-enum-told4 .before .before .before .before in
+    refused-steps (virtqueueIn (start .args .q)) (takingIn (start .args .list .now) (start .args .taken)) _ _ _ _ _ _
+    (rw (at-enum-told4 .enum-told4 .given .1)) (c .before .before .refuse3 .ensures (start .pre .0))
 
 pub enter-spec : {M : Type 1} → statement M
 enter-spec =

@@ -30,19 +30,20 @@ same-length c = search needs
 
 returns : tie.Need-returns
 returns c =
-    let back6 = c .before .before .before .before .before .before in
-    let back12 = back6 .before .before .before .before .before .before in
-    let s = back12 .before in
-    let a = s .args in
+    let at-least = c .before .before .before .before .before .before in
+    let at-waiting = at-least .before in
+    let start = at-waiting .before .before .before .before .before .before in
+    let a = start .args in
     let f = a .f in
-    let n = c .before .before .before .before .before .before .least .result in
+    let n = at-least .least .result in
     let e : n ≡ min (length (a .host .now) - f .moved)
-    (f .message .reply .bytes - 8 - f .message .done) = rw (← (back6 .before .waiting .ensures))
-    (c .before .before .before .before .before .before .least .ensures) in (
+    (f .message .reply .bytes - 8 - f .message .done) = rw (← (at-waiting .waiting .ensures))
+    (at-least .least .ensures) in (
       rw (c .advanced .ensures, c .before .before .before .scatter .ensures)
-          (filled (a .q) (a .list .now) (a .m .now) (a .host .now) f n (s .pre .0) (s .pre .1 .inside) (s .pre .1 .message .reply) e),
-      rw (c .advanced .ensures) (s .pre .0),
-      rw (c .advanced .ensures) (advanced-fit _ _ _ f n _ 8 (s .pre .0) (s .pre .1) (s .pre .1 .message .short-reply) e),
+          (filled (a .q) (a .list .now) (a .m .now) (a .host .now) f n (start .pre .0) (start .pre .1 .inside)
+          (start .pre .1 .message .reply) e),
+      rw (c .advanced .ensures) (start .pre .0),
+      rw (c .advanced .ensures) (advanced-fit _ _ _ f n _ 8 (start .pre .0) (start .pre .1) (start .pre .1 .message .short-reply) e),
     )
 
 pub fill-spec : {M : Type 1} → statement M

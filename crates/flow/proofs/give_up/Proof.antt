@@ -26,11 +26,11 @@ same-length c = search needs
 
 returns-2 : tie.Need-returns-2
 returns-2 c =
-    let back6 = c .before .before .before .before .before .before in
-    let s = back6 .before .before in
-    let a = s .args in
+    let at-shared-slice-known = c .before .before .before .before .before .before in
+    let start = at-shared-slice-known .before .before in
+    let a = start .args in
     let t = c .before .before .end-message .ensures .steps in
-    let busy : a .f .message .count ≡ 1 = omega (arith, s .pre .one) in
+    let busy : a .f .message .count ≡ 1 = omega (arith, start .pre .one) in
     record {
       run = λ host. t .run host ∙ sym (given-one (virtqueueIn (a .q)) (a .list .now) (a .m .now) host (a .f) busy);
       message = t .message;

@@ -38,10 +38,10 @@ take-chain-requires c κs = search needs
 
 enter-requires : tie.Need-enter-requires
 enter-requires c κs =
-    let back6 = c .before .before .before .before .before .before in
-    let back12 = back6 .before .before .before .before .before .before in
-    let s = back12 .before .before .before .before in
-    (s .pre .1, c .before .before .before .before .take-chain .ensures .1, idle-fit _ _ _ (s .args .f .message) (s .pre .1) (s .pre .2))
+    let at-take-chain = c .before .before .before .before in
+    let at-next-head = at-take-chain .before .before .before .before .before .before in
+    let start = at-next-head .before .before .before .before .before .before in
+    (start .pre .1, at-take-chain .take-chain .ensures .1, idle-fit _ _ _ (start .args .f .message) (start .pre .1) (start .pre .2))
 
 same-length : tie.Need-same-length
 same-length c = search needs
@@ -65,20 +65,18 @@ same-length-2 c = search needs
 
 returns-2 : tie.Need-returns-2
 returns-2 c =
-    let back6 = c .before .before .before .before .before .before in
-    let back12 = back6 .before .before .before .before .before .before in
-    let back18 = back12 .before .before .before .before .before .before in
-    let e = c .before .before in
-    let mid-k = e .before .before .before .before .before .before in
-    let k = mid-k .before .before .before in
-    let n = k .before .before in
-    let a = n .before .before .before .before .before .before .args in
-    let h = sym (head-found n) ∙ k .number .given .1 in
-    let t = rw (e .before .before .before .before .before .take-chain .ensures .0) at (e .enter .ensures) in
+    let at-list = c .before .before .before .before .before .before in
+    let at-take-chain = at-list .before in
+    let at-number = at-take-chain .before .before .before .before in
+    let at-next-head = at-number .before .before in
+    let start = at-next-head .before .before .before .before .before .before in
+    let a = start .args in
+    let h = sym (head-found at-next-head) ∙ at-number .number .given .1 in
+    let t = rw (at-take-chain .take-chain .ensures .0) at (c .before .before .enter .ensures) in
     let v = virtqueueIn (a .q) in
-    let step = entered (countersOf (v .direction)) v (takingOf v (a .m .now) (k .number .given .0 .0 .0)) in
+    let step = entered (countersOf (v .direction)) v (takingOf v (a .m .now) (at-number .number .given .0 .0 .0)) in
     record {
-      run = λ host. t .run host ∙ ap step (idle-run _ _ (a .f) (a .m .now) host (back18 .before .pre .1))
+      run = λ host. t .run host ∙ ap step (idle-run _ _ (a .f) (a .m .now) host (start .pre .1))
           ∙ sym (next-taken (virtqueueIn (a .q)) (a .list .now) (a .m .now) host (a .f) _ h);
       message = t .message;
       moved = t .moved;

@@ -22,25 +22,27 @@ same-length c = search needs
 
 returns : tie.Need-returns
 returns c =
-    let back6 = c .before .before .before .before .before .before in
-    let s = back6 .before .before .before .before .before in
-    let a = s .args in
+    let at-answer = c .before .before .before .before in
+    let at-slice-known = at-answer .before .before .before .before .before .before in
+    let start = at-slice-known .before in
+    let a = start .args in
     let f = a .f in
     let k : Completion =
     answeredOf (directionOf (a .q .direction)) (a .m .now) (a .q .page) (f .counters .completed) (a .taken .head .0)
     (rangesOf (a .list .now) (a .taken .reply)) (statusIn (a .status)) (a .q .latency) 0 in
-    let e : completion (c .before .before .before .before .answer .last .0) (c .before .before .before .before .answer .result) ≡ k = c .before .before .before .before .answer .ensures in
-    let em : c .before .before .before .before .answer .last .0 ≡ k .memory = ap (λ (x : Completion). x .memory) e in
-    let ec : c .before .before .before .before .answer .result .completed ≡ k .completed = ap (λ (x : Completion). x .completed) e in
-    let ei : c .before .before .before .before .answer .result .interrupt ≡ k .interrupt = ap (λ (x : Completion). x .interrupt) e in
+    let e : completion (at-answer .answer .last .0) (at-answer .answer .result) ≡ k =
+    at-answer .answer .ensures in
+    let em : at-answer .answer .last .0 ≡ k .memory = ap (λ (x : Completion). x .memory) e in
+    let ec : at-answer .answer .result .completed ≡ k .completed = ap (λ (x : Completion). x .completed) e in
+    let ei : at-answer .answer .result .interrupt ≡ k .interrupt = ap (λ (x : Completion). x .interrupt) e in
     λ free.
     record {
       run = λ host. rw (c .either .ensures, c .before .wrapping-add-u16 .ensures, em, ec, ei)
           (refused-run (virtqueueIn (a .q)) (takingIn (a .list .now) (a .taken)) (statusIn (a .status)) (a .list .now)
-          (a .m .now) host f free (s .pre .2));
-      message = s .pre .1;
+          (a .m .now) host f free (start .pre .2));
+      message = start .pre .1;
       moved = refl;
-      long = c .before .before .before .before .answer .kept .0;
+      long = at-answer .answer .kept .0;
     }
 
 pub refuse-spec : {M : Type 1} → statement M

@@ -30,14 +30,15 @@ same-length c = search needs
 
 returns-2 : tie.Need-returns-2
 returns-2 c =
-    let back6 = c .before .before .before .before .before .before in
-    let s = back6 .before .before .before in
-    let a = s .args in
+    let at-waiting = c .before .before .before .before .before in
+    let start = at-waiting .before .before .before .before in
+    let a = start .args in
     let t = c .before .before .end-message .ensures .steps in
-    let none-waits : c .before .before .before .before .before .waiting .result ≡ 0 = omega arith in
+    let none-waits : at-waiting .waiting .result ≡ 0 = omega arith in
     record {
-      run = λ host. t .run host ∙ sym (settled-now (virtqueueIn (a .q)) (a .list .now) (a .m .now) host (a .f) (s .pre .0) (s .pre .1)
-          (sym (c .before .before .before .before .before .waiting .ensures) ∙ none-waits));
+      run = λ host. t .run host
+          ∙ sym (settled-now (virtqueueIn (a .q)) (a .list .now) (a .m .now) host (a .f) (start .pre .0) (start .pre .1)
+          (sym (at-waiting .waiting .ensures) ∙ none-waits));
       message = t .message;
       moved = t .moved;
       long = t .long;

@@ -20,12 +20,12 @@ returns c =
 
 returns-2 : tie.Need-returns-2
 returns-2 c =
-    let back6 = c .before .before .before .before .before .before in
-    let s = back6 .before in
-    let a = s .args in
+    let at-slice-known = c .before .before .before .before .before .before in
+    let start = at-slice-known .before in
+    let a = start .args in
     record {
       run = sym (worked-idle (virtqueueAs rules.output (a .q)) (a .list .now) (a .m .now) (a .host .now) (a .f) (c .if2 .taken));
-      fit = s .pre .1;
+      fit = start .pre .1;
       long = refl;
       host-long = refl;
     }
@@ -44,18 +44,20 @@ same-length-2 c = search needs
 
 returns-3 : tie.Need-returns-3
 returns-3 c =
-    let back6 = c .before .before .before .before .before .before in
-    let back12 = back6 .before .before .before .before .before .before in
-    let s = back12 .before .before .before .before in
-    let a = s .args in
-    let h = c .before .before .before .before .before .before .hand-on in
-    let t = c .before .before .settle .ensures in
-    let busy = one-left (a .f .message .count) (s .pre .1 .message .one) (back6 .before .before .before .if2 .left) in
+    let at-settle = c .before .before in
+    let at-hand-on = at-settle .before .before .before .before in
+    let at-else2 = at-hand-on .before .before .before in
+    let at-else1 = at-else2 .before .before in
+    let start = at-else1 .before .before .before .before .before in
+    let a = start .args in
+    let h = at-hand-on .hand-on in
+    let t = at-settle .settle .ensures in
+    let busy = one-left (a .f .message .count) (start .pre .1 .message .one) (at-else2 .if2 .left) in
     let w = worked-busy (virtqueueAs rules.output (a .q)) (a .list .now) (a .m .now) (a .host .now) (a .f)
-    (back6 .before .before .before .before .before .if1 .left) busy in
+    (at-else1 .if1 .left) busy in
     record {
-      run = rw (w, ← (h .ensures .0)) (rw (s .pre .0) at (t .run (h .last .1 .1 .0)));
-      fit = fit-beside _ _ _ _ (c .before .before .settle .result) (t .message) (t .moved) (h .ensures .2 .inside);
+      run = rw (w, ← (h .ensures .0)) (rw (start .pre .0) at (t .run (h .last .1 .1 .0)));
+      fit = fit-beside _ _ _ _ (at-settle .settle .result) (t .message) (t .moved) (h .ensures .2 .inside);
       long = t .long;
       host-long = h .kept .1 .1 .0;
     }

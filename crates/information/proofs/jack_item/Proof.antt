@@ -34,7 +34,11 @@ array-write-bytes c = search needs
 
 returns : tie.Need-returns
 unfolding put bytesOf
-returns c = rw (c .before .set324 .ensures, c .before .before .before .before .set323 .ensures, c .before .before .before .before .before .before .before .set322 .ensures, c .before .before .before .before .before .before .before .before .before .before .set32 .ensures)
+returns c =
+    let at-set323 = c .before .before .before .before in
+    let at-set322 = at-set323 .before .before .before in
+    let at-set32 = at-set322 .before .before .before in
+    rw (c .before .set324 .ensures, at-set323 .set323 .ensures, at-set322 .set322 .ensures, at-set32 .set32 .ensures)
 
 pub jack-item-spec : {M : Type 1} → statement M
 jack-item-spec =

@@ -3,11 +3,13 @@
 use mathlib.Core.Path.{_≡_, _∙_, sym}
 use native.Mathlib.Omega.{arith}
 use borrow.Author.Needs.{needs}
-use lib.ListN.{length}
-use lib.ListN.{length-map}
+use lib.ListN.{length, length-map}
 use Rattle.information.proofs.Laws.{map-bytes, length-mapItem}
 use Rattle.information.proofs.map_item.Statement.{statement}
 use Rattle.information.proofs.map_item.Tie as tie
+
+eighteen : (s : tie.Start) → length (s .args .map .positions) ≡ 18
+eighteen s = sym (length-map (s .args .map .positions) _) ∙ s .good .0 .1 .1 .1 .1 .1 .0 .1 .0 .1
 
 array-write-bytes : tie.Need-array-write-bytes
 array-write-bytes c = search needs
@@ -29,15 +31,16 @@ slice-aggregate-copy-2 c = search needs
 
 copy-requires : tie.Need-copy-requires
 copy-requires c κs =
-    let s = c .before .before .before .before .before .before in
-    let p : length (s .args .map .positions) ≡ 18 = sym (length-map (s .args .map .positions) _) ∙ s .good .0 .1 .1 .1 .1 .1 .0 .1 .0 .1 in
-    (search needs, omega arith)
+    let start = c .before .before .before .before .before .before in
+    (search needs, omega (arith, eighteen start))
 
 returns : tie.Need-returns
 returns c =
-    let s = c .before .before .before .before .before .before .before .before in
-    let p : length (s .args .map .positions) ≡ 18 = sym (length-map (s .args .map .positions) _) ∙ s .good .0 .1 .1 .1 .1 .1 .0 .1 .0 .1 in
-    (rw (c .before .copy .ensures, c .before .before .before .before .before .set32 .ensures) (map-bytes (s .args .map) p), length-mapItem (s .args .map) p)
+    let at-set32 = c .before .before .before .before .before in
+    let start = at-set32 .before .before .before in (
+      rw (c .before .copy .ensures, at-set32 .set32 .ensures) (map-bytes (start .args .map) (eighteen start)),
+      length-mapItem (start .args .map) (eighteen start),
+    )
 
 pub map-item-spec : {M : Type 1} → statement M
 map-item-spec =

@@ -43,7 +43,18 @@ array-write-bytes-3 c = search needs
 
 returns : tie.Need-returns
 unfolding put bytesOf
-returns c = rw (c .direction-of .ensures, c .before .before .set642 .ensures, c .before .before .before .before .before .set64 .ensures, c .before .before .before .before .before .before .before .before .set322 .ensures, c .before .before .before .before .before .before .before .before .before .before .before .set32 .ensures)
+returns c =
+    let at-set642 = c .before .before in
+    let at-set64 = at-set642 .before .before .before in
+    let at-set322 = at-set64 .before .before .before in
+    let at-set32 = at-set322 .before .before .before in
+    rw (
+      c .direction-of .ensures,
+      at-set642 .set642 .ensures,
+      at-set64 .set64 .ensures,
+      at-set322 .set322 .ensures,
+      at-set32 .set32 .ensures,
+    )
 
 pub pcm-item-spec : {M : Type 1} → statement M
 pcm-item-spec =

@@ -77,8 +77,8 @@ add-at c =
 
 add-i : tie.Need-add-i Inv-loop μ-loop
 add-i c =
-    let back6 = c .before .before .before .before .before .before in
-    let start = back6 .before .before .before .before .before in
+    let at-in-loop = c .before .before .before .before .before .before in
+    let start = at-in-loop .before .before .before .before .before in
     omega (arith, few-items (start .args .l) (start .args .parts) (start .pre .0))
 
 sub-left : tie.Need-sub-left Inv-loop μ-loop

@@ -27,13 +27,21 @@ mul-acc : tie.Need-mul-acc Inv-loop μ-loop
 mul-acc c =
     let l = c .before .before .loop in
     let a = c .before .before .before .before .args in
-    omega (arith, le-fits (a .n - l .i) 7 (a .m .now) (a .at + l .i) (λ k. c .before .before .before .shared-slice-known .given k .fits) (omega arith))
+    omega (
+      arith,
+      le-fits (a .n - l .i) 7 (a .m .now) (a .at + l .i) (λ k. c .before .before .before .shared-slice-known .given k .fits)
+          (omega arith),
+    )
 
 add-acc : tie.Need-add-acc Inv-loop μ-loop
 add-acc c =
     let l = c .before .before .loop in
     let a = c .before .before .before .before .args in
-    omega (arith, le-fits (a .n - l .i) 7 (a .m .now) (a .at + l .i) (λ k. c .before .before .before .shared-slice-known .given k .fits) (omega arith))
+    omega (
+      arith,
+      le-fits (a .n - l .i) 7 (a .m .now) (a .at + l .i) (λ k. c .before .before .before .shared-slice-known .given k .fits)
+          (omega arith),
+    )
 
 loop-less : tie.Need-loop-less Inv-loop μ-loop
 loop-less c = omega arith

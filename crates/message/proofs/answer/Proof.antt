@@ -40,24 +40,31 @@ same-length c = search needs
 
 returns : tie.Need-returns
 unfolding answeredOf postOf
-returns c = rw (c .before .before .post .ensures, c .before .before .before .before .before .before .queue-size .ensures, c .before .before .before .before .enum-told .given .1)
+returns c = rw (
+  c .before .before .post .ensures,
+  c .before .before .before .before .before .before .queue-size .ensures,
+  c .before .before .before .before .enum-told .given .1,
+)
 
 same-length-2 : tie.Need-same-length-2
 same-length-2 c = search needs
 
 returns-2 : tie.Need-returns-2
 returns-2 c =
-    let back6 = c .before .before .before .before .before .before in
-    let back12 = back6 .before .before .before .before .before .before in
-    let s = back12 .before .before in
-    let a = s .args in
-    rw (back6 .before .before .before .status .given .1) (c .before .before .complete .ensures
+    let at-used-length = c .before .before .before .before .before in
+    let at-last-eight = at-used-length .before in
+    let at-status-bytes = at-last-eight .before in
+    let at-status = at-status-bytes .before .before in
+    let at-queue-size = at-status .before .before in
+    let start = at-queue-size .before .before .before in
+    let a = start .args in
+    rw (at-status .status .given .1) (c .before .before .complete .ensures
     ∙ rw (
-      back6 .before .before .before .before .before .queue-size .ensures,
-      c .before .before .before .before .before .used-length .ensures,
-      c .before .before .before .before .before .before .last-eight .ensures,
-      back6 .before .status-bytes .ensures,
-      s .pre .0,
+      at-queue-size .queue-size .ensures,
+      at-used-length .used-length .ensures,
+      at-last-eight .last-eight .ensures,
+      at-status-bytes .status-bytes .ensures,
+      start .pre .0,
     )
     (completed-answer (directionOf (a .q .direction)) (a .m .now) (a .q .page) (a .completed) (a .head)
     (rangesOf (a .list .now) (a .reply)) _ (a .q .latency) (a .recorded)))

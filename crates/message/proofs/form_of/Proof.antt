@@ -29,10 +29,12 @@ all-inside-requires-2 c κs = search needs
 returns-3 : tie.Need-returns-3
 unfolding formOf
 returns-3 c =
-    let back6 = c .before .before .before .before .before .before in
-    let p = back6 .before .before .pre in
+    let at-else1 = c .before .before .before .before in
+    let at-all-inside = at-else1 .before in
+    let start = at-all-inside .before .before .before in
+    let p = start .pre in
     rw (
-      sym (c .before .before .before .before .before .all-inside .ensures) ∙ not-false _ (c .before .before .before .before .if1 .left),
+      sym (at-all-inside .all-inside .ensures) ∙ not-false _ (at-else1 .if1 .left),
       ← (p .1),
       le-leb _ _ (c .before .before .if2 .left),
       sym (c .before .all-inside2 .ensures) ∙ not-true _ (c .if3 .taken),
@@ -47,13 +49,17 @@ stream-number-requires c κs = search needs
 returns-4 : tie.Need-returns-4
 unfolding formOf
 returns-4 c =
-    let back6 = c .before .before .before .before .before .before in
-    let p = back6 .before .before .before .before .before .pre in
+    let at-all-inside2 = c .before .before .before .before in
+    let at-else2 = at-all-inside2 .before in
+    let at-else1 = at-else2 .before .before in
+    let at-all-inside = at-else1 .before in
+    let start = at-all-inside .before .before .before in
+    let p = start .pre in
     rw (
-      sym (back6 .before .before .all-inside .ensures) ∙ not-false _ (back6 .before .if1 .left),
+      sym (at-all-inside .all-inside .ensures) ∙ not-false _ (at-else1 .if1 .left),
       ← (p .1),
-      le-leb _ _ (c .before .before .before .before .before .if2 .left),
-      sym (c .before .before .before .before .all-inside2 .ensures) ∙ not-false _ (c .before .before .before .if3 .left),
+      le-leb _ _ (at-else2 .if2 .left),
+      sym (at-all-inside2 .all-inside2 .ensures) ∙ not-false _ (c .before .before .before .if3 .left),
       ← (c .before .before .stream-id .ensures),
       ← (c .before .stream-number .ensures),
       ne-eqb _ _ (c .if4 .taken),
@@ -65,15 +71,21 @@ is-sized-requires c κs = search needs
 returns-5 : tie.Need-returns-5
 unfolding formOf
 returns-5 c =
-    let back6 = c .before .before .before .before .before .before in
-    let back12 = back6 .before .before .before .before .before .before in
-    let p = back12 .before .pre in
+    let at-stream-id = c .before .before .before .before in
+    let at-else3 = at-stream-id .before in
+    let at-all-inside2 = at-else3 .before in
+    let at-else2 = at-all-inside2 .before in
+    let at-else1 = at-else2 .before .before in
+    let at-all-inside = at-else1 .before in
+    let start = at-all-inside .before .before .before in
+    let p = start .pre in
     rw (
-      sym (back6 .before .before .before .before .all-inside .ensures) ∙ not-false _ (back6 .before .before .before .if1 .left),
+      sym (at-all-inside .all-inside .ensures) ∙ not-false _ (at-else1 .if1 .left),
       ← (p .1),
-      le-leb _ _ (back6 .before .if2 .left),
-      sym (c .before .before .before .before .before .before .all-inside2 .ensures) ∙ not-false _ (c .before .before .before .before .before .if3 .left),
-      ← (c .before .before .before .before .stream-id .ensures),
+      le-leb _ _ (at-else2 .if2 .left),
+      sym (at-all-inside2 .all-inside2 .ensures)
+          ∙ not-false _ (at-else3 .if3 .left),
+      ← (at-stream-id .stream-id .ensures),
       ← (c .before .before .before .stream-number .ensures),
       eq-eqb _ _ (c .before .before .if4 .left),
       ← (p .0),
@@ -83,15 +95,21 @@ returns-5 c =
 returns-6 : tie.Need-returns-6
 unfolding formOf
 returns-6 c =
-    let back6 = c .before .before .before .before .before .before in
-    let back12 = back6 .before .before .before .before .before .before in
-    let p = back12 .before .pre in
+    let at-stream-id = c .before .before .before .before in
+    let at-else3 = at-stream-id .before in
+    let at-all-inside2 = at-else3 .before in
+    let at-else2 = at-all-inside2 .before in
+    let at-else1 = at-else2 .before .before in
+    let at-all-inside = at-else1 .before in
+    let start = at-all-inside .before .before .before in
+    let p = start .pre in
     rw (
-      sym (back6 .before .before .before .before .all-inside .ensures) ∙ not-false _ (back6 .before .before .before .if1 .left),
+      sym (at-all-inside .all-inside .ensures) ∙ not-false _ (at-else1 .if1 .left),
       ← (p .1),
-      le-leb _ _ (back6 .before .if2 .left),
-      sym (c .before .before .before .before .before .before .all-inside2 .ensures) ∙ not-false _ (c .before .before .before .before .before .if3 .left),
-      ← (c .before .before .before .before .stream-id .ensures),
+      le-leb _ _ (at-else2 .if2 .left),
+      sym (at-all-inside2 .all-inside2 .ensures)
+          ∙ not-false _ (at-else3 .if3 .left),
+      ← (at-stream-id .stream-id .ensures),
       ← (c .before .before .before .stream-number .ensures),
       eq-eqb _ _ (c .before .before .if4 .left),
       ← (p .0),

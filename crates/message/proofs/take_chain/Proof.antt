@@ -42,32 +42,36 @@ none-requires-2 c κs = search needs
 returns : tie.Need-returns
 unfolding rangesIn
 returns c =
-    let back6 = c .before .before .before .before .before .before in
-    let w = back6 .before in
-    let a = w .before .before .before .before .before .before .args in
-    let fault = c .before .before .before .end .given .0 .0 in (
+    let at-end = c .before .before .before in
+    let at-walk = at-end .before .before .before .before in
+    let start = at-walk .before .before .before .before .before .before in
+    let a = start .args in
+    let fault = at-end .end .given .0 .0 in (
       rw (c .none2 .ensures, c .before .none .ensures)
-          (taken-by (virtqueueIn (a .q)) (a .m .now) (a .head .0) (faulted fault) (sym (rw (c .before .before .before .end .given .1)) ∙ walked w)),
+          (taken-by (virtqueueIn (a .q)) (a .m .now) (a .head .0) (faulted fault)
+          (sym (rw (at-end .end .given .1)) ∙ walked at-walk)),
       rw (c .none2 .ensures, c .before .none .ensures) (no-ranges-fit _ _ _ _),
     )
 
 form-of-requires : tie.Need-form-of-requires
 form-of-requires c κs =
-    let back6 = c .before .before .before .before .before .before in
-    let w = back6 .before .before .walk in (w .ensures .sound .request, w .ensures .sound .reply)
+    let at-slice-known2 = c .before .before .before .before .before .before in
+    let at-walk = at-slice-known2 .before .before in
+    let w = at-walk .walk in (w .ensures .sound .request, w .ensures .sound .reply)
 
 returns-2 : tie.Need-returns-2
 returns-2 c =
-    let back6 = c .before .before .before .before .before .before in
-    let p = back6 .before .before .before in
-    let w = p .walk in
-    let a = p .before .before .before .before .before .before .args in
+    let at-enum-told = c .before .before .before .before .before in
+    let at-walk = at-enum-told .before .before .before .before in
+    let start = at-walk .before .before .before .before .before .before in
+    let w = at-walk .walk in
+    let a = start .args in
     let d = directionOf (a .q .direction) in
     let request = rangesOf (w .last .1 .0) (w .result .chain .request) in
     let reply = rangesOf (w .last .1 .0) (w .result .chain .reply) in (
       rw (c .form-of .ensures)
           (taken-by (virtqueueIn (a .q)) (a .m .now) (a .head .0) (whole request reply)
-          (sym (rw (c .before .before .before .before .before .enum-told .given .1)) ∙ walked p)),
+          (sym (rw (at-enum-told .enum-told .given .1)) ∙ walked at-walk)),
       record {
         request = w .ensures .sound .request;
         reply = w .ensures .sound .reply;

@@ -30,9 +30,10 @@ inside-requires c κs = omega arith
 returns : tie.Need-returns Inv-loop μ-loop
 unfolding allInside
 returns c =
-    let l = c .before .before .before .before .loop in
-    let back6 = c .before .before .before .before .before .before in
-    let a = back6 .before .args in
+    let at-loop = c .before .before .before .before in
+    let start = at-loop .before .before .before in
+    let l = at-loop .loop in
+    let a = start .args in
     rw (
       ← (l .inv .1),
       rangesIn-more (a .list .now) (l .i) (l .more) (l .more - 1) (omega arith),
@@ -52,9 +53,10 @@ loop-less c = omega arith
 loop-again : tie.Need-loop-again Inv-loop μ-loop
 unfolding allInside
 loop-again c =
-    let l = c .before .before .before .before .loop in
-    let back6 = c .before .before .before .before .before .before in
-    let a = back6 .before .args in (
+    let at-loop = c .before .before .before .before in
+    let start = at-loop .before .before .before in
+    let l = at-loop .loop in
+    let a = start .args in (
       omega arith,
       rw (
         ← (l .inv .1),

@@ -85,13 +85,17 @@ loop-less c = omega arith
 
 loop-again : tie.Need-loop-again Inv-loop μ-loop
 loop-again c =
-    let back6 = c .before .before .before .before .before .before in
-    let back12 = back6 .before .before .before .before .before .before in
-    let l = back6 .before .before .before .loop in
-    let a = back12 .before .before .before .before .args in
-    let x = back6 .range-at in
-    let gone = c .before .before .before .before .before .least2 in
-    let k = c .before .before .before .before .least3 in
+    let at-least3 = c .before .before .before .before in
+    let at-least2 = at-least3 .before in
+    let at-range-at = at-least2 .before in
+    let at-loop = at-range-at .before .before .before in
+    let at-slice-known = at-loop .before .before .before .before .before .before in
+    let start = at-slice-known .before in
+    let l = at-loop .loop in
+    let a = start .args in
+    let x = at-range-at .range-at in
+    let gone = at-least2 .least2 in
+    let k = at-least3 .least3 in
     let s = c .before .before .scatter-run in
     let behind = rangesIn (a .list .now) (l .i + 1) (l .more - 1) in (
       room-next (l .f) (l .left) _ (k .result) (length (a .src .now)) (l .inv .0) (k .ensures),

@@ -22,12 +22,14 @@ same-length c = search needs
 
 returns : tie.Need-returns
 returns c =
-    let back6 = c .before .before .before .before .before .before in
-    let start = back6 .before .before in
+    let at-least = c .before .before .before .before in
+    let at-place = at-least .before in
+    let start = at-place .before .before .before in
     let a = start .args in
-    let at = c .before .before .before .before .before .place in
-    let k = c .before .before .before .before .least in
-    rw (scatter-place (a .m .now) (a .start .0 + a .skip) (a .n) (at .result) (k .result) (at .ensures) (k .ensures) (a .src .now) (a .from) (start .pre))
+    let at = at-place .place in
+    let k = at-least .least in
+    rw (scatter-place (a .m .now) (a .start .0 + a .skip) (a .n) (at .result) (k .result) (at .ensures) (k .ensures) (a .src .now) (a .from)
+    (start .pre))
     (c .before .before .copy .ensures)
 
 pub scatter-run-spec : {M : Type 1} → statement M

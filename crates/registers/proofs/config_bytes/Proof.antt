@@ -25,8 +25,9 @@ set32-requires-3 c κs = search needs
 returns : tie.Need-returns
 unfolding configBytes
 returns c =
-    let back6 = c .before .before .before .before .before .before in
-    rw (c .before .set323 .ensures, c .before .before .before .before .set322 .ensures, back6 .before .set32 .ensures)
+    let at-set322 = c .before .before .before .before in
+    let at-set32 = at-set322 .before .before .before in
+    rw (c .before .set323 .ensures, at-set322 .set322 .ensures, at-set32 .set32 .ensures)
 
 pub config-bytes-spec : {M : Type 1} → statement M
 config-bytes-spec =

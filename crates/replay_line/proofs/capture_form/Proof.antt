@@ -117,7 +117,8 @@ returns-5 : tie.Need-returns-5
 returns-5 c =
     let k = sized (c .before) in
     let b = bounded (k .before) in
-    sym (more _ _ (b .before .find .ensures) (b .if1 .left) _ _ (found1 (k .before)) (k .if2 .left) _ _ (found2 (c .before)) (c .if3 .taken))
+    sym (more _ _ (b .before .find .ensures) (b .if1 .left) _ _ (found1 (k .before)) (k .if2 .left) _ _ (found2 (c .before))
+    (c .if3 .taken))
 
 cast-t13 : tie.Need-cast-t13
 cast-t13 c = omega (arith, field-most _ _ _ _ _ (found2 (c .before)))
@@ -126,7 +127,8 @@ returns-6 : tie.Need-returns-6
 returns-6 c =
     let k = sized (c .before) in
     let b = bounded (k .before) in
-    sym (whole _ _ (b .before .find .ensures) (b .if1 .left) _ _ (found1 (k .before)) (k .if2 .left) _ _ (found2 (c .before)) (c .if3 .left))
+    sym (whole _ _ (b .before .find .ensures) (b .if1 .left) _ _ (found1 (k .before)) (k .if2 .left) _ _ (found2 (c .before))
+    (c .if3 .left))
 
 pub capture-form-spec : {M : Type 1} → statement M
 capture-form-spec =

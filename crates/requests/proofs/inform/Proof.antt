@@ -14,9 +14,9 @@ use Rattle.requests.proofs.inform.Statement.{statement}
 use Rattle.requests.proofs.inform.Tie as tie
 
 sized : (c : tie.After-enum-told) →
-    let mid-back7 = c .before .before .before .before .before .before in
-    let back7 = mid-back7 .before in
-    let start = back7 .before .before in
+    let at-shared-slice-known2 = c .before .before .before .before .before .before in
+    let at-shared-slice-known = at-shared-slice-known2 .before in
+    let start = at-shared-slice-known .before .before in
     spaced (word (start .args .request .now) 2) (word (start .args .request .now) 3) ≡ true
 sized c =
     let at-enum-told = c in
@@ -28,8 +28,8 @@ sized c =
     (sym (at-is-spaced .is-spaced .ensures) ∙ at-enum-told .enum-told .given .1))
 
 there : (c : tie.After-enum-told3) →
-    let back6 = c .before .before .before .before .before .before in
-    let at-number322 = back6 .before in
+    let at-number323 = c .before .before .before .before .before .before in
+    let at-number322 = at-number323 .before in
     let at-number32 = at-number322 .before in
     let start = at-number32 .before .before .before .before in
     listed (start .args .l) (partsOf (start .args .parts)) (at-number32 .number32 .result) (at-number322 .number322 .result) ≡ true
@@ -43,25 +43,25 @@ there c =
     (sym (at-is-listed .is-listed .ensures) ∙ at-enum-told3 .enum-told3 .given .1)
 
 there-asked : (c : tie.After-enum-told3) →
-    let back6 = c .before .before .before .before .before .before in
-    let start = back6 .before .before .before .before .before .before in
+    let at-number323 = c .before .before .before .before .before .before in
+    let start = at-number323 .before .before .before .before .before .before in
     listed (start .args .l) (partsOf (start .args .parts)) (word (start .args .request .now) 1) (word (start .args .request .now) 2) ≡ true
 there-asked c =
-    let back6 = c .before .before .before .before .before .before in
-    let at-number322 = back6 .before in
+    let at-number323 = c .before .before .before .before .before .before in
+    let at-number322 = at-number323 .before in
     let at-number32 = at-number322 .before in
     rw (← (at-number32 .number32 .ensures), ← (at-number322 .number322 .ensures)) (there c)
 
 wide : (c : tie.After-enum-told5) →
-    let back6 = c .before .before .before .before .before .before in
-    let at-number323 = back6 .before .before .before in
+    let at-enum-told = c .before .before .before .before .before .before in
+    let at-number323 = at-enum-told .before .before .before in
     let at-number322 = at-number323 .before in
     let start = at-number322 .before .before .before .before .before in
     roomy (at-number322 .number322 .result) (at-number323 .number323 .result) (start .args .room) ≡ true
 wide c =
     let at-is-roomy = c .before .before in
-    let back8 = at-is-roomy .before .before .before .before .before .before in
-    let at-number323 = back8 .before in
+    let at-is-spaced = at-is-roomy .before .before .before .before .before .before in
+    let at-number323 = at-is-spaced .before in
     let at-number322 = at-number323 .before in
     let start = at-number322 .before .before .before .before .before in
     check-passed (roomy (at-number322 .number322 .result) (at-number323 .number323 .result) (start .args .room))

@@ -15,21 +15,19 @@ write-status-requires c κs = search needs
 
 write-items-requires : tie.Need-write-items-requires
 write-items-requires c κs =
-    let back6 = c .before .before .before .before .before .before in
-    let back7 = back6 .before in
-    let start = back7 .before in
+    let at-shared-slice-known = c .before .before .before .before .before .before in
+    let start = at-shared-slice-known .before .before in
     let a = start .args in
     let n = length-items (a .size) (itemsOf (a .l) (partsOf (a .parts))) (a .count) (a .start) (start .pre .1) in
     (start .pre .0, start .pre .1, rw n (start .pre .2))
 
 cast-close : tie.Need-cast-close
 cast-close c =
-    let at-write-items = c .before .before .before in
-    let back9 = at-write-items .before .before .before .before .before .before in
-    let start = back9 .before .before .before in
+    let at-m = c .before .before .before .before .before .before in
+    let start = at-m .before .before .before .before .before .before in
     let a = start .args in
     let n = length-items (a .size) (itemsOf (a .l) (partsOf (a .parts))) (a .count) (a .start) (start .pre .1) in
-    omega (arith, at-write-items .write-items .ensures .1, n, start .pre .2)
+    omega (arith, c .before .before .before .write-items .ensures .1, n, start .pre .2)
 
 close-requires : tie.Need-close-requires
 close-requires c κs = search needs

@@ -16,32 +16,28 @@ use Rattle.requests.proofs.remap.Tie as tie
 -- the jack that was found is the one asked for
 the-jack : (c : tie.After-known-told) →
     let at-i = c .before in
-    let mid-start = at-i .before .before .before .before .before .before in
-    let start = mid-start .before in
+    let at-slice-known = at-i .before .before .before .before .before .before in
+    let start = at-slice-known .before in
     at-i .i .given .0 .0 ≡ word (start .args .request .now) 1
 the-jack c =
-    let at-i = c .before in
-    let at-find = at-i .before .before in
-    let at-number32 = at-find .before in
+    let at-number32 = c .before .before .before .before in
     let start = at-number32 .before .before .before .before in
     found-there (ltb (at-number32 .number32 .result) (start .args .t3 .«jack_count»)) _ _
-    (sym (at-find .find .ensures) ∙ at-i .i .given .1) .1 ∙ at-number32 .number32 .ensures
+    (sym (c .before .before .before .find .ensures) ∙ c .before .i .given .1) .1 ∙ at-number32 .number32 .ensures
 
 there : (c : tie.After-known-told) →
-    let mid-back7 = c .before .before .before .before .before .before in
-    let back7 = mid-back7 .before in
-    let start = back7 .before in
+    let at-shared-slice-known = c .before .before .before .before .before .before in
+    let at-slice-known = at-shared-slice-known .before in
+    let start = at-slice-known .before in
     ltb (word (start .args .request .now) 1) (start .args .t3 .«jack_count») ≡ true
 there c =
-    let at-i = c .before in
-    let at-find = at-i .before .before in
-    let at-number32 = at-find .before in
-    rw (← (at-number32 .number32 .ensures)) (found-there _ _ _ (sym (at-find .find .ensures) ∙ at-i .i .given .1) .0)
+    let at-number32 = c .before .before .before .before in
+    rw (← (at-number32 .number32 .ensures)) (found-there _ _ _ (sym (c .before .before .before .find .ensures) ∙ c .before .i .given .1) .0)
 
 inside : (c : tie.After-known-told) →
     let at-i = c .before in
-    let mid-start = at-i .before .before .before .before .before .before in
-    let start = mid-start .before in
+    let at-slice-known = at-i .before .before .before .before .before .before in
+    let start = at-slice-known .before in
     at-i .i .given .0 .0 < start .args .t3 .«jack_count»
 inside c = rw (the-jack c) (ltb-true _ _ (there c))
 
@@ -78,16 +74,14 @@ returns c =
 
 mul-jack : tie.Need-mul-jack
 mul-jack c =
-    let back6 = c .before .before .before .before .before .before in
-    let back7 = back6 .before in
-    let start = back7 .before in
+    let at-shared-slice-known = c .before .before .before .before .before .before in
+    let start = at-shared-slice-known .before .before in
     omega (arith, inside c, start .pre .jacks)
 
 element-copy-out-jack : tie.Need-element-copy-out-jack
 element-copy-out-jack c =
-    let back6 = c .before .before .before .before .before .before in
-    let back7 = back6 .before in
-    let start = back7 .before in
+    let at-shared-slice-known = c .before .before .before .before .before .before in
+    let start = at-shared-slice-known .before .before in
     omega (arith, inside c, start .pre .jacks)
 
 is-remappable-requires : tie.Need-is-remappable-requires
@@ -107,19 +101,18 @@ same-length-2 c = search needs
 
 returns-2 : tie.Need-returns-2
 returns-2 c =
-    let at-answer2 = c .before .before in
-    let at-enum-told3 = at-answer2 .before .before in
+    let at-enum-told3 = c .before .before .before .before in
     let at-is-remappable = at-enum-told3 .before .before in
     let at-known-told = at-is-remappable .before .before in
-    let mid-back15 = at-known-told .before .before .before .before .before .before in
-    let back15 = mid-back15 .before in
-    let start = back15 .before in
+    let at-i = at-known-told .before in
+    let at-slice-known = at-i .before .before .before .before .before .before in
+    let start = at-slice-known .before in
     let a = start .args in
     let lacking : remappable (getD (a .t3 .jacks) (word (a .request .now) 1) noJack) ≡ false = rw (← (the-jack at-known-told))
-    (check-failed (remappable (getD (a .t3 .jacks) (at-known-told .before .i .given .0 .0) noJack))
+    (check-failed (remappable (getD (a .t3 .jacks) (at-i .i .given .0 .0) noJack))
     (sym (at-is-remappable .is-remappable .ensures) ∙ at-enum-told3 .enum-told3 .given .1)) in
     rw (remap-refused (a .t3) (start .pre) (a .request .now) (there at-known-told) lacking)
-    (serves-same _ (a .pending) (a .t3) _ _ _ _ (start .pre) (at-answer2 .answer2 .ensures))
+    (serves-same _ (a .pending) (a .t3) _ _ _ _ (start .pre) (c .before .before .answer2 .ensures))
 
 number32-requires-2 : tie.Need-number32-requires-2
 number32-requires-2 c κs = search needs
@@ -129,11 +122,10 @@ number32-requires-3 c κs = search needs
 
 remap-jack-requires : tie.Need-remap-jack-requires
 remap-jack-requires c κs =
-    let back6 = c .before .before .before .before .before .before in
-    let at-known-told = back6 .before in
-    let mid-back14 = at-known-told .before .before .before .before .before .before in
-    let back14 = mid-back14 .before in
-    let start = back14 .before in
+    let at-jack = c .before .before .before .before .before .before in
+    let at-known-told = at-jack .before in
+    let at-shared-slice-known = at-known-told .before .before .before .before .before .before in
+    let start = at-shared-slice-known .before .before in
     (start .pre, inside at-known-told)
 
 same-length-3 : tie.Need-same-length-3
@@ -141,18 +133,17 @@ same-length-3 c = search needs
 
 returns-3 : tie.Need-returns-3
 returns-3 c =
-    let at-remap-jack = c .before .before in
-    let at-number323 = at-remap-jack .before .before in
+    let at-number323 = c .before .before .before .before in
     let at-number322 = at-number323 .before in
     let at-enum-told2 = at-number322 .before in
     let at-is-remappable = at-enum-told2 .before .before in
     let at-known-told = at-is-remappable .before .before in
-    let mid-back17 = at-known-told .before .before .before .before .before .before in
-    let back17 = mid-back17 .before in
-    let start = back17 .before in
+    let at-i = at-known-told .before in
+    let at-slice-known = at-i .before .before .before .before .before .before in
+    let start = at-slice-known .before in
     let a = start .args in
     let able : remappable (getD (a .t3 .jacks) (word (a .request .now) 1) noJack) ≡ true = rw (← (the-jack at-known-told))
-    (check-passed (remappable (getD (a .t3 .jacks) (at-known-told .before .i .given .0 .0) noJack))
+    (check-passed (remappable (getD (a .t3 .jacks) (at-i .i .given .0 .0) noJack))
     (sym (at-is-remappable .is-remappable .ensures) ∙ at-enum-told2 .enum-told2 .given .1)) in
     rw (
       remap-there (a .t3) (start .pre) (a .request .now) (there at-known-told) able,
@@ -160,7 +151,7 @@ returns-3 c =
       ← (at-number322 .number322 .ensures),
       ← (at-number323 .number323 .ensures),
     )
-    (at-remap-jack .remap-jack .ensures)
+    (c .before .before .remap-jack .ensures)
 
 pub remap-spec : {M : Type 1} → statement M
 remap-spec =

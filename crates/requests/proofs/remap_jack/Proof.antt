@@ -16,8 +16,8 @@ associated : (c : tie.After-enum-told)
 associated c = check-passed _ (sym (c .before .before .has-four-bits .ensures) ∙ c .enum-told .given .1)
 
 sequenced : (c : tie.After-enum-told3)
-    → let mid-start = c .before .before .before .before .before .before in
-    let start = mid-start .before .before .before in
+    → let at-jack = c .before .before .before .before .before .before in
+    let start = at-jack .before .before .before in
     fourBits (start .args .sequence) ≡ true
 sequenced c = check-passed _ (sym (c .before .before .has-four-bits2 .ensures) ∙ c .enum-told3 .given .1)
 

@@ -10,8 +10,10 @@ use Rattle.ring.proofs.next_head.Statement.{statement}
 use Rattle.ring.proofs.next_head.Tie as tie
 
 number-read : (c : tie.After-get16)
-    → let a = c .before .before .before .before .before .args in c .get16 .result ≡ le 2 (a .m .now) (baseOf (a .page) + ringPlaceAt (a .size) (a .taken % a .size))
-number-read c = c .get16 .ensures ∙ rw (c .before .before .address .ensures, c .before .available-at .ensures, c .before .before .before .ring-place .ensures)
+    → let a = c .before .before .before .before .before .args in c .get16 .result
+    ≡ le 2 (a .m .now) (baseOf (a .page) + ringPlaceAt (a .size) (a .taken % a .size))
+number-read c = c .get16 .ensures
+    ∙ rw (c .before .before .address .ensures, c .before .available-at .ensures, c .before .before .before .ring-place .ensures)
 
 ring-place-requires : tie.Need-ring-place-requires
 ring-place-requires c κs = search needs

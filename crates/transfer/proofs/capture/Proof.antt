@@ -18,10 +18,11 @@ work-capture-requires c κs = let s = c .before .before .before .before .before 
 
 capture-rest-requires : tie.Need-capture-rest-requires
 capture-rest-requires c κs =
-    let back6 = c .before .before .before .before .before .before in
-    let s = back6 .before .before .before .before .before in
-    let w = c .before .before .before .before .work-capture .ensures in
-    (s .pre .0, rw (w .long) (w .fit), s .pre .2)
+    let at-work-capture = c .before .before .before .before in
+    let at-slice-known = at-work-capture .before .before .before .before .before .before in
+    let start = at-slice-known .before in
+    let w = at-work-capture .work-capture .ensures in
+    (start .pre .0, rw (w .long) (w .fit), start .pre .2)
 
 same-length : tie.Need-same-length
 same-length c = search needs
@@ -29,9 +30,11 @@ same-length c = search needs
 returns : tie.Need-returns
 unfolding transferRun
 returns c =
-    let back6 = c .before .before .before .before .before .before in
-    let w = rw (back6 .before .before .before .before .begun-flow .ensures) at (back6 .before .before .before .work-capture .ensures) in
-    let t = c .before .before .before .before .capture-rest .ensures in
+    let at-capture-rest = c .before .before .before .before in
+    let at-work-capture = at-capture-rest .before .before .before .before .before in
+    let at-begun-flow = at-work-capture .before in
+    let w = rw (at-begun-flow .begun-flow .ensures) at (at-work-capture .work-capture .ensures) in
+    let t = at-capture-rest .capture-rest .ensures in
     record {
       run = t .run ∙ rw (w .run, loop-whiles);
       fit = rw (w .long) at (t .fit);

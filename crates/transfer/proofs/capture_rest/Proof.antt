@@ -34,8 +34,9 @@ same-length c = omega arith
 
 returns : tie.Need-returns Inv-loop μ-loop
 returns c =
-    let back6 = c .before .before .before .before .before .before in
-    let a = back6 .before .args in
+    let at-slice-known = c .before .before .before .before .before .before in
+    let start = at-slice-known .before in
+    let a = start .args in
     let l = c .before .before .before .loop in
     record {
       run = sym (rest-stop (virtqueueAs rules.input (a .q)) (l .list) (l .m) (a .host .now) (l .g) (l .left)
@@ -47,15 +48,15 @@ returns c =
 
 capture-turn-requires : tie.Need-capture-turn-requires Inv-loop μ-loop
 capture-turn-requires c κs =
-    let back6 = c .before .before .before .before .before .before in
-    let s = back6 .before .before .before in
-    let l = c .before .before .before .before .before .loop in
-    let a = s .args in (
-      s .pre .0,
+    let at-loop = c .before .before .before .before .before in
+    let start = at-loop .before .before .before .before in
+    let l = at-loop .loop in
+    let a = start .args in (
+      start .pre .0,
       goes-idle (l .g) (length (a .host .now)) (sym (c .before .before .before .transfer-more .ensures)
           ∙ not-false _ (c .before .before .if1 .left)),
       rw (l .inv .2) (l .inv .1),
-      rw (l .inv .3) (s .pre .2),
+      rw (l .inv .3) (start .pre .2),
     )
 
 sub-left : tie.Need-sub-left Inv-loop μ-loop
@@ -66,22 +67,25 @@ loop-less c = omega arith
 
 loop-again : tie.Need-loop-again Inv-loop μ-loop
 loop-again c =
-    let back6 = c .before .before .before .before .before .before in
-    let back12 = back6 .before .before .before .before .before .before in
-    let s = back12 .before .before in
-    let a = s .args in
-    let l = back6 .before .before .before .before .loop in
-    let t = c .before .before .before .before .capture-turn .ensures in (
+    let at-capture-turn = c .before .before .before .before in
+    let at-else1 = at-capture-turn .before .before .before in
+    let at-transfer-more = at-else1 .before in
+    let at-in-loop = at-transfer-more .before in
+    let at-loop = at-in-loop .before in
+    let start = at-loop .before .before .before .before in
+    let a = start .args in
+    let l = at-loop .loop in
+    let t = at-capture-turn .capture-turn .ensures in (
       rw (
         t .run,
         ← (rest-more (virtqueueAs rules.input (a .q)) (l .list) (l .m) (a .host .now) (l .g) (l .left) (l .left - 1)
-            (omega (arith, back6 .before .before .before .loop-test .taken))
-            (sym (back6 .before .before .transfer-more .ensures) ∙ not-false _ (back6 .before .if1 .left))),
+            (omega (arith, at-in-loop .loop-test .taken))
+            (sym (at-transfer-more .transfer-more .ensures) ∙ not-false _ (at-else1 .if1 .left))),
       )
           (l .inv .0),
       rw (l .inv .2) at (t .fit),
       t .long ∙ l .inv .2,
-      c .before .before .before .before .capture-turn .kept .1 .0 ∙ l .inv .3,
+      at-capture-turn .capture-turn .kept .1 .0 ∙ l .inv .3,
     )
 
 same-length-2 : tie.Need-same-length-2 Inv-loop μ-loop

@@ -10,12 +10,12 @@ meet-requires c κs = search needs
 
 work-capture-requires : tie.Need-work-capture-requires
 work-capture-requires c κs =
-    let back6 = c .before .before .before .before .before .before in
-    let s = back6 .before .before .before .before .before .before in
-    let n = c .before .before .before .before .before .before .meet .ensures in (
-      s .pre .0,
-      fit-beside _ _ _ _ (c .before .before .before .before .before .before .meet .result) (rw (n .long) (n .message))
-          (n .moved) (s .pre .2 .inside),
+    let at-meet = c .before .before .before .before .before .before in
+    let start = at-meet .before .before .before .before .before .before in
+    let n = at-meet .meet .ensures in (
+      start .pre .0,
+      fit-beside _ _ _ _ (at-meet .meet .result) (rw (n .long) (n .message))
+          (n .moved) (start .pre .2 .inside),
     )
 
 same-length : tie.Need-same-length
@@ -23,14 +23,14 @@ same-length c = search needs
 
 returns : tie.Need-returns
 returns c =
-    let back6 = c .before .before .before .before .before .before in
-    let back12 = back6 .before .before .before .before .before .before in
-    let s = back12 .before .before .before in
-    let a = s .args in
-    let n = back6 .before .before .before .meet .ensures in
+    let at-list = c .before .before .before .before .before .before in
+    let at-meet = at-list .before .before .before in
+    let start = at-meet .before .before .before .before .before .before in
+    let a = start .args in
+    let n = at-meet .meet .ensures in
     let w = c .before .before .work-capture .ensures in
     record {
-      run = w .run ∙ rw (rw (s .pre .0) at (n .run (a .host .now)));
+      run = w .run ∙ rw (rw (start .pre .0) at (n .run (a .host .now)));
       fit = rw (n .long) at (w .fit);
       long = w .long ∙ n .long;
       host-long = w .host-long;

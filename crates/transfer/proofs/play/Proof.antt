@@ -12,16 +12,18 @@ begun-flow-requires c κs = search needs
 
 work-play-requires : tie.Need-work-play-requires
 work-play-requires c κs =
-    let back6 = c .before .before .before .before .before .before in
-    let s = back6 .before in (s .pre .0, rw (c .begun-flow .ensures) (fresh-fit _ _ _ _ _ (s .pre .1)))
+    let at-slice-known = c .before .before .before .before .before .before in
+    let start = at-slice-known .before in
+    (start .pre .0, rw (c .begun-flow .ensures) (fresh-fit _ _ _ _ _ (start .pre .1)))
 
 play-rest-requires : tie.Need-play-rest-requires
 play-rest-requires c κs =
-    let back6 = c .before .before .before .before .before .before in
-    let back12 = back6 .before .before .before .before .before .before in
-    let s = back12 .before .before .before in
-    let w = back6 .before .work-play .ensures in
-    (s .pre .0, rw (w .long, w .host-long) (w .fit), s .pre .2)
+    let at-m = c .before .before .before .before .before .before in
+    let at-work-play = at-m .before in
+    let at-slice-known2 = at-work-play .before .before .before .before .before .before in
+    let start = at-slice-known2 .before .before in
+    let w = at-work-play .work-play .ensures in
+    (start .pre .0, rw (w .long, w .host-long) (w .fit), start .pre .2)
 
 same-length : tie.Need-same-length
 same-length c = search needs
@@ -32,12 +34,12 @@ same-length-2 c = search needs
 returns : tie.Need-returns
 unfolding transferRun
 returns c =
-    let back6 = c .before .before .before .before .before .before in
-    let back12 = back6 .before .before .before .before .before .before in
-    let back18 = back12 .before .before .before .before .before .before in
-    let s = back18 .before .before .before .before in
-    let w = rw (back12 .before .before .before .begun-flow .ensures) at (back12 .before .before .work-play .ensures) in
-    let t = c .before .before .before .before .before .before .play-rest .ensures in
+    let at-play-rest = c .before .before .before .before .before .before in
+    let at-slice-known4 = at-play-rest .before .before .before .before .before .before in
+    let at-work-play = at-slice-known4 .before .before in
+    let at-begun-flow = at-work-play .before in
+    let w = rw (at-begun-flow .begun-flow .ensures) at (at-work-play .work-play .ensures) in
+    let t = at-play-rest .play-rest .ensures in
     record {
       run = t .run ∙ rw (w .run, loop-whiles);
       fit = rw (w .long, w .host-long) at (t .fit);

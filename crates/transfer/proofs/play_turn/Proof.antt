@@ -10,11 +10,11 @@ meet-requires c κs = search needs
 
 work-play-requires : tie.Need-work-play-requires
 work-play-requires c κs =
-    let back6 = c .before .before .before .before .before .before in
-    let back12 = back6 .before .before .before .before .before .before in
-    let s = back12 .before in
-    let n = back6 .before .meet .ensures in
-    (s .pre .0, fit-beside _ _ _ _ (back6 .before .meet .result) (rw (n .long) (n .message)) (n .moved) (s .pre .2 .inside))
+    let at-m = c .before .before .before .before .before .before in
+    let at-meet = at-m .before in
+    let start = at-meet .before .before .before .before .before .before in
+    let n = at-meet .meet .ensures in
+    (start .pre .0, fit-beside _ _ _ _ (at-meet .meet .result) (rw (n .long) (n .message)) (n .moved) (start .pre .2 .inside))
 
 same-length : tie.Need-same-length
 same-length c = search needs
@@ -24,14 +24,15 @@ same-length-2 c = search needs
 
 returns : tie.Need-returns
 returns c =
-    let back6 = c .before .before .before .before .before .before in
-    let back12 = back6 .before .before .before .before .before .before in
-    let s = back12 .before .before .before .before .before .before in
-    let a = s .args in
-    let n = back6 .before .before .before .before .before .before .meet .ensures in
-    let w = c .before .before .before .before .work-play .ensures in
+    let at-work-play = c .before .before .before .before in
+    let at-slice-known4 = at-work-play .before .before .before .before .before .before in
+    let at-meet = at-slice-known4 .before .before in
+    let start = at-meet .before .before .before .before .before .before in
+    let a = start .args in
+    let n = at-meet .meet .ensures in
+    let w = at-work-play .work-play .ensures in
     record {
-      run = w .run ∙ rw (rw (s .pre .0) at (n .run (a .host .now)));
+      run = w .run ∙ rw (rw (start .pre .0) at (n .run (a .host .now)));
       fit = rw (n .long) at (w .fit);
       long = w .long ∙ n .long;
       host-long = w .host-long;

@@ -14,10 +14,11 @@ give-up-requires c κs = rw (c .begun-flow .ensures) (c .before .before .before 
 
 release-rest-requires : tie.Need-release-rest-requires
 release-rest-requires c κs =
-    let back6 = c .before .before .before .before .before .before in
-    let w = c .before .before .before .before .give-up .ensures in (
+    let at-give-up = c .before .before .before .before in
+    let start = at-give-up .before .before .before .before .before .before in
+    let w = at-give-up .give-up .ensures in (
       rw (w .long) (w .message),
-      back6 .before .before .before .before .pre .1,
+      start .pre .1,
     )
 
 same-length : tie.Need-same-length
@@ -26,9 +27,11 @@ same-length c = search needs
 returns : tie.Need-returns
 unfolding releaseRun
 returns c =
-    let back6 = c .before .before .before .before .before .before in
-    let w = rw (back6 .before .before .before .before .begun-flow .ensures) at (back6 .before .before .before .give-up .ensures) in
-    let t = c .before .before .before .before .release-rest .ensures in
+    let at-release-rest = c .before .before .before .before in
+    let at-give-up = at-release-rest .before .before .before .before .before in
+    let at-begun-flow = at-give-up .before in
+    let w = rw (at-begun-flow .begun-flow .ensures) at (at-give-up .give-up .ensures) in
+    let t = at-release-rest .release-rest .ensures in
     record {
       run = λ host. t .run host ∙ rw (w .run host, loop-whiles);
       message = rw (w .long) at (t .message);

@@ -49,11 +49,12 @@ returns c =
 
 release-turn-requires : tie.Need-release-turn-requires Inv-loop μ-loop
 release-turn-requires c κs =
-    let back6 = c .before .before .before .before .before .before in
-    let l = c .before .before .before .before .before .loop in (
+    let at-loop = c .before .before .before .before .before in
+    let start = at-loop .before .before .before in
+    let l = at-loop .loop in (
       release-goes-idle (l .g) (sym (c .before .before .before .release-more .ensures) ∙ not-false _ (c .before .before .if1 .left)),
       rw (l .inv .2) (l .inv .1),
-      rw (l .inv .4) (back6 .before .before .pre .1),
+      rw (l .inv .4) (start .pre .1),
     )
 
 sub-left : tie.Need-sub-left Inv-loop μ-loop
@@ -64,22 +65,26 @@ loop-less c = omega arith
 
 loop-again : tie.Need-loop-again Inv-loop μ-loop
 loop-again c =
-    let back6 = c .before .before .before .before .before .before in
-    let back12 = back6 .before .before .before .before .before .before in
-    let a = back12 .before .args in
-    let l = back6 .before .before .before .before .loop in
-    let t = c .before .before .before .before .release-turn .ensures in (
+    let at-release-turn = c .before .before .before .before in
+    let at-else1 = at-release-turn .before .before .before in
+    let at-release-more = at-else1 .before in
+    let at-in-loop = at-release-more .before in
+    let at-loop = at-in-loop .before in
+    let start = at-loop .before .before .before in
+    let a = start .args in
+    let l = at-loop .loop in
+    let t = at-release-turn .release-turn .ensures in (
       λ host. rw (
         t .run host,
         ← (release-more (virtqueueIn (a .q)) (l .list) (l .m) host (l .g) (l .left) (l .left - 1)
-            (omega (arith, back6 .before .before .before .loop-test .taken))
-            (sym (back6 .before .before .release-more .ensures) ∙ not-false _ (back6 .before .if1 .left))),
+            (omega (arith, at-in-loop .loop-test .taken))
+            (sym (at-release-more .release-more .ensures) ∙ not-false _ (at-else1 .if1 .left))),
       )
           (l .inv .0 host),
       rw (l .inv .2) at (t .message),
       t .long ∙ l .inv .2,
       t .moved ∙ l .inv .3,
-      c .before .before .before .before .release-turn .kept .1 .0 ∙ l .inv .4,
+      at-release-turn .release-turn .kept .1 .0 ∙ l .inv .4,
     )
 
 same-length-2 : tie.Need-same-length-2 Inv-loop μ-loop

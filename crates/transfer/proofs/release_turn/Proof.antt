@@ -16,8 +16,9 @@ same-length c = search needs
 
 returns : tie.Need-returns
 returns c =
-    let back6 = c .before .before .before .before .before .before in
-    let n = back6 .before .before .before .meet .ensures in
+    let at-list = c .before .before .before .before .before .before in
+    let at-meet = at-list .before .before .before in
+    let n = at-meet .meet .ensures in
     let g = c .before .before .give-up .ensures in
     record {
       run = λ host. g .run host ∙ rw (n .run host);

@@ -2,7 +2,7 @@
 use mathlib.Core.Path.{_≡_, _∙_, sym}
 use native.Mathlib.Omega.{arith}
 use lib.Seq.{length-take-le}
-use Rattle.wave.specs.Outcome.{readOf}
+use Rattle.wave.specs.Outcome.{fileRead}
 use Rattle.wave.proofs.Reading.{short}
 use borrow.Author.Needs.{needs}
 use Rattle.wave.proofs.read.Statement.{statement}

@@ -54,11 +54,12 @@ same-length c = search needs
 
 returns-3 : tie.Need-returns-3
 returns-3 c =
-    let p = c .before .before in
-    let a = p .before .before .before .before .before .before .before .args in
+    let at-put-file = c .before .before in
+    let at-judge = at-put-file .before .before .before .before in
+    let a = at-judge .before .before .before .args in
     let s = sym (length-file (a .format) (a .channels) (a .rate) (a .«data» .now)) in
-    rw (p .put-file .ensures, ← (p .before .before .before .before .judge .ensures))
-    (done _ _ _ _ s (p .before .before .before .if1 .left) (omega arith))
+    rw (at-put-file .put-file .ensures, ← (at-judge .judge .ensures))
+    (done _ _ _ _ s (at-put-file .before .before .before .if1 .left) (omega arith))
 
 pub write-spec : {M : Type 1} → statement M
 write-spec =

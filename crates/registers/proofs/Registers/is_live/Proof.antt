@@ -42,10 +42,13 @@ has-bit-requires-4 c κs = search needs
 returns-4 : tie.Need-returns-4
 unfolding live
 returns-4 c =
-    let back6 = c .before .before .before .before .before .before in
+    let at-else2 = c .before .before .before .before in
+    let at-has-bit2 = at-else2 .before in
+    let at-else1 = at-has-bit2 .before in
+    let at-has-bit = at-else1 .before in
     rw (
-      sym (back6 .before .has-bit .ensures) ∙ not-false _ (c .before .before .before .before .before .before .if1 .left),
-      sym (c .before .before .before .before .before .has-bit2 .ensures) ∙ not-false _ (c .before .before .before .before .if2 .left),
+      sym (at-has-bit .has-bit .ensures) ∙ not-false _ (at-else1 .if1 .left),
+      sym (at-has-bit2 .has-bit2 .ensures) ∙ not-false _ (at-else2 .if2 .left),
       sym (c .before .before .before .has-bit3 .ensures) ∙ c .before .before .if3 .left,
       sym (c .before .has-bit4 .ensures) ∙ c .if4 .taken,
     )
@@ -53,10 +56,13 @@ returns-4 c =
 returns-5 : tie.Need-returns-5
 unfolding live
 returns-5 c =
-    let back6 = c .before .before .before .before .before .before in
+    let at-else2 = c .before .before .before .before in
+    let at-has-bit2 = at-else2 .before in
+    let at-else1 = at-has-bit2 .before in
+    let at-has-bit = at-else1 .before in
     rw (
-      sym (back6 .before .has-bit .ensures) ∙ not-false _ (c .before .before .before .before .before .before .if1 .left),
-      sym (c .before .before .before .before .before .has-bit2 .ensures) ∙ not-false _ (c .before .before .before .before .if2 .left),
+      sym (at-has-bit .has-bit .ensures) ∙ not-false _ (at-else1 .if1 .left),
+      sym (at-has-bit2 .has-bit2 .ensures) ∙ not-false _ (at-else2 .if2 .left),
       sym (c .before .before .before .has-bit3 .ensures) ∙ c .before .before .if3 .left,
       sym (c .before .has-bit4 .ensures) ∙ c .if4 .left,
     )
