@@ -1,0 +1,2 @@
+-- Lines run on small cases.
+pub mod Lines
