@@ -14,6 +14,7 @@ use counts::DescriptorNumber;
 use description::Description;
 use description::JackInfo;
 use description::MapInfo;
+use description::STREAMS;
 use description::StreamInfo;
 use ranges::Ranges;
 use registers::Registers;
@@ -88,7 +89,7 @@ pub struct Parts {
     pub stream_count: usize,
     pub jacks: [Jack; 4],
     pub maps: [MapInfo; 4],
-    pub streams: [Stream; 2],
+    pub streams: [Stream; STREAMS],
 }
 
 impl Parts {
@@ -207,7 +208,7 @@ fn jacks_at_power(infos: [JackInfo; 4]) -> [Jack; 4]
     ]
 }
 
-fn streams_at_power(infos: [StreamInfo; 2]) -> [Stream; 2]
+fn streams_at_power(infos: [StreamInfo; STREAMS]) -> [Stream; STREAMS]
     ensures { λ r. ⌜ r ≡ map freshStream infos ⌝ }
 {
     [fresh(infos[0]), fresh(infos[1])]
@@ -260,7 +261,7 @@ fn no_parts() -> Parts
         stream_count: 0,
         jacks: [jack_at_power(jack); 4],
         maps: [map; 4],
-        streams: [fresh(stream); 2],
+        streams: [fresh(stream); STREAMS],
     }
 }
 

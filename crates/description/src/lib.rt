@@ -6,6 +6,9 @@ ghost use Rattle.description.specs.Nothing.{nothingDescribed};
 ghost use Rattle.description.specs.Lawful.{every, lawful, lawfulJack, lawfulMap, lawfulStream, lawfulChannels, lawfulPositions};
 ghost use Rattle.description.specs.Lawful.{lawfulPosition, inBits};
 
+// How many streams a card can have.
+pub const STREAMS: usize = 2;
+
 #[repr(C)]
 pub struct JackInfo {
     pub nid: u32,
@@ -43,7 +46,7 @@ pub struct Description {
     pub input_count: u32,
     pub jacks: [JackInfo; 4],
     pub maps: [MapInfo; 4],
-    pub streams: [StreamInfo; 2],
+    pub streams: [StreamInfo; STREAMS],
 }
 
 // Nothing described: no part of any kind.
@@ -78,7 +81,7 @@ pub fn nothing() -> Description
         input_count: 0,
         jacks: [jack; 4],
         maps: [map; 4],
-        streams: [stream; 2],
+        streams: [stream; STREAMS],
     }
 }
 
@@ -220,7 +223,7 @@ fn maps_lawful(maps: [MapInfo; 4], n: usize) -> bool
     true
 }
 
-fn streams_lawful(streams: [StreamInfo; 2], n: usize) -> bool
+fn streams_lawful(streams: [StreamInfo; STREAMS], n: usize) -> bool
     requires { ⌜ n ≤ 2 ⌝ }
     ensures { λ r. ⌜ r ≡ every lawfulStream (take n streams) ⌝ }
 {

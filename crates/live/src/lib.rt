@@ -21,6 +21,7 @@ use card::ReadAnswer;
 use card::Stream;
 use card::WriteAnswer;
 use description::Description;
+use description::STREAMS;
 use registers::Config;
 use registers::Effect;
 use registers::Registers;
@@ -36,8 +37,8 @@ pub struct Live {
     pub queues: [Counters; 4],
     pub play: Message,
     pub capture: Message,
-    pub states: [u8; 2],
-    pub backlogs: [u32; 2],
+    pub states: [u8; STREAMS],
+    pub backlogs: [u32; STREAMS],
     pub fresh: bool,
 }
 
@@ -113,8 +114,8 @@ fn reset(live: Live) -> Live
     }; 4];
     next.play = card::no_message();
     next.capture = card::no_message();
-    next.states = [card::FRESH; 2];
-    next.backlogs = [0; 2];
+    next.states = [card::FRESH; STREAMS];
+    next.backlogs = [0; STREAMS];
     next.fresh = true;
     next
 }

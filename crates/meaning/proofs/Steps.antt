@@ -1,6 +1,6 @@
 -- Power-up and the register entries of the card are the rules' start and steps.
 use mathlib.Core.Path.{_≡_, refl, sym, ap}
-use mathlib.Core.List.{List, [], _∷_, map}
+use mathlib.Core.List.{List, []}
 use mathlib.Core.Bool.{true, cond}
 use Prim.Native.Nat.{ℕ, zero, suc, _<_}
 use native.Mathlib.Omega.{arith}
@@ -8,6 +8,7 @@ use lib.ListN.{length, getD, set, take}
 use lib.Seq.{length-take-le, getD-set-same, getD-set-other}
 use Rattle.description.specs.Lawful.{lawful}
 use Rattle.description.specs.declared.Description.{Description}
+use Rattle.ranges.proofs.Laws.{map-take}
 use Rattle.registers.specs.Answers.{plain}
 use Rattle.registers.specs.Rules.{writeOf}
 use Rattle.registers.specs.declared.Effect.{Effect}
@@ -51,11 +52,6 @@ module _ (c : Card) (f : Fit c) where
   read-step offset width m = rw (jacks-counted, streams-counted, maps-counted)
 
 -- ---- writes
-
-map-take : {A B : Type 0} (f : A → B) (n : ℕ) (l : List A) → map f (take n l) ≡ take n (map f l)
-map-take f zero l = refl
-map-take f (suc n) [] = refl
-map-take f (suc n) (x ∷ l) = rw (map-take f n l)
 
 -- the counters of a queue that was given a base, and of the others
 zeroed : (c : Card) (q : ℕ) → length (c .queues) ≡ 4 → q < 4 → getD (set (c .queues) q noCounters) q noCounters ≡ noCounters

@@ -52,7 +52,7 @@ pub fn backlog(live: Live, id: u32) -> u32
     ensures { λ r. ⌜ Remembers live id r ⌝ }
 {
     let i = id as usize;
-    if 2 <= i {
+    if description::STREAMS <= i {
         return 0;
     }
     let config = live.config;
@@ -69,7 +69,7 @@ pub fn virtqueue(registers: Registers, direction: Direction, latency: u32) -> Vi
     ensures { λ r. ⌜ r ≡ laidOut registers direction latency ⌝ }
 {
     let pages = registers.pages;
-    let indirect = registers.features / 268435456 % 2 == 1;
+    let indirect = registers.indirect();
     let page = match direction {
         Direction::Output => pages[2],
         Direction::Input => pages[3],

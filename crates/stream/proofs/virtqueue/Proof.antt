@@ -3,6 +3,9 @@ use borrow.Author.Needs.{needs}
 use Rattle.stream.proofs.virtqueue.Statement.{statement}
 use Rattle.stream.proofs.virtqueue.Tie as tie
 
+indirect-requires : tie.Need-indirect-requires
+indirect-requires c κs = search needs
+
 enum-told : tie.Need-enum-told
 enum-told c = search needs
 
@@ -16,12 +19,12 @@ array-copy-out-page-2 : tie.Need-array-copy-out-page-2
 array-copy-out-page-2 c = search needs
 
 returns : tie.Need-returns
-returns c = rw (c .before .enum-told .given .1)
+returns c = rw (c .before .enum-told .given .1, c .before .before .before .indirect .ensures)
 
 returns-2 : tie.Need-returns-2
-returns-2 c = rw (c .before .enum-told2 .given .1)
+returns-2 c = rw (c .before .enum-told2 .given .1, c .before .before .before .indirect .ensures)
 
 pub virtqueue-spec : {M : Type 1} → statement M
 virtqueue-spec =
     tie.close
-    (tie.spec enum-told array-copy-out-page enum-told-2 array-copy-out-page-2 returns returns-2)
+    (tie.spec indirect-requires enum-told array-copy-out-page enum-told-2 array-copy-out-page-2 returns returns-2)
