@@ -12,6 +12,10 @@ use memory::get16;
 use memory::get32;
 use memory::get64;
 use memory::inside;
+use memory::place;
+use memory::whole16;
+use memory::whole32;
+use memory::whole64;
 use ranges::Range;
 use ranges::Ranges;
 
@@ -71,11 +75,32 @@ pub struct Walked {
 }
 
 impl Descriptor {
-    // The descriptor with this number in the table at `table`.
+    // The descriptor with this number in the table at `table`: where all its bytes are there, with one test.
     fn read(m: &[u8], table: GuestAddress, number: DescriptorNumber) -> Descriptor
         ensures { λ r. ⌜ r ≡ descriptorAt (now (m .entry)) (table .0 + number .0 * 16) ⌝ }
     {
         let start = number.offset();
+        let from = place(m.len(), table, start);
+        if m.len() - from < 16 {
+            return Descriptor::read_each(m, table, start);
+        }
+        let at = whole64(m, from);
+        let len = whole32(m, from + 8) as u32;
+        let flags = whole16(m, from + 12) as u16;
+        let next = whole16(m, from + 14) as u16;
+        Descriptor {
+            at: GuestAddress::of(at),
+            len,
+            flags,
+            next: DescriptorNumber::of(next),
+        }
+    }
+
+    // The descriptor at `start` behind `table`, each number with a test of its own.
+    fn read_each(m: &[u8], table: GuestAddress, start: u64) -> Descriptor
+        requires { ⌜ start < 2097152 ⌝ }
+        ensures { λ r. ⌜ r ≡ descriptorAt (now (m .entry)) (table .0 + start) ⌝ }
+    {
         let at = get64(m, table, start);
         let len = get32(m, table, start + 8);
         let flags = get16(m, table, start + 12);

@@ -91,21 +91,21 @@ fn store_each(m: &mut [u8], at: usize, n: usize, v: u64)
 }
 
 // The number in 2, 4 or 8 bytes that are all there.
-fn whole16(m: &[u8], at: usize) -> u64
+pub fn whole16(m: &[u8], at: usize) -> u64
     requires { ⌜ at + 2 ≤ length (now m) ⌝ }
     ensures { λ r. ⌜ (r ≡ le 2 (now (m .entry)) at) × (r < 256 ^ 2) ⌝ }
 {
     wide(m[at]) + 256 * wide(m[at + 1])
 }
 
-fn whole32(m: &[u8], at: usize) -> u64
+pub fn whole32(m: &[u8], at: usize) -> u64
     requires { ⌜ at + 4 ≤ length (now m) ⌝ }
     ensures { λ r. ⌜ (r ≡ le 4 (now (m .entry)) at) × (r < 256 ^ 4) ⌝ }
 {
     whole16(m, at) + 65536 * whole16(m, at + 2)
 }
 
-fn whole64(m: &[u8], at: usize) -> u64
+pub fn whole64(m: &[u8], at: usize) -> u64
     requires { ⌜ at + 8 ≤ length (now m) ⌝ }
     ensures { λ r. ⌜ (r ≡ le 8 (now (m .entry)) at) × (r < 256 ^ 8) ⌝ }
 {

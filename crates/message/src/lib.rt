@@ -7,7 +7,8 @@ ghost use Rattle.ranges.specs.Ranges.{rangesOf, Sound};
 ghost use Rattle.registers.specs.Map.{sizeOf};
 ghost use Rattle.ring.specs.Rules.{completion};
 ghost use Rattle.rules.specs.Device.{streamNumber, queueNumber};
-ghost use Rattle.rules.specs.Transfer.{idOf, sized, formOf, takingOf, statusBytes};
+ghost use Rattle.rules.specs.Transfer.{idOf, sized, formOf, takingOf, statusBytes, statusInReply};
+ghost use mathlib.Core.Option.{some};
 ghost use Rattle.message.specs.Message.{directionOf, virtqueueIn, formIn, statusIn, takingIn, FitTaken, answeredOf, answeredLength};
 use chain::Fault;
 use counts::DescriptorNumber;
@@ -84,8 +85,22 @@ fn stream_number(d: Direction) -> u32
     }
 }
 
-// The request's first four bytes, zeros where it has fewer.
+// The request's first four bytes, zeros where it has fewer: one number where the first range has them all.
 fn stream_id(m: &[u8], list: &[u64], request: Ranges) -> u32
+    ensures { λ r. ⌜ r ≡ idOf (now (m .entry)) (rangesOf (now (list .entry)) request) ⌝ }
+{
+    if request.count == 0 {
+        return gathered_id(m, list, request);
+    }
+    let range = ranges::range_at(list, request.first as usize);
+    if range.len < 4 {
+        return gathered_id(m, list, request);
+    }
+    memory::get32(m, range.at, 0)
+}
+
+// The same of any ranges.
+fn gathered_id(m: &[u8], list: &[u64], request: Ranges) -> u32
     ensures { λ r. ⌜ r ≡ idOf (now (m .entry)) (rangesOf (now (list .entry)) request) ⌝ }
 {
     let mut bytes = [0u8; 4];
@@ -217,24 +232,38 @@ pub fn answer(
     match status {
         Status::Nothing => ring::post(m, q.page, size, completed, head, 0),
         Status::Code(code) => {
-            let bytes = status_bytes(code, q.latency);
-            let offset = last_eight(reply.bytes);
+            put_status(m, list, reply, code, q.latency);
             let len = used_length(direction, recorded);
-            ring::complete(
-                m,
-                q.page,
-                size,
-                completed,
-                head,
-                len,
-                list,
-                reply,
-                offset,
-                &bytes,
-                8,
-            )
+            ring::post(m, q.page, size, completed, head, len)
         }
     }
+}
+
+// The status in the last eight bytes of the reply: two numbers where the last range has them all.
+fn put_status(m: &mut [u8], list: &[u64], reply: Ranges, code: u32, latency: u32)
+    requires { ⌜ Sound (now list) reply ⌝ }
+    ensures { λ r. ⌜ now (m .exit) ≡ statusInReply (some code) latency (rangesOf (now (list .entry)) reply) (now (m .entry)) ⌝ }
+{
+    if reply.count == 0 {
+        scatter_status(m, list, reply, code, latency);
+        return;
+    }
+    let last = ranges::range_at(list, reply.first as usize + (reply.count as usize - 1));
+    if last.len < 8 {
+        scatter_status(m, list, reply, code, latency);
+        return;
+    }
+    memory::put32(m, last.at, last.len - 8, code);
+    memory::put32(m, last.at, last.len - 4, latency);
+}
+
+// The same in any ranges.
+fn scatter_status(m: &mut [u8], list: &[u64], reply: Ranges, code: u32, latency: u32)
+    requires { ⌜ Sound (now list) reply ⌝ }
+    ensures { λ r. ⌜ now (m .exit) ≡ statusInReply (some code) latency (rangesOf (now (list .entry)) reply) (now (m .entry)) ⌝ }
+{
+    let bytes = status_bytes(code, latency);
+    ranges::scatter(m, list, reply, last_eight(reply.bytes), &bytes, 0, 8);
 }
 
 // Where the last eight of so many bytes begin.

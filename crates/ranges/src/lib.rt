@@ -66,7 +66,7 @@ fn set_word(list: &mut [u64], i: usize, v: u64)
 }
 
 // The range at place `i` of a list.
-fn range_at(list: &[u64], i: usize) -> Range
+pub fn range_at(list: &[u64], i: usize) -> Range
     requires { ⌜ i < 8589934592 ⌝ }
     ensures { λ r. ⌜ r ≡ rangeIn (now (list .entry)) i ⌝ }
 {
