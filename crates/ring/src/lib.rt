@@ -67,10 +67,17 @@ fn end_at(size: u16) -> u64
     used_at(size) + 4 + 8 * size as u64
 }
 
-// The place of entry `count` in a ring: modulo the size. Modulo 0 it stays as it is.
+// The place of entry `count` in a ring: modulo the size. Modulo 0 it stays as it is. The sizes that queues have
+// need no division.
 fn ring_place(count: u16, size: u16) -> u16
     ensures { λ r. ⌜ r ≡ count % size ⌝ }
 {
+    if size == 256 {
+        return count % 256;
+    }
+    if size == 64 {
+        return count % 64;
+    }
     if size == 0 {
         return count;
     }

@@ -108,6 +108,18 @@ fn play_rest(
     g
 }
 
+// The message in work, where there is one, worked first.
+fn resume_play(m: &mut [u8], list: &[u64], host: &mut [u8], q: Virtqueue, f: Flow) -> Flow
+    requires { ⌜ (q .direction ≡ Direction.Output) × FitFlow (length (now m)) (length (now host)) (now list) f ⌝ }
+    ensures { λ r. ⌜ StepsOn (worked (countersOf output) (virtqueueAs output q))
+        (now (list .entry)) (now (m .entry)) (now (host .entry)) f (now (list .entry)) (now (m .exit)) (now (host .exit)) r ⌝ }
+{
+    if f.message.count == 0 {
+        return f;
+    }
+    flow::work_play(m, list, host, q, f)
+}
+
 // The play queue worked: while the host has room, the message in work and the new entries.
 pub fn play(
     m: &mut [u8],
@@ -123,7 +135,7 @@ pub fn play(
         (now (list .entry)) (now (m .entry)) (now (host .entry)) (freshFlow counters message)
         (now (list .exit)) (now (m .exit)) (now (host .exit)) r ⌝ }
 {
-    let first = flow::work_play(m, list, host, q, begun_flow(counters, message));
+    let first = resume_play(m, list, host, q, begun_flow(counters, message));
     play_rest(m, list, host, q, first, new)
 }
 
@@ -153,6 +165,18 @@ fn capture_rest(
     g
 }
 
+// The message in work, where there is one, worked first.
+fn resume_capture(m: &mut [u8], list: &[u64], host: &[u8], q: Virtqueue, f: Flow) -> Flow
+    requires { ⌜ (q .direction ≡ Direction.Input) × FitFlow (length (now m)) (length (now host)) (now list) f ⌝ }
+    ensures { λ r. ⌜ StepsOn (worked (countersOf input) (virtqueueAs input q))
+        (now (list .entry)) (now (m .entry)) (now (host .entry)) f (now (list .entry)) (now (m .exit)) (now (host .entry)) r ⌝ }
+{
+    if f.message.count == 0 {
+        return f;
+    }
+    flow::work_capture(m, list, host, q, f)
+}
+
 // The capture queue worked: while the host has bytes, the message in work and the new entries.
 pub fn capture(
     m: &mut [u8],
@@ -168,7 +192,7 @@ pub fn capture(
         (now (list .entry)) (now (m .entry)) (now (host .entry)) (freshFlow counters message)
         (now (list .exit)) (now (m .exit)) (now (host .entry)) r ⌝ }
 {
-    let first = flow::work_capture(m, list, host, q, begun_flow(counters, message));
+    let first = resume_capture(m, list, host, q, begun_flow(counters, message));
     capture_rest(m, list, host, q, first, new)
 }
 

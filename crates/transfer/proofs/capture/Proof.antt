@@ -10,18 +10,18 @@ use Rattle.transfer.proofs.capture.Tie as tie
 begun-flow-requires : tie.Need-begun-flow-requires
 begun-flow-requires c κs = search needs
 
-work-capture-requires : tie.Need-work-capture-requires
-work-capture-requires c κs = let s = c .before .before .before .before .before .before in (
+resume-capture-requires : tie.Need-resume-capture-requires
+resume-capture-requires c κs = let s = c .before .before .before .before .before .before in (
   s .pre .0,
   rw (c .begun-flow .ensures) (fresh-fit _ _ _ _ _ (s .pre .1)),
 )
 
 capture-rest-requires : tie.Need-capture-rest-requires
 capture-rest-requires c κs =
-    let at-work-capture = c .before .before .before .before in
-    let at-slice-known = at-work-capture .before .before .before .before .before .before in
+    let at-resume-capture = c .before .before .before .before in
+    let at-slice-known = at-resume-capture .before .before .before .before .before .before in
     let start = at-slice-known .before in
-    let w = at-work-capture .work-capture .ensures in
+    let w = at-resume-capture .resume-capture .ensures in
     (start .pre .0, rw (w .long) (w .fit), start .pre .2)
 
 same-length : tie.Need-same-length
@@ -31,9 +31,9 @@ returns : tie.Need-returns
 unfolding transferRun
 returns c =
     let at-capture-rest = c .before .before .before .before in
-    let at-work-capture = at-capture-rest .before .before .before .before .before in
-    let at-begun-flow = at-work-capture .before in
-    let w = rw (at-begun-flow .begun-flow .ensures) at (at-work-capture .work-capture .ensures) in
+    let at-resume-capture = at-capture-rest .before .before .before .before .before in
+    let at-begun-flow = at-resume-capture .before in
+    let w = rw (at-begun-flow .begun-flow .ensures) at (at-resume-capture .resume-capture .ensures) in
     let t = at-capture-rest .capture-rest .ensures in
     record {
       run = t .run ∙ rw (w .run, loop-whiles);
@@ -50,7 +50,7 @@ capture-spec =
     tie.close
     (tie.spec
     begun-flow-requires
-    work-capture-requires
+    resume-capture-requires
     capture-rest-requires
     same-length
     same-length-2

@@ -10,8 +10,8 @@ use Rattle.transfer.proofs.play.Tie as tie
 begun-flow-requires : tie.Need-begun-flow-requires
 begun-flow-requires c κs = search needs
 
-work-play-requires : tie.Need-work-play-requires
-work-play-requires c κs =
+resume-play-requires : tie.Need-resume-play-requires
+resume-play-requires c κs =
     let at-slice-known = c .before .before .before .before .before .before in
     let start = at-slice-known .before in
     (start .pre .0, rw (c .begun-flow .ensures) (fresh-fit _ _ _ _ _ (start .pre .1)))
@@ -19,10 +19,10 @@ work-play-requires c κs =
 play-rest-requires : tie.Need-play-rest-requires
 play-rest-requires c κs =
     let at-m = c .before .before .before .before .before .before in
-    let at-work-play = at-m .before in
-    let at-slice-known2 = at-work-play .before .before .before .before .before .before in
+    let at-resume-play = at-m .before in
+    let at-slice-known2 = at-resume-play .before .before .before .before .before .before in
     let start = at-slice-known2 .before .before in
-    let w = at-work-play .work-play .ensures in
+    let w = at-resume-play .resume-play .ensures in
     (start .pre .0, rw (w .long, w .host-long) (w .fit), start .pre .2)
 
 same-length : tie.Need-same-length
@@ -36,9 +36,9 @@ unfolding transferRun
 returns c =
     let at-play-rest = c .before .before .before .before .before .before in
     let at-slice-known4 = at-play-rest .before .before .before .before .before .before in
-    let at-work-play = at-slice-known4 .before .before in
-    let at-begun-flow = at-work-play .before in
-    let w = rw (at-begun-flow .begun-flow .ensures) at (at-work-play .work-play .ensures) in
+    let at-resume-play = at-slice-known4 .before .before in
+    let at-begun-flow = at-resume-play .before in
+    let w = rw (at-begun-flow .begun-flow .ensures) at (at-resume-play .resume-play .ensures) in
     let t = at-play-rest .play-rest .ensures in
     record {
       run = t .run ∙ rw (w .run, loop-whiles);
@@ -55,7 +55,7 @@ play-spec =
     tie.close
     (tie.spec
     begun-flow-requires
-    work-play-requires
+    resume-play-requires
     play-rest-requires
     same-length
     same-length-2
