@@ -75,6 +75,16 @@ whole-fits c f =
 
 -- ---- a read
 
+pub read-live : (l : Live) → FitLive l → (offset width : ℕ) → FitLive (readLive l offset width .live)
+unfolding readLive
+read-live l f offset width =
+    record {
+      registers = read-fit (l .registers) (f .registers) (l .config) offset width;
+      four = f .four;
+      states = f .states;
+      backlogs = f .backlogs;
+    }
+
 module _ (l : Live) (p : Parts) (pw cw : List ℕ) (f : Fits l p pw cw) where
   pub read-in : (offset width : ℕ)
       → readCard (cardIn l p pw cw) offset width
@@ -90,28 +100,12 @@ module _ (l : Live) (p : Parts) (pw cw : List ℕ) (f : Fits l p pw cw) where
   unfolding readLive
   read-fits offset width =
       record {
-        live =
-            record {
-              registers = read-fit (l .registers) (f .live .registers) (l .config) offset width;
-              four = f .live .four;
-              states = f .live .states;
-              backlogs = f .live .backlogs;
-            };
+        live = read-live l (f .live) offset width;
         play = f .play;
         capture = f .capture;
         parts = f .parts;
         counts = f .counts;
       }
-
-pub read-live : (l : Live) → FitLive l → (offset width : ℕ) → FitLive (readLive l offset width .live)
-unfolding readLive
-read-live l f offset width =
-    record {
-      registers = read-fit (l .registers) (f .registers) (l .config) offset width;
-      four = f .four;
-      states = f .states;
-      backlogs = f .backlogs;
-    }
 
 -- ---- a write
 
@@ -119,6 +113,32 @@ read-live l f offset width =
 jacks-reset : (b : Bool) (l : List Jack) → map (jackNow true) l ≡ map jackReset (map (jackNow b) l)
 jacks-reset b [] = refl
 jacks-reset b (j ∷ l) = ap (λ (r : List Jack). jackReset j ∷ r) (jacks-reset b l)
+
+affected-live : (e : Effect) (l : Live) → FitLive l → FitLive (affectedLive e l)
+unfolding resetLive basedLive
+affected-live Nothing l f = f
+affected-live Reset l f = record { registers = f .registers; four = refl; states = refl; backlogs = refl }
+affected-live (Based q) l f =
+    record { registers = f .registers; four = length-set (l .queues) q noCounters ∙ f .four; states = f .states; backlogs = f .backlogs }
+affected-live (Rung q) l f = f
+
+pub write-live : (l : Live) → FitLive l → (offset width v : ℕ) → FitLive (writeLive l offset width v .live)
+unfolding writeLive
+write-live l f offset width v =
+    affected-live (writeOf (l .registers) offset width v .effect) (withRegisters (writeOf (l .registers) offset width v .registers) l)
+    (record {
+      registers = write-fit (l .registers) (f .registers) offset width v;
+      four = f .four;
+      states = f .states;
+      backlogs = f .backlogs;
+    })
+
+affected-config : (e : Effect) (l : Live) → affectedLive e l .config ≡ l .config
+unfolding resetLive basedLive
+affected-config Nothing l = refl
+affected-config Reset l = refl
+affected-config (Based q) l = refl
+affected-config (Rung q) l = refl
 
 module _ (p : Parts) (pw cw : List ℕ) where
   -- what an effect makes of the small state it makes of the card
@@ -142,42 +162,15 @@ module _ (p : Parts) (pw cw : List ℕ) where
       ap (λ (c : Card). record { answer = w .answer; rung = rungOf (w .effect); card = c })
       (affected-in (w .effect) (withRegisters (w .registers) l))
 
-  affected-lengths : (e : Effect) (l : Live) → length (l .states) ≡ 2 → length (l .backlogs) ≡ 2 → l .config ≡ configIn p
-      → (length (affectedLive e l .states) ≡ 2) × (length (affectedLive e l .backlogs) ≡ 2) × (affectedLive e l .config ≡ configIn p)
-  unfolding resetLive basedLive
-  affected-lengths Nothing l s b e = (s, b, e)
-  affected-lengths Reset l s b e = (refl, refl, e)
-  affected-lengths (Based q) l s b e = (s, b, e)
-  affected-lengths (Rung q) l s b e = (s, b, e)
-
   pub write-fits : (l : Live) → Fits l p pw cw → (offset width v : ℕ) → Fits (writeLive l offset width v .live) p pw cw
   unfolding writeLive
   write-fits l f offset width v =
       let w = writeOf (l .registers) offset width v in
       let n : Live = affectedLive (w .effect) (withRegisters (w .registers) l) in
-      let k = affected-lengths (w .effect) (withRegisters (w .registers) l) (f .live .states) (f .live .backlogs) (f .counts) in
+      let small = write-live l (f .live) offset width v in
       let g : Fit (cardIn n p pw cw) =
       rw (write-in l offset width v) at (write-card-fit (cardIn l p pw cw) (fits-card l p pw cw f) offset width v) in
-      card-fits n p pw cw g (k .0) (k .1) (k .2)
-
-affected-live : (e : Effect) (l : Live) → FitLive l → FitLive (affectedLive e l)
-unfolding resetLive basedLive
-affected-live Nothing l f = f
-affected-live Reset l f = record { registers = f .registers; four = refl; states = refl; backlogs = refl }
-affected-live (Based q) l f =
-    record { registers = f .registers; four = length-set (l .queues) q noCounters ∙ f .four; states = f .states; backlogs = f .backlogs }
-affected-live (Rung q) l f = f
-
-pub write-live : (l : Live) → FitLive l → (offset width v : ℕ) → FitLive (writeLive l offset width v .live)
-unfolding writeLive
-write-live l f offset width v =
-    affected-live (writeOf (l .registers) offset width v .effect) (withRegisters (writeOf (l .registers) offset width v .registers) l)
-    (record {
-      registers = write-fit (l .registers) (f .registers) offset width v;
-      four = f .four;
-      states = f .states;
-      backlogs = f .backlogs;
-    })
+      card-fits n p pw cw g (small .states) (small .backlogs) (affected-config (w .effect) (withRegisters (w .registers) l) ∙ f .counts)
 
 -- ---- power-up
 
