@@ -82,7 +82,8 @@ positions t = cond (isWell (t .form)) (total (t .request) - 4) 0
 
 -- ---- the claim
 
-pub record Demand3 (d : Description) (len : ℕ) {c last : Card} (ks : List Call) (ts : List Told) (r : Runs c ks ts last) (h : History) : Type 0 where
+pub record Demand3 (d : Description) (len : ℕ) {c last : Card} (ks : List Call) (ts : List Told) (r : Runs c ks ts last) (h : History)
+    : Type 0 where
   -- `h` is the account's history after these calls
   pub history : h ≡ after account (start account d len) ks .play
   pub calls : EachCall r (start account d len)

@@ -19,7 +19,8 @@ use Rattle.registers.specs.declared.Registers.{Registers}
 use Rattle.registers.specs.declared.Effect.{Effect}
 use Rattle.registers.specs.declared.Effect.the-variants.{Nothing, Reset, Based, Rung}
 use Rattle.registers.proofs.Keeps.{power-on-fit, read-fit, write-fit}
-use Rattle.card.specs.Card.{cardOf, partsAtPower, noParts, noMessage, noCounters, noStream, freshStream, jackAtPower, withRegisters, withCounters, configOf}
+use Rattle.card.specs.Card.{cardOf, partsAtPower, noParts, noMessage, noCounters, noStream, freshStream, jackAtPower}
+use Rattle.card.specs.Card.{withRegisters, withCounters, configOf}
 use Rattle.card.specs.Fit.{Fit, FitParts, FitMessage, FitQueue}
 use Rattle.card.specs.Rules.{readCard, writeCard, affected, resetCard, basedCard, jackReset, streamReset, partsReset}
 use Rattle.card.specs.declared.Card.{Card}
@@ -80,7 +81,8 @@ pub parts-at-power-fit : (d : Description) → lawful d ≡ true → length (d .
 unfolding lawful lawfulCounts
 parts-at-power-fit d h j m s =
     let counts = and-eq-true-iff _ _ .0 (and-eq-true-iff _ _ .0 (and-eq-true-iff _ _ .0 h .0) .0) .0 in
-    let c = and-eq-true-iff (leb (d .«jack_count») 4 && leb (d .«map_count») 4 && eqb (d .«output_count») 1) (leb (d .«input_count») 1) .0 counts in
+    let c =
+    and-eq-true-iff (leb (d .«jack_count») 4 && leb (d .«map_count») 4 && eqb (d .«output_count») 1) (leb (d .«input_count») 1) .0 counts in
     let b = and-eq-true-iff (leb (d .«jack_count») 4 && leb (d .«map_count») 4) (eqb (d .«output_count») 1) .0 (c .0) in
     let a = and-eq-true-iff (leb (d .«jack_count») 4) (leb (d .«map_count») 4) .0 (b .0) in
     record {

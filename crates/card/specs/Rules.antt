@@ -25,7 +25,8 @@ use Rattle.card.specs.declared.WriteAnswer.{WriteAnswer}
 
 unfoldable pub poweredOf : Description → ℕ → Powered
 poweredOf d len =
-    cond (lawful d) (record { answer = done; card = cardOf (partsAtPower d) len }) (record { answer = badDescription; card = cardOf noParts 0 })
+    cond (lawful d) (record { answer = done; card = cardOf (partsAtPower d) len })
+    (record { answer = badDescription; card = cardOf noParts 0 })
 
 -- ---- a read
 

@@ -46,7 +46,8 @@ module _ (l n : Live) (p : Parts) (pw cw m : List ℕ) (f : Fits l p pw cw) wher
 
   pub read-does : (offset width answer value : ℕ)
       → _≡_ {A = LiveRead} (record { answer = answer; value = value; live = n }) (readLive l offset width)
-      → Does before (record { asked = ReadRegister offset width; lent = m }) (toldAll (plain answer) value nothingRung 0 [] [] m) (cardIn n p pw cw)
+      → Does before (record { asked = ReadRegister offset width; lent = m }) (toldAll (plain answer) value nothingRung 0 [] [] m)
+      (cardIn n p pw cw)
       × Fits n p pw cw
   read-does offset width answer value e =
       let g = fits-card l p pw cw f in

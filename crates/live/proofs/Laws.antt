@@ -22,8 +22,8 @@ use Rattle.card.specs.declared.Powered.{Powered}
 use Rattle.card.specs.declared.ReadAnswer.{ReadAnswer}
 use Rattle.card.specs.declared.Stream.{Stream}
 use Rattle.card.specs.declared.WriteAnswer.{WriteAnswer}
-use Rattle.live.specs.Live.{jackNow, partsNow, streamAt, cardIn, configIn, liveOf, keptLive, withRegisters, resetLive, basedLive, affectedLive}
-use Rattle.live.specs.Live.{readLive, writeLive, poweredBoard, FitLive, Fits, Ready}
+use Rattle.live.specs.Live.{jackNow, partsNow, streamAt, cardIn, configIn, liveOf, keptLive, withRegisters, resetLive, basedLive}
+use Rattle.live.specs.Live.{affectedLive, readLive, writeLive, poweredBoard, FitLive, Fits, Ready}
 use Rattle.description.specs.Lawful.{lawful}
 use Rattle.description.specs.declared.Description.{Description}
 use Rattle.live.specs.declared.Live.{Live}

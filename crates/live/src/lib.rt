@@ -6,6 +6,8 @@ ghost use mathlib.Core.Path.{_≡_};
 ghost use mathlib.Core.Bool.{true};
 ghost use mathlib.Core.List.{map};
 ghost use Prim.Native.Nat.{_<_};
+ghost use lib.ListN.{set};
+ghost use Rattle.card.specs.Card.{noCounters};
 ghost use Rattle.card.specs.Fit.{Fit};
 ghost use Rattle.card.specs.Rules.{readCard, writeCard};
 ghost use Rattle.registers.specs.Rules.{raised};
@@ -120,26 +122,56 @@ fn reset(live: Live) -> Live
     next
 }
 
+// The counters of the queues, those of `queue` cleared: no index that is not known, as for a page.
+fn without(queues: [Counters; 4], queue: u16) -> [Counters; 4]
+    requires { ⌜ queue < 4 ⌝ }
+    ensures { λ r. ⌜ r ≡ set queues queue noCounters ⌝ }
+{
+    let none = Counters {
+        taken: 0,
+        completed: 0,
+    };
+    let mut next = queues;
+    match queue {
+        registers::CONTROL_QUEUE => {
+            next[0] = none;
+            next
+        }
+        registers::EVENT_QUEUE => {
+            next[1] = none;
+            next
+        }
+        registers::PLAY_QUEUE => {
+            next[2] = none;
+            next
+        }
+        _ => {
+            next[3] = none;
+            next
+        }
+    }
+}
+
 // After a base write of `queue`, but for the registers.
 fn based(live: Live, queue: u16) -> Live
     requires { ⌜ queue < 4 ⌝ }
     ensures { λ r. ⌜ r ≡ basedLive queue live ⌝ }
 {
     let mut next = live;
-    let at = queue as usize;
-    next.queues[at] = Counters {
-        taken: 0,
-        completed: 0,
-    };
-    if queue == 2 {
-        next.play = card::no_message();
-        return next;
+    let queues = live.queues;
+    let cleared = without(queues, queue);
+    next.queues = cleared;
+    match queue {
+        registers::PLAY_QUEUE => {
+            next.play = card::no_message();
+            next
+        }
+        registers::CAPTURE_QUEUE => {
+            next.capture = card::no_message();
+            next
+        }
+        _ => next,
     }
-    if queue == 3 {
-        next.capture = card::no_message();
-        return next;
-    }
-    next
 }
 
 // A write of `value`, `width` bytes wide, to the registers at `offset`.

@@ -1,4 +1,6 @@
 -- A base write and a notification name one of the four queues.
+use mathlib.Core.Path.{_≡_}
+use mathlib.Core.Logic.{_≢_}
 use mathlib.Core.Bool.{_&&_, not, and-eq-true-iff}
 use Prim.Native.Nat.{ℕ, _^_, _<_}
 use native.Mathlib.Omega.{arith}
@@ -15,6 +17,10 @@ use Rattle.register_map.specs.declared.Register.the-variants.{Status, Isr, Devi
 use Rattle.registers.specs.declared.Registers.{Registers}
 use Rattle.registers.specs.declared.Written.{Written}
 use Rattle.registers.proofs.Keeps.{by-cond}
+
+-- of four numbers, the one that is none of the first three
+pub fourth : (q : ℕ) → q < 4 → q ≢ 0 → q ≢ 1 → q ≢ 2 → q ≡ 3
+fourth q f a b c = omega arith
 
 -- the queue that an effect names, and 0 where it names none
 abbrev pub queueNamed : Effect → ℕ

@@ -2,6 +2,7 @@
 // hand the next state back. What a write means for the rest of the card is told as an effect.
 ghost use mathlib.Core.Path.{_≡_};
 ghost use Prim.Native.Nat.{_+_, _*_, _/_, _%_, _<_};
+ghost use lib.ListN.{getD, set};
 ghost use Rattle.registers.specs.Rules.{readOf, writeOf, powerOn, live, raised, signalled, broken};
 ghost use Rattle.registers.specs.Rules.{refusedRead, valueRead, pageRead, isrRead, configBytes, configValue};
 ghost use Rattle.registers.specs.Rules.{refusedWrite, wrote, fitting, wroteFeatures, wrotePage, wroteSelector, wroteNotify};
@@ -193,6 +194,45 @@ fn wrote_with(r: Registers, effect: Effect) -> Written
     }
 }
 
+// The page of a queue, by its number: no index that is not known, so that the pages can stand in machine registers.
+fn page_of(pages: [PageNumber; 4], queue: u16) -> PageNumber
+    requires { ⌜ queue < 4 ⌝ }
+    ensures { λ r. ⌜ r ≡ getD pages queue (record { 0 = 0 }) ⌝ }
+{
+    match queue {
+        CONTROL_QUEUE => pages[0],
+        EVENT_QUEUE => pages[1],
+        PLAY_QUEUE => pages[2],
+        _ => pages[3],
+    }
+}
+
+// The pages with another one of a queue.
+fn with_page(pages: [PageNumber; 4], queue: u16, page: PageNumber) -> [PageNumber; 4]
+    requires { ⌜ queue < 4 ⌝ }
+    ensures { λ r. ⌜ r ≡ set pages queue page ⌝ }
+{
+    let mut next = pages;
+    match queue {
+        CONTROL_QUEUE => {
+            next[0] = page;
+            next
+        }
+        EVENT_QUEUE => {
+            next[1] = page;
+            next
+        }
+        PLAY_QUEUE => {
+            next[2] = page;
+            next
+        }
+        _ => {
+            next[3] = page;
+            next
+        }
+    }
+}
+
 impl Registers {
     // The file at power-up and after a reset.
     pub fn power_on() -> Registers
@@ -286,11 +326,11 @@ impl Registers {
     fn page(self) -> u32
         ensures { λ r. ⌜ r ≡ pageRead self ⌝ }
     {
-        let queue = self.selector as usize;
-        if 4 <= queue {
+        if 4 <= self.selector {
             return 0;
         }
-        let page = self.pages[queue];
+        let pages = self.pages;
+        let page = page_of(pages, self.selector);
         page.number()
     }
 
@@ -348,8 +388,9 @@ impl Registers {
         if has_bit(self.status, 2) {
             return wrote_with(self, Effect::Nothing);
         }
-        let at = queue as usize;
-        self.pages[at] = PageNumber::of(value as u32);
+        let pages = self.pages;
+        let next = with_page(pages, queue, PageNumber::of(value as u32));
+        self.pages = next;
         wrote_with(self, Effect::Based(queue))
     }
 

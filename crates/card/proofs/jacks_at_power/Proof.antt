@@ -32,8 +32,11 @@ jack-at-power-requires-4 c κs = search needs
 
 returns : tie.Need-returns
 returns c =
-    rw (c .jack-at-power4 .ensures, c .before .before .jack-at-power3 .ensures, c .before .before .before .before .jack-at-power2 .ensures, c .before .before .before .before .before .before .jack-at-power .ensures)
-    (map-of-four jackAtPower noJackInfo (c .before .before .before .before .before .before .before .before .args .t1) (omega arith))
+    let third = c .before .before in
+    let second = third .before .before in
+    let first = second .before .before in
+    rw (c .jack-at-power4 .ensures, third .jack-at-power3 .ensures, second .jack-at-power2 .ensures, first .jack-at-power .ensures)
+    (map-of-four jackAtPower noJackInfo (first .before .before .args .t1) (omega arith))
 
 pub jacks-at-power-spec : {M : Type 1} → statement M
 jacks-at-power-spec =

@@ -37,7 +37,8 @@ returns c =
     let four-jacks : length (d .jacks) ≡ 4 = sym (length-map (d .jacks) _) ∙ from-jacks .0 .1 .0 .1 in
     let four-maps : length (d .maps) ≡ 4 = sym (length-map (d .maps) _) ∙ from-jacks .1 .0 .1 .0 .1 in
     let two-streams : length (d .streams) ≡ 2 = sym (length-map (d .streams) _) ∙ from-jacks .1 .1 .0 .1 .0 .1 in
-    rw (c .streams-at-power .ensures, c .before .jacks-at-power .ensures) (refl, parts-at-power-fit d (s .pre) four-jacks four-maps two-streams)
+    rw (c .streams-at-power .ensures, c .before .jacks-at-power .ensures)
+    (refl, parts-at-power-fit d (s .pre) four-jacks four-maps two-streams)
 
 pub parts-at-power-spec : {M : Type 1} → statement M
 parts-at-power-spec =

@@ -19,7 +19,11 @@ card-of-requires c κs = search needs
 returns : tie.Need-returns
 unfolding poweredOf
 returns c = (
-  rw (sym (c .before .before .before .is-lawful .ensures) ∙ not-true _ (c .before .before .if1 .taken), c .card-of .ensures, c .before .no-parts .ensures),
+  rw (
+    sym (c .before .before .before .is-lawful .ensures) ∙ not-true _ (c .before .before .if1 .taken),
+    c .card-of .ensures,
+    c .before .no-parts .ensures,
+  ),
   rw (c .card-of .ensures, c .before .no-parts .ensures) (card-of-fit _ 0 no-parts-fit),
 )
 
@@ -32,7 +36,11 @@ card-of-requires-2 c κs = search needs
 returns-2 : tie.Need-returns-2
 unfolding poweredOf
 returns-2 c = (
-  rw (sym (c .before .before .before .is-lawful .ensures) ∙ not-false _ (c .before .before .if1 .left), c .card-of2 .ensures, c .before .parts-at-power .ensures .0),
+  rw (
+    sym (c .before .before .before .is-lawful .ensures) ∙ not-false _ (c .before .before .if1 .left),
+    c .card-of2 .ensures,
+    c .before .parts-at-power .ensures .0,
+  ),
   rw (c .card-of2 .ensures) (card-of-fit _ _ (c .before .parts-at-power .ensures .1)),
 )
 

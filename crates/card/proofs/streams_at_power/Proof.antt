@@ -19,7 +19,10 @@ fresh-requires-2 : tie.Need-fresh-requires-2
 fresh-requires-2 c κs = search needs
 
 returns : tie.Need-returns
-returns c = rw (c .fresh2 .ensures, c .before .before .fresh .ensures) (map-of-two freshStream (noStream .info) (c .before .before .before .before .args .t1) (omega arith))
+returns c =
+    let first = c .before .before in
+    rw (c .fresh2 .ensures, first .fresh .ensures)
+    (map-of-two freshStream (noStream .info) (first .before .before .args .t1) (omega arith))
 
 pub streams-at-power-spec : {M : Type 1} → statement M
 streams-at-power-spec =

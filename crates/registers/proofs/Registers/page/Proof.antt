@@ -5,25 +5,19 @@ use Rattle.registers.specs.Rules.{pageRead}
 use Rattle.registers.proofs.Registers.page.Statement.{statement}
 use Rattle.registers.proofs.Registers.page.Tie as tie
 
-cast-queue : tie.Need-cast-queue
-cast-queue c = search needs
-
 returns : tie.Need-returns
 unfolding pageRead
 returns c = rw (le-ltb _ _ (c .if1 .taken))
 
-mul-page : tie.Need-mul-page
-mul-page c = search needs
-
-element-copy-out-page : tie.Need-element-copy-out-page
-element-copy-out-page c = search needs
+page-of-requires : tie.Need-page-of-requires
+page-of-requires c κs = c .before .if1 .left
 
 number-requires : tie.Need-number-requires
 number-requires c κs = search needs
 
 returns-2 : tie.Need-returns-2
 unfolding pageRead
-returns-2 c = rw (lt-ltb _ _ (c .before .before .if1 .left), c .number .ensures)
+returns-2 c = rw (lt-ltb _ _ (c .before .before .before .if1 .left), c .number .ensures, c .before .page-of .ensures)
 
 pub page-spec : {M : Type 1} → statement M
-page-spec = tie.close (tie.spec cast-queue returns mul-page element-copy-out-page number-requires returns-2)
+page-spec = tie.close (tie.spec returns page-of-requires number-requires returns-2)

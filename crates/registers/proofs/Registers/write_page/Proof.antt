@@ -36,20 +36,14 @@ returns-3 c =
     )
     (c .wrote-with2 .ensures)
 
-cast-at : tie.Need-cast-at
-cast-at c = search needs
-
 cast-of : tie.Need-cast-of
 cast-of c = search needs
 
 of-requires : tie.Need-of-requires
 of-requires c κs = search needs
 
-mul-t16 : tie.Need-mul-t16
-mul-t16 c = search needs
-
-element-set-from-self : tie.Need-element-set-from-self
-element-set-from-self c = search needs
+with-page-requires : tie.Need-with-page-requires
+with-page-requires c κs = c .before .before .before .before .if2 .left
 
 wrote-with-requires-3 : tie.Need-wrote-with-requires-3
 wrote-with-requires-3 c κs = search needs
@@ -57,13 +51,14 @@ wrote-with-requires-3 c κs = search needs
 returns-4 : tie.Need-returns-4
 unfolding wrotePage
 returns-4 c =
-    let at-of = c .before in
-    let at-if3 = at-of .before in
+    let at-of = c .before .before in
+    let at-if3 = at-of .before .before in
     rw (
       lt-ltb _ _ (at-if3 .before .before .before .if1 .left),
       lt-ltb _ _ (at-if3 .before .before .if2 .left),
       sym (at-if3 .before .has-bit .ensures) ∙ at-if3 .if3 .left,
       ← (at-of .of .ensures),
+      ← (c .before .with-page .ensures),
     )
     (c .wrote-with3 .ensures)
 
@@ -78,10 +73,8 @@ write-page-spec =
     has-bit-requires
     wrote-with-requires-2
     returns-3
-    cast-at
     cast-of
     of-requires
-    mul-t16
-    element-set-from-self
+    with-page-requires
     wrote-with-requires-3
     returns-4)
