@@ -1,6 +1,6 @@
 -- Laws of the access program: bytes from a place on, and the card's description.
 use mathlib.Core.Path.{_≡_, refl}
-use mathlib.Core.List.{List, [], _++_, foldl}
+use mathlib.Core.List.{List, [], _++_}
 use mathlib.Core.Bool.{true}
 use Prim.Native.Nat.{ℕ, _+_, _≤_, _<_}
 use native.Mathlib.Numerals.{add-one}
@@ -19,12 +19,6 @@ use Rattle.access_run.specs.declared.Session.{Session}
 -- ---- the bytes from a place on
 
 module _ (s : Session) (t : List ℕ) (i : ℕ) where
-  pub fold-more : i < length t → foldl fed s (drop i t) ≡ foldl fed (fed s (getD t i 0)) (drop (i + 1) t)
-  fold-more h = rw (add-one, drop-cons t i 0 h)
-
-  pub fold-end : length t ≤ i → foldl fed s (drop i t) ≡ s
-  fold-end h = rw (drop-of-length-le t h)
-
   pub text-more : i < length t → blockText s (drop i t) ≡ fedText s (getD t i 0) ++ blockText (fed s (getD t i 0)) (drop (i + 1) t)
   unfolding blockText
   text-more h = rw (add-one, drop-cons t i 0 h)

@@ -1,23 +1,14 @@
 -- Laws of texts that are put together byte by byte.
 use mathlib.Core.Path.{_≡_, refl, sym, _∙_, subst}
 use mathlib.Core.List.{List, [], _∷_, _++_, foldl, append-nil, append-assoc}
-use Prim.Native.Nat.{ℕ, _+_, _≤_, _<_}
+use Prim.Native.Nat.{ℕ, _+_, _≤_}
 use native.Mathlib.Numerals.{add-one}
 use native.Mathlib.Omega.{arith}
 use borrow.Author.Tests.{lt-ltb}
-use lib.ListN.{length, getD, drop, set, drop-of-length-le, length-set}
-use lib.Seq.{drop-cons, take-suc-set}
+use lib.ListN.{length, set, length-set}
+use lib.Seq.{take-suc-set}
 use Rattle.latency.specs.Text.{noText, withByte, collected, kept}
 use Rattle.latency.specs.declared.text.Text.{Text}
-
--- ---- a fold over the bytes from a place on
-
-module _ {A : Type 0} (f : A → ℕ → A) (a : A) (s : List ℕ) (i : ℕ) where
-  pub fold-more : i < length s → foldl f a (drop i s) ≡ foldl f (f a (getD s i 0)) (drop (i + 1) s)
-  fold-more h = rw (add-one, drop-cons s i 0 h)
-
-  pub fold-end : length s ≤ i → foldl f a (drop i s) ≡ a
-  fold-end h = rw (drop-of-length-le s h)
 
 -- ---- a text that fits is kept whole
 

@@ -1,14 +1,13 @@
 -- Laws of printed text: bytes one behind the other, that a text keeps them all, a fold byte by byte, HEX.
 use mathlib.Core.Path.{_≡_, refl}
-use mathlib.Core.List.{List, [], _∷_, _++_, foldl}
+use mathlib.Core.List.{List, [], _∷_, _++_}
 use mathlib.Core.Bool.{Bool, true, false, cond}
-use Prim.Native.Nat.{ℕ, zero, suc, _+_, _-_, _/_, _%_, _≤_, _<_}
+use Prim.Native.Nat.{ℕ, zero, suc, _+_, _-_, _/_, _%_, _≤_}
 use native.Mathlib.Numerals.{add-one}
 use native.Mathlib.Omega.{arith}
 use borrow.Author.Tests.{leb-true}
 use lib.Dec.{eqb, leb}
-use lib.ListN.{length, getD, set, drop, drop-of-length-le, length-append, length-replicate, List·getD-eq-default}
-use lib.Seq.{drop-cons}
+use lib.ListN.{length, getD, set, length-append, length-replicate, List·getD-eq-default}
 use Rattle.decimal.specs.Write.{fieldOf, Put}
 use Rattle.decimal.proofs.Writing.{Rest, put-then, put-byte, put-back, rest-more, field-short}
 use Rattle.replay_text.specs.Text.{
@@ -93,15 +92,6 @@ module _ (line answer : ℕ) where
       kept-text _
       (simp length-append
       (omega (arith, field-short line 32, field-short answer 32, field-short value 32, queue-short rung 32, field-short irq 10)))
-
--- ---- a fold over the bytes from a place on
-
-module _ {A : Type 0} (f : A → ℕ → A) (a : A) (s : List ℕ) (i : ℕ) where
-  pub fold-more : i < length s → foldl f a (drop i s) ≡ foldl f (f a (getD s i 0)) (drop (i + 1) s)
-  fold-more h = rw (add-one, drop-cons s i 0 h)
-
-  pub fold-end : length s ≤ i → foldl f a (drop i s) ≡ a
-  fold-end h = rw (drop-of-length-le s h)
 
 -- ---- HEX
 

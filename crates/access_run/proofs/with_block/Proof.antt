@@ -9,7 +9,8 @@ use Rattle.card.specs.Fit.{Fit}
 use Rattle.decimal.proofs.Writing.{Rest, rest-first, rest-more, rest-none}
 use Rattle.access_run.specs.Session.{fed, blockText}
 use Rattle.access_run.specs.declared.Session.{Session}
-use Rattle.access_run.proofs.Laws.{fold-more, fold-end, text-more, text-end}
+use Rattle.decimal.proofs.Folds.{fold-more, fold-end}
+use Rattle.access_run.proofs.Laws.{text-more, text-end}
 use Rattle.access_run.proofs.with_block.Statement.{statement}
 use Rattle.access_run.proofs.with_block.Tie as tie
 
@@ -68,7 +69,7 @@ loop-again c =
       long = f .kept .1 .1 .0 ∙ l .inv .long;
       room = omega (arith, f .ensures .1, l .inv .room);
       fit = f .ensures .0 .fit;
-      session = rw (f .ensures .0 .session, ← (fold-more (l .turn .session) bytes (l .i) more)) (l .inv .session);
+      session = rw (f .ensures .0 .session, ← (fold-more fed (l .turn .session) bytes (l .i) more)) (l .inv .session);
       text =
           rw (f .ensures .0 .session)
           (rest-more _ (f .ensures .0 .text) (rw (text-more (l .turn .session) bytes (l .i) more) at (l .inv .text)));
@@ -82,7 +83,7 @@ returns c =
     let l = c .before .loop in
     let bytes = c .before .before .before .before .args .bytes .now in (
       record {
-        session = sym (fold-end (l .turn .session) bytes (l .i) (omega arith)) ∙ l .inv .session;
+        session = sym (fold-end fed (l .turn .session) bytes (l .i) (omega arith)) ∙ l .inv .session;
         text = rest-none (rw (text-end (l .turn .session) bytes (l .i) (omega arith)) at (l .inv .text));
         fit = l .inv .fit;
       },

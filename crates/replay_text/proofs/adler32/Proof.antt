@@ -4,7 +4,7 @@ use mathlib.Core.List.{foldl}
 use Prim.Native.Nat.{_-_, _<_, _≤_}
 use lib.ListN.{length, drop}
 use Rattle.replay_text.specs.Adler.{step}
-use Rattle.replay_text.proofs.Laws.{fold-more, fold-end}
+use Rattle.decimal.proofs.Folds.{fold-more, fold-end}
 use native.Mathlib.Omega.{arith}
 use Rattle.replay_text.proofs.adler32.Statement.{statement}
 use Rattle.replay_text.proofs.adler32.Tie as tie

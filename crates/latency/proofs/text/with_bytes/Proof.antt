@@ -5,7 +5,7 @@ use native.Mathlib.Omega.{arith}
 use lib.ListN.{length, drop}
 use mathlib.Core.List.{foldl}
 use Rattle.latency.specs.Text.{withByte}
-use Rattle.latency.proofs.Texts.{fold-more, fold-end}
+use Rattle.decimal.proofs.Folds.{fold-more, fold-end}
 use Rattle.latency.proofs.text.with_bytes.Statement.{statement}
 use Rattle.latency.proofs.text.with_bytes.Tie as tie
 
