@@ -2,11 +2,14 @@
 -- lengths of its arrays (`good`: its fields one after the other).
 use mathlib.Core.Path.{_≡_, _∙_, sym, refl}
 use borrow.Author.Needs.{needs}
-use lib.ListN.{length}
 use Rattle.card.proofs.Keeps.{parts-at-power-fit}
 use lib.ListN.{length, length-map}
 use Rattle.card.proofs.parts_at_power.Statement.{statement}
 use Rattle.card.proofs.parts_at_power.Tie as tie
+
+-- from behind the last call to the start
+abbrev start : tie.After-streams-at-power → tie.Start
+start c = c .before .before .before .before .before .before .before .before .before
 
 cast-t5 : tie.Need-cast-t5
 cast-t5 c = search needs
@@ -31,7 +34,7 @@ streams-at-power-requires c κs = search needs
 
 returns : tie.Need-returns
 returns c =
-    let s = c .before .before .before .before .before .before .before .before .before in
+    let s = start c in
     let d = s .args .d in
     let from-jacks = s .good .0 .1 .1 .1 .1 .1 .1 in
     let four-jacks : length (d .jacks) ≡ 4 = sym (length-map (d .jacks) _) ∙ from-jacks .0 .1 .0 .1 in
