@@ -12,7 +12,6 @@ use Rattle.decimal.specs.Read.{isDigit, digits, value, isNumber, numberAt, byNu
 use Rattle.decimal.specs.declared.Number.the-variants.{Is, None}
 use Rattle.decimal.proofs.Reading.{value-below}
 use Rattle.argument.specs.Number.{numberOf}
-use Rattle.argument.specs.declared.Argument.{Argument}
 use Rattle.argument.specs.declared.Argument.the-variants.{Number, Other}
 
 digits-short : (s : List ℕ) → length (digits s) ≤ length s

@@ -2,7 +2,7 @@
 -- RELEASE of the rest, a reset. All four histories are shown after each of them; and order 5's latency, in the entries and in memory.
 use mathlib.Core.Path.{_≡_, refl}
 use mathlib.Core.List.{List, [], _∷_, _++_, map}
-use mathlib.Core.Option.{none, some}
+use mathlib.Core.Option.{some}
 use Prim.Native.Nat.{ℕ}
 use lib.ListN.{take, drop, replicate}
 use Rattle.card.specs.Card.{runningState}

@@ -1,33 +1,27 @@
 -- Each entry that C calls does what demand 3 is proved of: what its contract says of the pieces of a card, memory and host buffer is a step
 -- of a list of calls (`Does`) on the card that the pieces stand for, so `demand-3` holds of any list of calls through the header. Power-up
 -- leaves pieces of a card from which such a list starts.
-use mathlib.Core.Path.{_≡_, _∙_, refl, sym, ap}
-use mathlib.Core.Bool.{true}
+use mathlib.Core.Path.{_≡_, _∙_, sym, ap}
 use mathlib.Core.List.{List, []}
 use Prim.Native.Nat.{ℕ}
-use lib.ListN.{length, take}
-use Rattle.description.specs.Lawful.{lawful}
-use Rattle.description.specs.declared.Description.{Description}
-use Rattle.card.specs.Fit.{Fit}
-use Rattle.card.specs.Rules.{poweredOf, readCard, writeCard}
+use lib.ListN.{take}
+use Rattle.card.specs.Rules.{readCard, writeCard}
 use Rattle.card.specs.declared.Card.{Card}
 use Rattle.card.specs.declared.Parts.{Parts}
 use Rattle.card.specs.declared.ReadAnswer.{ReadAnswer}
 use Rattle.card.specs.declared.WriteAnswer.{WriteAnswer}
 use Rattle.live.proofs.Laws.{fits-card, read-in, read-fits, write-in, write-fits}
-use Rattle.live.specs.Live.{cardIn, readLive, writeLive, poweredBoard, Fits, Ready}
+use Rattle.live.specs.Live.{cardIn, readLive, writeLive, Fits}
 use Rattle.live.specs.declared.Board.{Board}
 use Rattle.live.specs.declared.Live.{Live}
 use Rattle.live.specs.declared.LiveRead.{LiveRead}
 use Rattle.live.specs.declared.LiveWrite.{LiveWrite}
-use Rattle.meaning.specs.Card.{deviceOf, stepOf, leaves}
+use Rattle.meaning.specs.Card.{deviceOf}
 use Rattle.meaning.proofs.Steps.{read-step, write-step}
 use Rattle.message.specs.declared.Direction.the-variants.{Output, Input}
 use Rattle.rules.specs.Calls.{ReadRegister, WriteRegister, Control, Play, Capture, Event, Step, toldAll, nothingRung}
 use Rattle.registers.specs.Answers.{plain}
 use Rattle.rules.specs.Device as rules
-use Rattle.event.specs.Event.{TellsOn}
-use Rattle.event.specs.declared.EventAnswer.{EventAnswer}
 use Rattle.pcm.specs.Entry.{TransfersOn}
 use Rattle.pcm.specs.declared.TransferAnswer.{TransferAnswer}
 use Rattle.entries.specs.Entries.{ControlsOn, EventsOn, answered}

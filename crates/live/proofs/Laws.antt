@@ -2,27 +2,25 @@
 use mathlib.Core.Path.{_≡_, refl, sym, ap, _∙_}
 use mathlib.Core.Bool.{Bool, true, false, cond}
 use mathlib.Core.List.{List, [], _∷_, map}
-use Prim.Native.Nat.{ℕ, _-_, _<_}
+use Prim.Native.Nat.{ℕ, _-_}
 use native.Mathlib.Omega.{arith}
-use lib.Dec.{eqb}
-use lib.ListN.{length, getD, set, replicate, length-set, length-map}
+use lib.ListN.{length, getD, replicate, length-set}
 use Rattle.registers.proofs.Keeps.{read-fit, write-fit}
 use Rattle.registers.specs.Answers.{done, badDescription}
-use Rattle.registers.specs.Rules.{readOf, writeOf}
+use Rattle.registers.specs.Rules.{writeOf}
 use Rattle.registers.specs.declared.Effect.{Effect}
 use Rattle.registers.specs.declared.Effect.the-variants.{Nothing, Reset, Based, Rung}
 use Rattle.card.proofs.Keeps.{write-card-fit, no-queue-fit}
 use Rattle.card.specs.Card.{noStream, noCounters, noMessage, noParts, partsAtPower, cardOf}
 use Rattle.card.specs.Fit.{Fit}
-use Rattle.card.specs.Rules.{poweredOf, readCard, writeCard, resetCard, basedCard, affected, rungOf, jackReset, streamReset}
+use Rattle.card.specs.Rules.{poweredOf, readCard, writeCard, resetCard, basedCard, affected, rungOf, jackReset}
 use Rattle.card.specs.declared.Card.{Card}
 use Rattle.card.specs.declared.Jack.{Jack}
 use Rattle.card.specs.declared.Parts.{Parts}
 use Rattle.card.specs.declared.Powered.{Powered}
 use Rattle.card.specs.declared.ReadAnswer.{ReadAnswer}
-use Rattle.card.specs.declared.Stream.{Stream}
 use Rattle.card.specs.declared.WriteAnswer.{WriteAnswer}
-use Rattle.live.specs.Live.{jackNow, partsNow, streamAt, cardIn, configIn, liveOf, keptLive, withRegisters, resetLive, basedLive}
+use Rattle.live.specs.Live.{jackNow, partsNow, cardIn, configIn, liveOf, keptLive, withRegisters, resetLive, basedLive}
 use Rattle.live.specs.Live.{affectedLive, readLive, writeLive, poweredBoard, FitLive, Fits, Ready}
 use Rattle.description.specs.Lawful.{lawful}
 use Rattle.description.specs.declared.Description.{Description}

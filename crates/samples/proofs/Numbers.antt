@@ -8,7 +8,7 @@ use native.Mathlib.Omega.{arith}
 use borrow.Author.Tests.{lt-ltb, le-ltb, ltb-true, ltb-false}
 use lib.Arith.{digits-div}
 use lib.Dec.{ltb}
-use lib.IntN.{ℤ, pos, negsuc, subℕ, _*ℤ_}
+use lib.IntN.{pos, negsuc, subℕ, _*ℤ_}
 use Rattle.samples.specs.Values.{signed, floorDiv, bits}
 
 pub below-or-not : (a b : ℕ) → (a < b) ⊎ (b ≤ a)

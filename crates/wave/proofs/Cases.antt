@@ -1,13 +1,13 @@
 -- Order 3's numbers, those on each side of the largest length, and that none wraps; and the outcomes of writing, case by case.
 use mathlib.Core.Path.{_≡_, _∙_, refl, sym, ap}
 use mathlib.Core.List.{List, _++_}
-use Prim.Native.Nat.{ℕ, _+_, _*_, _/_, _≤_, _<_}
+use Prim.Native.Nat.{ℕ, _+_, _/_, _≤_}
 use native.Mathlib.Nat.{mul-le-mul, zero-add}
 use native.Mathlib.Omega.{arith}
 use lib.ListN.{length, drop}
 use Rattle.formats.specs.Widths.{physicalBits}
-use Rattle.wave.specs.Lists.{listed, bitsOf, hzOf, known, Known}
-use Rattle.wave.specs.File.{fileOf, fileLen, byteRate, blockAlign}
+use Rattle.wave.specs.Lists.{listed, bitsOf, hzOf, known}
+use Rattle.wave.specs.File.{fileOf, fileLen, blockAlign}
 use Rattle.wave.specs.Outcome.{judged, laid, placed, outcome, writtenOf}
 use Rattle.wave.specs.Promise.{Writing, Cases}
 use Rattle.wave.proofs.Lists.{bits-bound, hz-bound}

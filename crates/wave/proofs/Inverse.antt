@@ -2,24 +2,22 @@
 -- that it is the one that the writer would write.
 use mathlib.Core.Path.{_≡_, _∙_, refl, sym, ap}
 use mathlib.Core.Bool.{Bool, true, false, cond, _||_}
-use mathlib.Core.Logic.{_⊎_, inl, inr, ⊎-elim}
+use mathlib.Core.Logic.{_⊎_, inl, inr}
 use mathlib.Core.List.{List, [], _∷_, _++_, append-assoc}
 use Prim.Native.Nat.{ℕ, zero, suc, _+_, _-_, _%_, _≤_, _<_}
-use native.Mathlib.Nat.{zero-add}
 use native.Mathlib.Omega.{arith}
-use borrow.Author.Tests.{le-ltb, eq-eqb, ne-eqb, eqb-true, eqb-false, ltb-false}
+use borrow.Author.Tests.{eq-eqb, eqb-true, eqb-false, ltb-false}
 use lib.Dec.{eqb, ltb}
 use lib.ListN.{length, getD, take, drop, take-append-drop, length-drop}
-use lib.Seq.{take-take, take-at, drop-at, getD-at, length-take-le, drop-drop, getD-drop}
-use Rattle.wave.specs.Lists.{Known}
+use lib.Seq.{take-take, take-at, drop-at, getD-at, length-take-le, getD-drop}
 use Rattle.wave.specs.File.{headerOf, padOf, fileOf, fileLen}
-use Rattle.wave.specs.Outcome.{maxData, judged, holds, hasWords, hasNumbers, hasPad, refusal, accepted, readWith, fileRead, dataIn}
+use Rattle.wave.specs.Outcome.{judged, holds, hasWords, hasNumbers, hasPad, refusal, accepted, readWith, fileRead}
 use Rattle.wave.specs.Outcome.{formatIn, channelsIn, rateIn, lengthIn}
 use Rattle.wave.specs.Promise.{Writable, Back, Accepted}
 use Rattle.wave.specs.declared.Found.{Found}
 use Rattle.wave.proofs.Lists.{first, second}
 use Rattle.wave.proofs.Answers.{fine, judged-fine}
-use Rattle.wave.proofs.Parts.{length-header, length-file, length-pad}
+use Rattle.wave.proofs.Parts.{length-header, length-file}
 use Rattle.wave.proofs.Compared.{holds-behind, holds-there}
 use Rattle.wave.proofs.Back.{words-back, format-read, channels-read, rate-read, length-read}
 

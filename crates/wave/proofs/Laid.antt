@@ -1,7 +1,7 @@
 -- Laws of bytes laid into a buffer: a turn of the loop that stores them, and two runs of bytes laid one behind the other.
 use mathlib.Core.Path.{_≡_, _∙_, refl, sym, ap}
 use mathlib.Core.List.{List, _++_, append-assoc}
-use Prim.Native.Nat.{ℕ, _+_, _≤_, _<_}
+use Prim.Native.Nat.{ℕ, _+_, _≤_}
 use native.Mathlib.Omega.{arith}
 use lib.ListN.{length, take, drop, length-append}
 use lib.Seq.{paste, take-length, take-paste, drop-paste, drop-drop}

@@ -1,5 +1,5 @@
 -- Laws of the lists: a format is one of the four or none, the numbers of each list are bounded, and the search for a rate finds its place.
-use mathlib.Core.Path.{_≡_, _∙_, refl, sym, ap}
+use mathlib.Core.Path.{_≡_, refl}
 use mathlib.Core.Bool.{Bool, true, false, cond, _&&_, false≢true}
 use mathlib.Core.List.{List, [], _∷_}
 use Prim.Native.Nat.{ℕ, zero, suc, _+_, _≤_, _<_}
@@ -7,11 +7,11 @@ use native.Mathlib.Nat.{zero-add}
 use native.Mathlib.Numerals.{add-one}
 use native.Mathlib.Omega.{arith}
 use borrow.Author.Tests.{eq-eqb, ne-eqb, leb-true}
-use lib.Dec.{eqb, leb, ltb}
-use lib.ListN.{length, getD, drop, List·getD-eq-default}
+use lib.Dec.{eqb, leb}
+use lib.ListN.{getD, drop, List·getD-eq-default}
 use lib.Seq.{drop-cons}
 use Rattle.formats.specs.Widths.{physicalBits}
-use Rattle.wave.specs.Lists.{listed, bitsOf, rates, hzOf, known, formatWith, place, rateWith}
+use Rattle.wave.specs.Lists.{listed, bitsOf, rates, hzOf, place, rateWith}
 
 -- ---- the formats
 

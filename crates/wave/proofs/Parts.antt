@@ -1,9 +1,9 @@
 -- The lengths of the header's parts and of the file, and the parts laid one behind the other.
-use mathlib.Core.Path.{_≡_, _∙_, refl, sym, ap}
+use mathlib.Core.Path.{_≡_, _∙_, refl, ap}
 use mathlib.Core.List.{List, [], _∷_, _++_}
-use Prim.Native.Nat.{ℕ, zero, suc, _+_, _%_, _≤_, _<_}
+use Prim.Native.Nat.{ℕ, _+_, _%_, _≤_}
 use native.Mathlib.Omega.{arith}
-use lib.ListN.{length, take, replicate, length-append}
+use lib.ListN.{length, replicate, length-append}
 use lib.Seq.{length-take-le}
 use Rattle.wave.specs.File.{bytes, riffPart, formatPart, dataPart, headerOf, padOf, fileOf, fileLen}
 use Rattle.wave.specs.Outcome.{laid}

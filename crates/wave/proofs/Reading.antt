@@ -1,17 +1,17 @@
 -- The reader's answers, each in its causes: its tests say what they are named after.
-use mathlib.Core.Path.{_≡_, _∙_, refl, sym, ap}
-use mathlib.Core.Bool.{Bool, true, false, cond, _&&_, _||_}
+use mathlib.Core.Path.{_≡_, refl}
+use mathlib.Core.Bool.{Bool, true, false, _&&_, _||_}
 use mathlib.Core.List.{List}
 use mathlib.Core.Logic.{_⊎_, inl, inr}
 use Prim.Native.Nat.{ℕ, _+_, _%_, _≤_, _<_}
 use native.Mathlib.Omega.{arith}
 use borrow.Author.Tests.{lt-ltb, le-ltb, eq-eqb, ne-eqb, eqb-true}
-use lib.Dec.{eqb, ltb}
+use lib.Dec.{eqb}
 use lib.ListN.{length, take, drop}
 use lib.Seq.{take-all}
 use Rattle.wave.specs.File.{RIFF, WAVE, «fmt», «data», headerOf, fileLen}
-use Rattle.wave.specs.Outcome.{judged, holds, hasWords, hasNumbers, hasPad, refusal, accepted, readWith, fileRead}
-use Rattle.wave.specs.Promise.{Writable, Words, Numbers, Reading}
+use Rattle.wave.specs.Outcome.{judged, holds, hasWords, hasNumbers, hasPad, refusal, readWith, fileRead}
+use Rattle.wave.specs.Promise.{Words, Numbers, Reading}
 use Rattle.wave.proofs.Lists.{first, second}
 use Rattle.wave.proofs.Answers.{fine, judged-fine}
 use Rattle.wave.proofs.Parts.{length-header}

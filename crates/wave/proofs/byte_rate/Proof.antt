@@ -1,5 +1,4 @@
 -- `wave::byte_rate` is right and at most 27,648,000: 72 bytes, 384,000 times a second.
-use Prim.Native.Nat.{ℕ, _*_, _≤_}
 use native.Mathlib.Nat.{mul-le-mul}
 use native.Mathlib.Omega.{arith}
 use borrow.Author.Needs.{needs}

@@ -1,5 +1,4 @@
 -- `wave::format_part` is right: its bytes, stored one after the other, are computed.
-use native.Mathlib.Omega.{arith}
 use Rattle.memory.specs.Bytes.{put}
 use Rattle.wave.specs.File.{bytes, formatPart}
 use Rattle.wave.specs.Outcome.{laid}

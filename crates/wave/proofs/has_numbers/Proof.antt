@@ -1,9 +1,8 @@
 -- `wave::has_numbers` is right since it compares with what the writer stores.
-use mathlib.Core.Path.{_≡_, _∙_, sym}
+use mathlib.Core.Path.{_∙_, sym}
 use Prim.Native.Nat.{_≤_}
 use native.Mathlib.Omega.{arith}
 use borrow.Author.Tests.{eq-eqb, ne-eqb}
-use lib.ListN.{replicate}
 use Rattle.wave.specs.Lists.{Known}
 use Rattle.wave.specs.Outcome.{maxData, hasNumbers}
 use Rattle.wave.proofs.Answers.{judged-fine}

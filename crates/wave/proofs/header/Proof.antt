@@ -1,10 +1,9 @@
 -- `wave::header` is right since its tests are those of the answers, in their order, and `put_header` does the rest.
-use mathlib.Core.Path.{_≡_, _∙_, sym}
+use mathlib.Core.Path.{_∙_, sym}
 use Prim.Native.Nat.{_≤_}
 use native.Mathlib.Omega.{arith}
-use lib.ListN.{length}
 use Rattle.wave.specs.Lists.{Known}
-use Rattle.wave.specs.Outcome.{maxData, headedOf}
+use Rattle.wave.specs.Outcome.{maxData}
 use Rattle.wave.proofs.Parts.{length-header}
 use Rattle.wave.proofs.Answers.{judged-fine, refused, no-room, done}
 use borrow.Author.Needs.{needs}

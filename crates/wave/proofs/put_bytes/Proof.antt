@@ -1,11 +1,11 @@
 -- `wave::put_bytes` is right since each turn lays one byte more (`paste-suc`).
-use mathlib.Core.Path.{_≡_, _∙_, sym}
-use Prim.Native.Nat.{_-_, _+_, _≤_}
+use mathlib.Core.Path.{_≡_}
+use Prim.Native.Nat.{_-_, _≤_}
 use native.Mathlib.Omega.{arith}
 use native.Mathlib.Numerals.{add-one}
 use lib.ListN.{length, length-set}
 use lib.Seq.{paste, paste-zero, paste-suc}
-use Rattle.wave.proofs.Laid.{laid-pasted, whole-pasted}
+use Rattle.wave.proofs.Laid.{whole-pasted}
 use Rattle.wave.proofs.put_bytes.Statement.{statement}
 use Rattle.wave.proofs.put_bytes.Tie as tie
 

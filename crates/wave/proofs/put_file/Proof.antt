@@ -1,5 +1,5 @@
 -- `wave::put_file` is right since header, data and pad are laid one behind the other (`file-laid`).
-use mathlib.Core.Path.{_≡_, _∙_, sym}
+use mathlib.Core.Path.{sym}
 use native.Mathlib.Omega.{arith}
 use lib.ListN.{length}
 use Rattle.wave.proofs.Parts.{length-pad, file-laid}

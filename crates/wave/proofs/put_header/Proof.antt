@@ -1,6 +1,4 @@
 -- `wave::put_header` is right since its three parts are laid one behind the other (`header-laid`).
-use mathlib.Core.Path.{_≡_, _∙_}
-use native.Mathlib.Omega.{arith}
 use Rattle.wave.proofs.Parts.{header-laid}
 use borrow.Author.Needs.{needs}
 use Rattle.wave.proofs.put_header.Statement.{statement}

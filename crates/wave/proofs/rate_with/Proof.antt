@@ -1,10 +1,9 @@
 -- `wave::rate_with` is right since the place counted so far and that in the rest of the list are the place in the list.
-use mathlib.Core.Path.{_≡_, _∙_, sym, refl}
+use mathlib.Core.Path.{_≡_, _∙_, sym}
 use Prim.Native.Nat.{_+_, _-_, _≤_}
 use native.Mathlib.Omega.{arith}
-use borrow.Author.Tests.{eq-eqb, ne-eqb}
 use lib.ListN.{drop}
-use Rattle.wave.specs.Lists.{rates, hzOf, place, rateWith}
+use Rattle.wave.specs.Lists.{rates, place, rateWith}
 use Rattle.wave.proofs.Lists.{place-start, place-found, place-next, place-end}
 use borrow.Author.Needs.{needs}
 use Rattle.wave.proofs.rate_with.Statement.{statement}

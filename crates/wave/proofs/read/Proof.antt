@@ -1,8 +1,6 @@
 -- `wave::read` is right by the file's first 44 bytes, its length and its last byte.
-use mathlib.Core.Path.{_≡_, _∙_, sym}
-use native.Mathlib.Omega.{arith}
+use mathlib.Core.Path.{_∙_, sym}
 use lib.Seq.{length-take-le}
-use Rattle.wave.specs.Outcome.{fileRead}
 use Rattle.wave.proofs.Reading.{short}
 use borrow.Author.Needs.{needs}
 use Rattle.wave.proofs.read.Statement.{statement}

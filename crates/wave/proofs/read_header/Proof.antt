@@ -1,5 +1,4 @@
 -- `wave::read_header` is right by the numbers that it reads.
-use mathlib.Core.Path.{_≡_, _∙_, sym}
 use borrow.Author.Needs.{needs}
 use Rattle.wave.proofs.read_header.Statement.{statement}
 use Rattle.wave.proofs.read_header.Tie as tie

@@ -1,5 +1,5 @@
 -- `wave::wekshurag_wave_header` hands on what `header` answers and leaves.
-use mathlib.Core.Path.{_≡_, ap}
+use mathlib.Core.Path.{ap}
 use Rattle.wave.specs.Outcome.{Outcome}
 use borrow.Author.Needs.{needs}
 use Rattle.wave.proofs.wekshurag_wave_header.Statement.{statement}

@@ -1,5 +1,5 @@
 -- `wave::write` is right since its tests are those of the answers, in their order, and `put_file` does the rest.
-use mathlib.Core.Path.{_≡_, _∙_, sym}
+use mathlib.Core.Path.{_∙_, sym}
 use Prim.Native.Nat.{_≤_}
 use native.Mathlib.Omega.{arith}
 use lib.ListN.{length}
