@@ -160,7 +160,7 @@ struct wekshurag_result wekshurag_card_control(struct wekshurag_board *board, ui
 struct wekshurag_result wekshurag_card_play(struct wekshurag_live *live, uint64_t *chain, size_t words, uint8_t *ram, size_t ram_len,
                                             uint8_t *host, size_t host_len, uint32_t backlog);
 struct wekshurag_result wekshurag_card_capture(struct wekshurag_live *live, uint64_t *chain, size_t words, uint8_t *ram, size_t ram_len,
-                                               const uint8_t *host, size_t host_len, uint32_t backlog);
+                                               uint8_t *host, size_t host_len, uint32_t backlog);
 struct wekshurag_result wekshurag_card_event(struct wekshurag_board *board, uint8_t *ram, size_t ram_len, uint32_t code, uint32_t data);
 
 /* ---- power-up ------------------------------------------------------------------------------------------------------------------ */
@@ -260,7 +260,9 @@ static inline struct wekshurag_result wekshurag_play(struct wekshurag_card *card
 static inline struct wekshurag_result wekshurag_capture(struct wekshurag_card *card, uint8_t *ram, size_t ram_len, const uint8_t *host,
                                                         size_t host_len, uint32_t backlog)
 {
-    return wekshurag_card_capture(&card->board.live, card->capture_chain, WEKSHURAG_CHAIN_WORDS, ram, ram_len, host, host_len, backlog);
+    /* The archive's function plays and records by one loop, to which the host's bytes are lent; its contract is that these stay as they are. */
+    return wekshurag_card_capture(&card->board.live, card->capture_chain, WEKSHURAG_CHAIN_WORDS, ram, ram_len, (uint8_t *)host, host_len,
+                                  backlog);
 }
 
 /* The events: `data` is the jack's number, or the stream's. */

@@ -120,11 +120,12 @@ fn play(card: Card, m: &mut [u8], host: &mut [u8], backlog: u32) -> Queued
     }
 }
 
-// The capture call.
-fn capture(card: Card, m: &mut [u8], host: &[u8], backlog: u32) -> Queued
+// The capture call. The host buffer is only read.
+fn capture(card: Card, m: &mut [u8], host: &mut [u8], backlog: u32) -> Queued
     requires { ⌜ Fit card ⌝ }
     ensures { λ r. ⌜ (stepOf card (rules.Capture (now (host .entry)) backlog) (now (m .entry))
-        ≡ leaves (r .card) (r .answer) (r .count) (take (r .count) (now (host .entry))) [] (now (m .exit))) × Fit (r .card) ⌝ }
+        ≡ leaves (r .card) (r .answer) (r .count) (take (r .count) (now (host .exit))) [] (now (m .exit)))
+        × Fit (r .card) × (now (host .exit) ≡ now (host .entry)) ⌝ }
 {
     let mut words = card.capture_words;
     let told = pcm::capture(live::of_card(card), &mut words, m, host, backlog);

@@ -1,5 +1,6 @@
 // The calls on queues as C takes them: an answer's number and queue side by side, so that every field of what a call
 // answers is a number.
+ghost use mathlib.Core.Path.{_≡_};
 ghost use Rattle.event.specs.Event.{FitAside};
 ghost use Rattle.live.specs.Live.{Fits};
 ghost use Rattle.message.specs.declared.Direction.{Direction};
@@ -50,11 +51,17 @@ pub fn play(
     }
 }
 
-// The capture call.
-pub fn capture(live: Live, words: &mut [u64], m: &mut [u8], host: &[u8], backlog: u32) -> LiveAnswer
+// The capture call. The host buffer is only read.
+pub fn capture(
+    live: Live,
+    words: &mut [u64],
+    m: &mut [u8],
+    host: &mut [u8],
+    backlog: u32,
+) -> LiveAnswer
     requires { ⌜ FitOwn Direction.Input live (now words) ⌝ }
     ensures { λ r. ⌜ TransfersOn Direction.Input backlog live (now (words .entry)) (now (m .entry)) (now (host .entry))
-        (now (words .exit)) (now (m .exit)) (now (host .entry)) (transferIn r) ⌝ }
+        (now (words .exit)) (now (m .exit)) (now (host .exit)) (transferIn r) × (now (host .exit) ≡ now (host .entry)) ⌝ }
 {
     let told = pcm::capture(live, words, m, host, backlog);
     let answer = told.answer;

@@ -1,12 +1,12 @@
 -- A flow's steps as the rules have them: moving bytes on both sides.
-use mathlib.Core.Path.{_≡_, refl, sym, _∙_}
+use mathlib.Core.Path.{_≡_, refl, sym, _∙_, ap}
 use mathlib.Core.List.{List, [], _∷_, _++_}
 use mathlib.Core.Bool.{Bool, true, false, cond, _&&_, not, true≢false}
 use Prim.Native.Nat.{ℕ, zero, suc, _+_, _-_, _≤_, _<_, min}
 use native.Mathlib.Nat.{sub-zero, min-eq-left}
 use native.Mathlib.Omega.{arith}
-use lib.Dec.{ltb}
-use borrow.Author.Tests.{lt-ltb}
+use lib.Dec.{eqb, ltb}
+use borrow.Author.Tests.{lt-ltb, ltb-true, ltb-false, eqb-true, eqb-false}
 use lib.ListN.{length, take, drop, length-take, length-drop, length-map, length-append}
 use lib.Seq.{sets, sets-eq, length-sets, drop-drop, take-all, take-at, drop-at, take-nil, take-add}
 use Rattle.ranges.specs.Ranges.{Sound, rangesOf, total, places, bytesAt, putAt}
@@ -30,8 +30,10 @@ use Rattle.ring.specs.declared.Head.{Head}
 use Rattle.ring.specs.Rules.{Completion, headOf}
 use mathlib.Core.Option.{Option, some}
 use Rattle.flow.specs.Flow.{payloadBytes, runOf, advancedBy, endedBy, refusedBy, refusedIn, begunWith, stoppedFlow, Busy, FitFlow}
-use Rattle.flow.specs.Flow.{Steps}
+use Rattle.flow.specs.Flow.{Steps, endingOf, reachesOf, overOf, jobMoved, jobWorked}
 use Rattle.flow.specs.declared.Flow.{Flow}
+use Rattle.flow.specs.declared.Job.{Job}
+use Rattle.flow.specs.declared.Job.the-variants.{Transfer, Release}
 
 -- ---- parts of lists
 
@@ -125,7 +127,7 @@ stays-short done bytes framing n h k l = omega arith
 stays-inside : (moved room n b : ℕ) → moved ≤ room → n ≡ min (room - moved) b → moved + n ≤ room
 stays-inside moved room n b h e = omega arith
 
-pub advanced-fit : (len room : ℕ) (ws : List ℕ) (f : Flow) (n bytes framing : ℕ) → Busy f → FitFlow len room ws f → bytes ≤ 1048576
+advanced-fit : (len room : ℕ) (ws : List ℕ) (f : Flow) (n bytes framing : ℕ) → Busy f → FitFlow len room ws f → bytes ≤ 1048576
     → n ≡ min (room - f .moved) (bytes - framing - f .message .done) → FitFlow len room ws (advancedBy n f)
 advanced-fit len room ws f n bytes framing busy t b e =
     let g = t .message in
@@ -147,6 +149,15 @@ advanced-fit len room ws f n bytes framing busy t b e =
           };
       inside = k;
     }
+
+-- the bytes moved by a transfer
+pub moved-fit : (d : rules.Direction) (len room : ℕ) (ws : List ℕ) (f : Flow) (n : ℕ) → Busy f → FitFlow len room ws f
+    → n ≡ min (room - f .moved) (payloadBytes d (f .message) - f .message .done) → FitFlow len room ws (advancedBy n f)
+moved-fit rules.output len room ws f n busy t e = advanced-fit len room ws f n _ 4 busy t (t .message .short-request) e
+moved-fit rules.input len room ws f n busy t e = advanced-fit len room ws f n _ 8 busy t (t .message .short-reply) e
+
+pub no-input : rules.output ≡ rules.input → ⊥
+no-input e = let n : _≡_ {A = ℕ} 0 1 = ap rules.streamNumber e in omega (arith, n)
 
 -- ---- a completion
 
@@ -189,8 +200,11 @@ pub some-left : (l : List ℕ) → isNil l ≡ false → 0 < length l
 some-left [] h = absurd (true≢false h)
 some-left (x ∷ l) h = omega arith
 
+some-of : (n : ℕ) → eqb n 0 ≡ false → 0 < n
+some-of n h = let e = eqb-false n 0 h in omega (arith, e)
+
 module _ (v : rules.Virtqueue) (ws m host : List ℕ) (f : Flow) (busy : Busy f) (g : FitMessage (length m) ws (f .message)) where
-  pub settled-now : payloadBytes (v .direction) (f .message) - f .message .done ≡ 0
+  settled-now : payloadBytes (v .direction) (f .message) - f .message .done ≡ 0
       → settled (countersOf (v .direction)) v (runOf ws f m host) ≡ completed (countersOf (v .direction)) v rules.finished
       (runOf ws f m host)
   unfolding runOf
@@ -200,7 +214,7 @@ module _ (v : rules.Virtqueue) (ws m host : List ℕ) (f : Flow) (busy : Busy f)
         (left-length (v .direction) ws (f .message) (g .request) (g .reply) ∙ h),
   )
 
-  pub settled-later : 0 < payloadBytes (v .direction) (f .message) - f .message .done
+  settled-later : 0 < payloadBytes (v .direction) (f .message) - f .message .done
       → settled (countersOf (v .direction)) v (runOf ws f m host) ≡ runOf ws f m host
   unfolding runOf
   settled-later h = rw (
@@ -267,11 +281,11 @@ module _ (v : rules.Virtqueue) (ws m host : List ℕ) (f : Flow) where
 
 -- a Release of the message in work
 module _ (v : rules.Virtqueue) (ws m host : List ℕ) (f : Flow) where
-  pub given-none : f .message .count ≡ 0 → givenUp (countersOf (v .direction)) v (runOf ws f m host) ≡ runOf ws f m host
+  given-none : f .message .count ≡ 0 → givenUp (countersOf (v .direction)) v (runOf ws f m host) ≡ runOf ws f m host
   unfolding runOf
   given-none h = rw h
 
-  pub given-one : f .message .count ≡ 1
+  given-one : f .message .count ≡ 1
       → givenUp (countersOf (v .direction)) v (runOf ws f m host) ≡ completed (countersOf (v .direction)) v rules.released
       (runOf ws f m host)
   unfolding runOf
@@ -279,11 +293,11 @@ module _ (v : rules.Virtqueue) (ws m host : List ℕ) (f : Flow) where
 
 -- work by what there is: no room, no message, or both
 module _ (v : rules.Virtqueue) (ws m host : List ℕ) (f : Flow) where
-  pub worked-full : length host ≤ f .moved → worked (countersOf (v .direction)) v (runOf ws f m host) ≡ runOf ws f m host
+  worked-full : length host ≤ f .moved → worked (countersOf (v .direction)) v (runOf ws f m host) ≡ runOf ws f m host
   unfolding runOf
   worked-full h = let z : length host - f .moved ≡ 0 = omega arith in rw z
 
-  pub worked-idle : f .message .count ≡ 0 → worked (countersOf (v .direction)) v (runOf ws f m host) ≡ runOf ws f m host
+  worked-idle : f .message .count ≡ 0 → worked (countersOf (v .direction)) v (runOf ws f m host) ≡ runOf ws f m host
   unfolding runOf
   worked-idle h = by (ltb 0 (length host - f .moved)) where
     by : (b : Bool) → cond (b && not (isNone (messageOf ws (f .message))))
@@ -292,11 +306,55 @@ module _ (v : rules.Virtqueue) (ws m host : List ℕ) (f : Flow) where
     by true = rw h
     by false = refl
 
-  pub worked-busy : f .moved < length host → f .message .count ≡ 1
+  worked-busy : f .moved < length host → f .message .count ≡ 1
       → worked (countersOf (v .direction)) v (runOf ws f m host) ≡ settled (countersOf (v .direction)) v
       (moved (countersOf (v .direction)) v (runOf ws f m host))
   unfolding runOf
   worked-busy h b = rw (lt-ltb 0 (length host - f .moved) (omega arith), b)
+
+-- ---- a job's work on the message in work, by what there is
+
+module _ (job : Job) (v : rules.Virtqueue) (ws m host : List ℕ) (f : Flow) where
+  -- no message
+  pub job-idle : f .message .count ≡ 0 → jobWorked job v (runOf ws f m host) ≡ runOf ws f m host
+  job-idle h = by job where
+    by : (j : Job) → jobWorked j v (runOf ws f m host) ≡ runOf ws f m host
+    by Transfer = worked-idle v ws m host f h
+    by Release = given-none v ws m host f h
+
+  -- a message that the host does not reach
+  pub job-full : reachesOf job (f .moved) (length host) ≡ false → jobWorked job v (runOf ws f m host) ≡ runOf ws f m host
+  job-full h = by job h where
+    by : (j : Job) → reachesOf j (f .moved) (length host) ≡ false → jobWorked j v (runOf ws f m host) ≡ runOf ws f m host
+    by Transfer e = worked-full v ws m host f (ltb-false (f .moved) (length host) e)
+    by Release e = absurd (true≢false e)
+
+  -- a message that is moved: the flow after that
+  module _ (reached : reachesOf job (f .moved) (length host) ≡ true) (busy : Busy f) (m′ host′ : List ℕ) (g : Flow)
+      (run : runOf ws g m′ host′ ≡ jobMoved job v (runOf ws f m host)) (busy′ : Busy g) (fit : FitMessage (length m′) ws (g .message)) where
+    -- .. something of it waits
+    pub job-later : overOf job (v .direction) (g .message) ≡ false → runOf ws g m′ host′ ≡ jobWorked job v (runOf ws f m host)
+    job-later h = by job reached run h where
+      by : (j : Job) → reachesOf j (f .moved) (length host) ≡ true → runOf ws g m′ host′ ≡ jobMoved j v (runOf ws f m host)
+          → overOf j (v .direction) (g .message) ≡ false → runOf ws g m′ host′ ≡ jobWorked j v (runOf ws f m host)
+      by Transfer r e o =
+          sym (settled-later v ws m′ host′ g busy′ fit (some-of _ o))
+          ∙ ap (settled (countersOf (v .direction)) v) e
+          ∙ sym (worked-busy v ws m host f (ltb-true (f .moved) (length host) r) busy)
+      by Release r e o = absurd (true≢false o)
+
+    -- .. or it is completed
+    pub job-over : overOf job (v .direction) (g .message) ≡ true
+        → completed (countersOf (v .direction)) v (endingOf job) (runOf ws g m′ host′) ≡ jobWorked job v (runOf ws f m host)
+    job-over h = by job reached run h where
+      by : (j : Job) → reachesOf j (f .moved) (length host) ≡ true → runOf ws g m′ host′ ≡ jobMoved j v (runOf ws f m host)
+          → overOf j (v .direction) (g .message) ≡ true
+          → completed (countersOf (v .direction)) v (endingOf j) (runOf ws g m′ host′) ≡ jobWorked j v (runOf ws f m host)
+      by Transfer r e o =
+          sym (settled-now v ws m′ host′ g busy′ fit (eqb-true _ 0 o))
+          ∙ ap (settled (countersOf (v .direction)) v) e
+          ∙ sym (worked-busy v ws m host f (ltb-true (f .moved) (length host) r) busy)
+      by Release r e o = ap (completed (countersOf (v .direction)) v rules.released) e ∙ sym (given-one v ws m host f busy)
 
 -- a count of at most one that is not none
 pub one-left : (n : ℕ) → n ≤ 1 → (n ≡ 0 → ⊥) → n ≡ 1

@@ -1,8 +1,9 @@
 -- What the code's structs stand for: a stream's queue and a call's progress on it, as the rules' `Queue` and `Run`.
 use mathlib.Core.Path.{_≡_}
-use mathlib.Core.Bool.{true, false, _||_}
+use mathlib.Core.Bool.{Bool, true, false, _||_}
 use mathlib.Core.List.{List}
 use Prim.Native.Nat.{ℕ, _+_, _-_, _%_, _≤_}
+use lib.Dec.{eqb, ltb}
 use lib.ListN.{length, take, drop}
 use Rattle.ring.specs.Rules.{Completion}
 use Rattle.ring.specs.declared.Cause.{Cause}
@@ -14,22 +15,44 @@ use Rattle.card.specs.declared.Message.{Message}
 use Rattle.meaning.specs.Card.{queueOf}
 use Rattle.message.specs.declared.Taken.{Taken}
 use Rattle.rules.specs.Device as rules
-use Rattle.rules.specs.Transfer.{Run, completed, taking}
+use Rattle.rules.specs.Transfer.{Run, completed, taking, moved, worked, givenUp}
 use Rattle.rules.specs.Counters.{countersOf}
-use Rattle.flow.specs.declared.Ending.{Ending}
-use Rattle.flow.specs.declared.Ending.the-variants.{Finished, Released}
 use Rattle.flow.specs.declared.Flow.{Flow}
+use Rattle.flow.specs.declared.Job.{Job}
+use Rattle.flow.specs.declared.Job.the-variants.{Transfer, Release}
 
 -- ---- messages
-
-abbrev pub endingOf : Ending → rules.Ending
-endingOf Finished = rules.finished
-endingOf Released = rules.released
 
 -- how long the payload is: "the request past 4 bytes, for capture the reply before its last 8"
 abbrev pub payloadBytes : rules.Direction → Message → ℕ
 payloadBytes rules.output m = m .request .bytes - 4
 payloadBytes rules.input m = m .reply .bytes - 8
+
+-- ---- what a job does, in the rules' terms
+
+-- why it completes a message in work
+abbrev pub endingOf : Job → rules.Ending
+endingOf Transfer = rules.finished
+endingOf Release = rules.released
+
+-- it goes on: a transfer while the host has room or bytes
+abbrev pub reachesOf : Job → ℕ → ℕ → Bool
+reachesOf Transfer moved room = ltb moved room
+reachesOf Release moved room = true
+
+-- it is done with a message: a transfer once nothing of the payload waits
+abbrev pub overOf : Job → rules.Direction → Message → Bool
+overOf Transfer d m = eqb (payloadBytes d m - m .done) 0
+overOf Release d m = true
+
+abbrev pub jobMoved : Job → rules.Virtqueue → Run rules.Queue → Run rules.Queue
+jobMoved Transfer v r = moved (countersOf (v .direction)) v r
+jobMoved Release v r = r
+
+-- its work on the message in work
+abbrev pub jobWorked : Job → rules.Virtqueue → Run rules.Queue → Run rules.Queue
+jobWorked Transfer v r = worked (countersOf (v .direction)) v r
+jobWorked Release v r = givenUp (countersOf (v .direction)) v r
 
 -- ---- a call's progress: the words of the queue's chain, memory and the host buffer as they are now; the first `moved` of the
 -- host's bytes are done
@@ -125,13 +148,21 @@ pub record Steps (step : Run rules.Queue → Run rules.Queue) (ws m : List ℕ) 
   pub moved : r .moved ≡ f .moved
   pub long : length m′ ≡ length m
 
--- the same where the host's buffer takes part
-pub record StepsOn (step : Run rules.Queue → Run rules.Queue) (ws m host : List ℕ) (f : Flow) (ws′ m′ host′ : List ℕ) (r : Flow)
-    : Type 0 where
+-- the same where the host's buffer takes part, on a queue of a direction
+pub record StepsOn (d : rules.Direction) (step : Run rules.Queue → Run rules.Queue) (ws m host : List ℕ) (f : Flow)
+    (ws′ m′ host′ : List ℕ) (r : Flow) : Type 0 where
   pub run : runOf ws′ r m′ host′ ≡ step (runOf ws f m host)
   pub fit : FitFlow (length m) (length host) ws′ r
   pub long : length m′ ≡ length m
   pub host-long : length host′ ≡ length host
+  -- an input's host is only read
+  pub read : d ≡ rules.input → host′ ≡ host
+
+-- payload moved: the message stays in work
+pub record Moves (d : rules.Direction) (step : Run rules.Queue → Run rules.Queue) (ws m host : List ℕ) (f : Flow) (m′ host′ : List ℕ)
+    (r : Flow) : Type 0 where
+  pub steps : StepsOn d step ws m host f ws m′ host′ r
+  pub busy : Busy r
 
 -- a message in work completed: no message is in work after it
 pub record Ends (v : rules.Virtqueue) (e : rules.Ending) (ws m : List ℕ) (f : Flow) (m′ : List ℕ) (r : Flow) : Type 0 where

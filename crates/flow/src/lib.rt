@@ -1,18 +1,18 @@
 // The steps of a stream's queue (01, "Play, capture, events"): the next entry is taken, the message in
-// work handed to the host or filled from it, completed where nothing of it waits, or ended by a
-// Release. Payload moves in runs.
+// work handed to the host or filled from it, and completed where nothing of it waits or a Release ends
+// it. Payload moves in runs.
 ghost use mathlib.Core.Path.{_≡_};
 ghost use Prim.Native.Nat.{_+_, _-_, _≤_, _<_};
 ghost use lib.ListN.{length};
-ghost use Rattle.message.specs.Message.{directionOf, virtqueueAs, virtqueueIn, formIn, statusIn, takingIn, FitTaken};
+ghost use Rattle.message.specs.Message.{directionOf, virtqueueIn, formIn, statusIn, takingIn, FitTaken};
 ghost use Rattle.rules.specs.Counters.{countersOf};
-ghost use Rattle.rules.specs.Device.{output, input, wellFormed, illFormed};
+ghost use Rattle.rules.specs.Device.{wellFormed, illFormed};
 ghost use Rattle.card.specs.Fit.{FitMessage};
 ghost use mathlib.Core.Option.{some};
 ghost use mathlib.Core.Bool.{_||_};
-ghost use Rattle.rules.specs.Transfer.{moved, settled, entered, worked, givenUp, next, statusOf};
-ghost use Rattle.flow.specs.Flow.{runOf, FitFlow, Busy, payloadBytes, endingOf, advancedBy, begunWith, stoppedFlow, Steps, StepsOn};
-ghost use Rattle.flow.specs.Flow.{Ends, refusedIn};
+ghost use Rattle.rules.specs.Transfer.{moved, entered, next, statusOf};
+ghost use Rattle.flow.specs.Flow.{FitFlow, Busy, payloadBytes, endingOf, advancedBy, begunWith, stoppedFlow, Steps, StepsOn};
+ghost use Rattle.flow.specs.Flow.{Ends, refusedIn, Moves, reachesOf, overOf, jobMoved, jobWorked};
 use card::Counters;
 use card::Message;
 use counts::DescriptorNumber;
@@ -34,10 +34,11 @@ pub struct Flow {
     pub signal: bool,
 }
 
-// Why a message in work is completed: its payload was moved, or a Release ends it.
-pub enum Ending {
-    Finished,
-    Released,
+// What a call does with the messages of a queue: it moves their payload, the way of the queue's direction,
+// and completes each that is moved whole; or a Release completes them as they are.
+pub enum Job {
+    Transfer,
+    Release,
 }
 
 // How many bytes of the message's payload wait.
@@ -66,34 +67,71 @@ fn beyond(bytes: u32, framing: u32, done: u32) -> usize
     (payload - done) as usize
 }
 
-// The message in work handed on, as far as the host has room.
-fn hand_on(m: &[u8], list: &[u64], host: &mut [u8], q: Virtqueue, f: Flow) -> Flow
-    requires { ⌜ Busy f × FitFlow (length (now m)) (length (now host)) (now list) f ⌝ }
-    ensures { λ r. ⌜ (runOf (now (list .entry)) r (now (m .entry)) (now (host .exit))
-        ≡ moved (countersOf output) (virtqueueAs output q) (runOf (now (list .entry)) f (now (m .entry)) (now (host .entry))))
-        × Busy r × FitFlow (length (now (m .entry))) (length (now (host .entry))) (now (list .entry)) r ⌝ }
+// Whether a job goes on where `moved` of the host's `room` bytes are moved: a Release needs no room.
+pub fn reaches(job: Job, moved: usize, room: usize) -> bool
+    ensures { λ r. ⌜ r ≡ reachesOf job moved room ⌝ }
 {
-    let message = f.message;
-    let request = message.request;
-    let at = f.moved;
-    let n = ranges::least(host.len() - at, waiting(Direction::Output, message));
-    ranges::gather(m, list, request, 4 + message.done as usize, host, at, n);
-    advanced(f, n)
+    match job {
+        Job::Transfer => {
+            if moved < room {
+                return true;
+            }
+            false
+        }
+        Job::Release => true,
+    }
 }
 
-// The message in work filled, as far as the host has bytes.
-fn fill(m: &mut [u8], list: &[u64], host: &[u8], q: Virtqueue, f: Flow) -> Flow
+// Whether a job is done with a message.
+fn is_over(job: Job, d: Direction, message: Message) -> bool
+    ensures { λ r. ⌜ r ≡ overOf job (directionOf d) message ⌝ }
+{
+    match job {
+        Job::Transfer => {
+            if 0 < waiting(d, message) {
+                return false;
+            }
+            true
+        }
+        Job::Release => true,
+    }
+}
+
+// Payload of the message in work, as far as the host has room or bytes: handed on or filled, from where
+// message and host stand.
+fn move_payload(m: &mut [u8], list: &[u64], host: &mut [u8], q: Virtqueue, f: Flow) -> Flow
     requires { ⌜ Busy f × FitFlow (length (now m)) (length (now host)) (now list) f ⌝ }
-    ensures { λ r. ⌜ (runOf (now (list .entry)) r (now (m .exit)) (now (host .entry))
-        ≡ moved (countersOf input) (virtqueueAs input q) (runOf (now (list .entry)) f (now (m .entry)) (now (host .entry))))
-        × Busy r × FitFlow (length (now (m .entry))) (length (now (host .entry))) (now (list .entry)) r ⌝ }
+    ensures { λ r. ⌜ Moves (directionOf (q .direction)) (moved (countersOf (directionOf (q .direction))) (virtqueueIn q))
+        (now (list .entry)) (now (m .entry)) (now (host .entry)) f (now (m .exit)) (now (host .exit)) r ⌝ }
 {
     let message = f.message;
-    let reply = message.reply;
     let at = f.moved;
-    let n = ranges::least(host.len() - at, waiting(Direction::Input, message));
-    ranges::scatter(m, list, reply, message.done as usize, host, at, n);
-    advanced(f, n)
+    let direction = q.direction;
+    let n = ranges::least(host.len() - at, waiting(direction, message));
+    match direction {
+        Direction::Output => {
+            let request = message.request;
+            ranges::gather(m, list, request, 4 + message.done as usize, host, at, n);
+            advanced(f, n)
+        }
+        Direction::Input => {
+            let reply = message.reply;
+            ranges::scatter(m, list, reply, message.done as usize, host, at, n);
+            advanced(f, n)
+        }
+    }
+}
+
+// What a job moves of the message in work.
+fn move_for(m: &mut [u8], list: &[u64], host: &mut [u8], q: Virtqueue, f: Flow, job: Job) -> Flow
+    requires { ⌜ Busy f × FitFlow (length (now m)) (length (now host)) (now list) f ⌝ }
+    ensures { λ r. ⌜ Moves (directionOf (q .direction)) (jobMoved job (virtqueueIn q))
+        (now (list .entry)) (now (m .entry)) (now (host .entry)) f (now (m .exit)) (now (host .exit)) r ⌝ }
+{
+    match job {
+        Job::Transfer => move_payload(m, list, host, q, f),
+        Job::Release => f,
+    }
 }
 
 // `n` bytes more of the message and of the host.
@@ -119,12 +157,12 @@ fn either(a: bool, b: bool) -> bool
 }
 
 // The status that ends a message in work.
-fn status_of(d: Direction, ending: Ending) -> u32
-    ensures { λ r. ⌜ some r ≡ statusOf (directionOf d) (endingOf ending) wellFormed ⌝ }
+fn status_of(d: Direction, job: Job) -> u32
+    ensures { λ r. ⌜ some r ≡ statusOf (directionOf d) (endingOf job) wellFormed ⌝ }
 {
-    match ending {
-        Ending::Finished => message::OK,
-        Ending::Released => match d {
+    match job {
+        Job::Transfer => message::OK,
+        Job::Release => match d {
             Direction::Output => message::IO_ERR,
             Direction::Input => message::OK,
         },
@@ -132,14 +170,14 @@ fn status_of(d: Direction, ending: Ending) -> u32
 }
 
 // The message in work completed.
-fn end_message(m: &mut [u8], list: &[u64], q: Virtqueue, f: Flow, ending: Ending) -> Flow
+fn end_message(m: &mut [u8], list: &[u64], q: Virtqueue, f: Flow, job: Job) -> Flow
     requires { ⌜ Busy f × FitMessage (length (now m)) (now list) (f .message) ⌝ }
-    ensures { λ r. ⌜ Ends (virtqueueIn q) (endingOf ending) (now (list .entry)) (now (m .entry)) f (now (m .exit)) r ⌝ }
+    ensures { λ r. ⌜ Ends (virtqueueIn q) (endingOf job) (now (list .entry)) (now (m .entry)) f (now (m .exit)) r ⌝ }
 {
     let direction = q.direction;
     let message = f.message;
     let mut counters = f.counters;
-    let code = status_of(direction, ending);
+    let code = status_of(direction, job);
     let reply = message.reply;
     let posted = message::answer(
         m,
@@ -161,20 +199,6 @@ fn end_message(m: &mut [u8], list: &[u64], q: Virtqueue, f: Flow, ending: Ending
         stop: stop,
         signal: either(f.signal, posted.interrupt),
     }
-}
-
-// The message in work completed where nothing of its payload waits.
-fn settle(m: &mut [u8], list: &[u64], q: Virtqueue, f: Flow) -> Flow
-    requires { ⌜ Busy f × FitMessage (length (now m)) (now list) (f .message) ⌝ }
-    ensures { λ r. ⌜ Steps (settled (countersOf (directionOf (q .direction))) (virtqueueIn q))
-        (now (list .entry)) (now (m .entry)) f (now (list .entry)) (now (m .exit)) r ⌝ }
-{
-    let message = f.message;
-    let direction = q.direction;
-    if 0 < waiting(direction, message) {
-        return f;
-    }
-    end_message(m, list, q, f, Ending::Finished)
 }
 
 // An ill-formed chain completed as soon as it is taken.
@@ -275,46 +299,24 @@ pub fn meet(m: &mut [u8], list: &mut [u64], q: Virtqueue, f: Flow) -> Flow
     }
 }
 
-// A Release ends the message in work.
-pub fn give_up(m: &mut [u8], list: &[u64], q: Virtqueue, f: Flow) -> Flow
-    requires { ⌜ FitMessage (length (now m)) (now list) (f .message) ⌝ }
-    ensures { λ r. ⌜ Steps (givenUp (countersOf (directionOf (q .direction))) (virtqueueIn q))
-        (now (list .entry)) (now (m .entry)) f (now (list .entry)) (now (m .exit)) r ⌝ }
-{
-    if f.message.count == 0 {
-        return f;
-    }
-    end_message(m, list, q, f, Ending::Released)
-}
-
-// While the host has room the message in work is handed on.
-pub fn work_play(m: &mut [u8], list: &[u64], host: &mut [u8], q: Virtqueue, f: Flow) -> Flow
-    requires { ⌜ (q .direction ≡ Direction.Output) × FitFlow (length (now m)) (length (now host)) (now list) f ⌝ }
-    ensures { λ r. ⌜ StepsOn (worked (countersOf output) (virtqueueAs output q))
+// A job's work on the message in work: its payload moved as far as the host reaches, and the message
+// completed where nothing of it waits or a Release ends it.
+pub fn work(m: &mut [u8], list: &[u64], host: &mut [u8], q: Virtqueue, f: Flow, job: Job) -> Flow
+    requires { ⌜ FitFlow (length (now m)) (length (now host)) (now list) f ⌝ }
+    ensures { λ r. ⌜ StepsOn (directionOf (q .direction)) (jobWorked job (virtqueueIn q))
         (now (list .entry)) (now (m .entry)) (now (host .entry)) f (now (list .entry)) (now (m .exit)) (now (host .exit)) r ⌝ }
 {
-    if host.len() <= f.moved {
-        return f;
-    }
     if f.message.count == 0 {
         return f;
     }
-    let handed = hand_on(m, list, host, q, f);
-    settle(m, list, q, handed)
-}
-
-// While the host has bytes the message in work is filled.
-pub fn work_capture(m: &mut [u8], list: &[u64], host: &[u8], q: Virtqueue, f: Flow) -> Flow
-    requires { ⌜ (q .direction ≡ Direction.Input) × FitFlow (length (now m)) (length (now host)) (now list) f ⌝ }
-    ensures { λ r. ⌜ StepsOn (worked (countersOf input) (virtqueueAs input q))
-        (now (list .entry)) (now (m .entry)) (now (host .entry)) f (now (list .entry)) (now (m .exit)) (now (host .entry)) r ⌝ }
-{
-    if host.len() <= f.moved {
+    if !reaches(job, f.moved, host.len()) {
         return f;
     }
-    if f.message.count == 0 {
-        return f;
+    let g = move_for(m, list, host, q, f, job);
+    let message = g.message;
+    let direction = q.direction;
+    if !is_over(job, direction, message) {
+        return g;
     }
-    let filled = fill(m, list, host, q, f);
-    settle(m, list, q, filled)
+    end_message(m, list, q, g, job)
 }

@@ -3,68 +3,36 @@
 use mathlib.Core.Path.{_≡_, _∙_, refl, sym, ap}
 use mathlib.Core.List.{List}
 use mathlib.Core.Bool.{Bool, true, false, cond}
-use Prim.Native.Nat.{ℕ, _≤_, _<_}
+use Prim.Native.Nat.{ℕ}
 use native.Mathlib.Omega.{arith}
 use lib.Dec.{eqb}
+use borrow.Author.Tests.{ne-eqb}
 use lib.ListN.{length, take, set, length-set}
-use Rattle.registers.specs.Answers.{done, plain}
-use Rattle.registers.specs.Rules.{broken}
-use Rattle.registers.specs.declared.Registers.{Registers}
-use Rattle.ring.specs.declared.Cause.{Cause}
-use Rattle.ring.specs.declared.Check.{Check}
-use Rattle.card.specs.Fit.{Fit, FitMessage}
+use Rattle.registers.specs.Answers.{done}
+use Rattle.card.specs.Fit.{Fit}
 use Rattle.card.specs.declared.Card.{Card}
 use Rattle.card.specs.declared.Parts.{Parts}
 use Rattle.live.proofs.Laws.{card-fits}
-use Rattle.live.specs.Live as live
 use Rattle.live.specs.declared.Live.{Live}
-use Rattle.meaning.specs.Card.{queueOf, restOf, stepOf, leaves}
-use Rattle.message.specs.Message.{directionOf, virtqueueIn}
+use Rattle.meaning.specs.Card.{restOf}
+use Rattle.message.specs.Message.{directionOf}
 use Rattle.message.specs.declared.Direction.{Direction}
 use Rattle.message.specs.declared.Direction.the-variants.{Output, Input}
-use Rattle.rules.specs.Answers.{brokenAnswer, answerBy}
-use Rattle.rules.specs.Counters.{countersOf}
 use Rattle.rules.specs.Device as rules
-use Rattle.rules.specs.Calls.{virtqueueOf}
-use Rattle.rules.specs.Transfer.{Run, begun, transferRun}
-use Rattle.flow.specs.Flow.{runOf}
 use Rattle.flow.specs.declared.Flow.{Flow}
-use Rattle.stream.specs.Queue.{laidOut, messageIn, cardWith, FitsWith, withRegisters, countersIn, workIn, wordsIn}
-use Rattle.stream.proofs.Fits.{with-fit, broken-card-fit}
-use Rattle.stream.proofs.Lent.{countersLive, checkLive}
+use Rattle.flow.specs.declared.Job.the-variants.{Transfer}
+use Rattle.stream.specs.Queue.{cardWith, FitsWith, FlowsOn}
+use Rattle.stream.proofs.Fits.{with-fit}
+use Rattle.stream.proofs.Lent.{flows-in, ram-in}
 use Rattle.pcm.specs.declared.TransferAnswer.{TransferAnswer}
-use Rattle.pcm.specs.Entry.{transferOf, bufferOf, refusalOf, RefusesOn, flowedCard, flowedLive, untouchedBy, brokenDown, flowAnswer}
+use Rattle.pcm.specs.Entry.{transferOf, bufferOf, refusalOf, RefusesOn, flowedCard, flowedLive, untouchedBy, flowAnswer}
 use Rattle.pcm.specs.Entry.{movedBy, withBacklogs, withBacklogAt, rememberedBy, LeavesOn, MovesOn, TransfersOn}
 use Rattle.pcm.proofs.Backlog.{remembered-says, remembered-fit, noted-in}
-use Rattle.pcm.proofs.Outcomes.{checked, transfer-refused, transfer-idle, transfer-broken, transfer-fit, transfer-new}
+use Rattle.pcm.proofs.Outcomes.{transfer-refused, transfer-fit, transfer-flowed}
 
 -- ---- the cards of a small state, by the direction
 
 module _ (l : Live) (p : Parts) (ws other : List ℕ) where
-  -- with other registers
-  registered-in : (d : Direction) (g : Registers) → withRegisters g (cardWith d l p ws other) ≡ cardWith d (live.withRegisters g l) p ws other
-  registered-in Output g = refl
-  registered-in Input g = refl
-
-  own-registers : (d : Direction) → cardWith d l p ws other .registers ≡ l .registers
-  own-registers Output = refl
-  own-registers Input = refl
-
-  own-ram : (d : Direction) → cardWith d l p ws other .«ram_len» ≡ l .«ram_len»
-  own-ram Output = refl
-  own-ram Input = refl
-
-  -- the run of the rules
-  run-in : (d : Direction) (backlog n : ℕ) (m host : List ℕ) (r : Run rules.Queue)
-      → r ≡ transferRun (countersOf (directionOf d)) (virtqueueIn (laidOut (l .registers) d backlog)) n
-      (begun (queueOf ws (countersLive l d) (messageIn l d)) m host)
-      → let c = cardWith d l p ws other in
-      r ≡ transferRun (countersOf (directionOf d)) (virtqueueOf (restOf c) (directionOf d) backlog) n
-      (begun (queueOf (wordsIn c d) (countersIn c d) (workIn c d)) m host)
-  unfolding restOf
-  run-in Output backlog n m host r e = e
-  run-in Input backlog n m host r e = e
-
   flowed-in : (d : Direction) (g : Flow) (ws′ : List ℕ) → flowedCard d g ws′ (cardWith d l p ws other) ≡ cardWith d (flowedLive d g l) p ws′ other
   flowed-in Output g ws′ = refl
   flowed-in Input g ws′ = refl
@@ -86,14 +54,6 @@ module _ (l : Live) (p : Parts) (ws other : List ℕ) where
   refuses-in Output m len id number h e f = sym (h p ws other m f e)
   refuses-in Input m len id number h e f = sym (h p other ws m f e)
 
-  -- the queue's check
-  check-in : (d : Direction) (backlog : ℕ) (m host : List ℕ) (f : FitsWith d l p ws other)
-      (k : refusalOf (restOf (cardWith d l p ws other)) m (rules.streamNumber (directionOf d)) ≡ 0)
-      → checked d backlog (cardWith d l p ws other) m host (with-fit l p ws other d f) k ≡ checkLive l backlog m ws d
-  unfolding restOf
-  check-in Output backlog m host f k = refl
-  check-in Input backlog m host f k = refl
-
 -- a flow keeps the rest of the small state
 lengths-kept : (d : Direction) (g : Flow) (l : Live)
     → (length (flowedLive d g l .states) ≡ length (l .states)) × (length (flowedLive d g l .backlogs) ≡ length (l .backlogs))
@@ -108,50 +68,24 @@ module _ (d : Direction) (backlog : ℕ) (l : Live) (ws m host : List ℕ) where
   id = rules.streamNumber (directionOf d)
 
   module _ (refused : ℕ) (h : RefusesOn l (length m) id refused) where
-    pub lent-refused : (refused ≡ 0 → ⊥) → MovesOn d backlog l ws m host ws m host (untouchedBy refused l)
+    lent-refused : (refused ≡ 0 → ⊥) → MovesOn d backlog l ws m host ws m host (untouchedBy refused l)
     lent-refused n p other f =
         let c = cardWith d l p ws other in
         (transfer-refused d backlog c m host refused (refuses-in l p ws other d m (length m) id refused h refl f) n, f)
 
-    module _ (zero-is : refused ≡ 0) where
-      -- past the checks
-      passed : (p : Parts) (other : List ℕ) → FitsWith d l p ws other → refusalOf (restOf (cardWith d l p ws other)) m id ≡ 0
-      passed p other f = refuses-in l p ws other d m (length m) id refused h refl f ∙ zero-is
-
-      pub lent-idle : checkLive l backlog m ws d ≡ Check.Idle → MovesOn d backlog l ws m host ws m host (untouchedBy done l)
-      lent-idle k p other f =
-          let e = passed p other f in
-          (transfer-idle d backlog (cardWith d l p ws other) m host (with-fit l p ws other d f) e (check-in l p ws other d backlog m host f e ∙ k), f)
-
-      pub lent-broken : (cause : Cause) → checkLive l backlog m ws d ≡ Check.Broken cause
-          → MovesOn d backlog l ws m host ws m host (brokenDown d cause l)
-      lent-broken cause k p other f =
-          let c = cardWith d l p ws other in
-          let fit = with-fit l p ws other d f in
-          let e = passed p other f in
-          let same = registered-in l p ws other d (broken (l .registers)) in (
-            transfer-broken d backlog c m host fit e cause (check-in l p ws other d backlog m host f e ∙ k)
-                ∙ rw (own-registers l p ws other d, same),
-            with-card l p ws other d _ ws f (refl, refl, refl) (rw (own-registers l p ws other d, same) at (broken-card-fit c fit)),
-          )
-
-      module _ (n : ℕ) (k : checkLive l backlog m ws d ≡ Check.New n) (ws′ m′ host′ : List ℕ) (g : Flow)
-          (run : runOf ws′ g m′ host′ ≡ transferRun (countersOf (directionOf d)) (virtqueueIn (laidOut (l .registers) d backlog)) n
-          (begun (queueOf ws (countersLive l d) (messageIn l d)) m host))
-          (inside : g .moved ≤ length host) (kept : length host′ ≡ length host)
-          (message : FitMessage (l .«ram_len») ws′ (g .message)) (room : length ws′ ≡ 68) where
-        pub lent-new : MovesOn d backlog l ws m host ws′ m′ host′ (flowAnswer d g l)
-        lent-new p other f =
-            let c = cardWith d l p ws other in
-            let fit = with-fit l p ws other d f in
-            let e = passed p other f in
-            let at = check-in l p ws other d backlog m host f e ∙ k in
-            let r = run-in l p ws other d backlog n m host (runOf ws′ g m′ host′) run in
-            let after = flowed-in l p ws other d g ws′ in (
-              transfer-new d backlog c m host fit e n at ws′ m′ host′ g r inside kept ∙ rw after,
-              with-card l p ws other d _ ws′ f (lengths-kept d g l)
-                  (rw after at (transfer-fit d backlog c m host fit e n at ws′ m′ host′ g r inside kept (rw (own-ram l p ws other d) message) room)),
-            )
+    lent-flowed : refused ≡ 0 → length m ≡ l .«ram_len» → (ws′ m′ host′ : List ℕ) (g : Flow)
+        → FlowsOn d backlog Transfer l ws m host ws′ m′ host′ g → length ws′ ≡ 68
+        → MovesOn d backlog l ws m host ws′ m′ host′ (flowAnswer d g l)
+    lent-flowed zero-is long ws′ m′ host′ g s room p other f =
+        let c = cardWith d l p ws other in
+        let fit = with-fit l p ws other d f in
+        let e = refuses-in l p ws other d m (length m) id refused h refl f ∙ zero-is in
+        let t = flows-in l p ws other d backlog Transfer m host ws′ m′ host′ g s in
+        let after = flowed-in l p ws other d g ws′ in (
+          transfer-flowed d backlog c m host fit e ws′ m′ host′ g t ∙ rw after,
+          with-card l p ws other d _ ws′ f (lengths-kept d g l)
+              (rw after at (transfer-fit d backlog c m host fit e ws′ m′ host′ g t (long ∙ sym (ram-in l p ws other d)) room)),
+        )
 
 -- ---- the backlog remembered
 
@@ -171,7 +105,7 @@ two-in Output l p ws other f = f .live .backlogs
 two-in Input l p ws other f = f .live .backlogs
 
 -- a transfer whose backlog is remembered is the call
-pub lent-remembered : (d : Direction) (backlog : ℕ) (l : Live) (ws m host ws′ m′ host′ : List ℕ) (t : TransferAnswer)
+lent-remembered : (d : Direction) (backlog : ℕ) (l : Live) (ws m host ws′ m′ host′ : List ℕ) (t : TransferAnswer)
     → MovesOn d backlog l ws m host ws′ m′ host′ t
     → TransfersOn d backlog l ws m host ws′ m′ host′ (rememberedBy (rules.streamNumber (directionOf d)) backlog t)
 lent-remembered d backlog l ws m host ws′ m′ host′ t moves p other f =
@@ -185,3 +119,27 @@ lent-remembered d backlog l ws m host ws′ m′ host′ t moves p other f =
       with-card (t .live) p ws′ other d _ ws′ (e .1) (refl, two-kept b (t .live .backlogs) id backlog, refl)
           (rw noted at (remembered-fit id backlog n (with-fit (t .live) p ws′ other d (e .1)) b)),
     )
+
+-- ---- the calls
+
+-- a refused call is not remembered
+not-noted : (id backlog number : ℕ) (l : Live) → (number ≡ 0 → ⊥) → rememberedBy id backlog (untouchedBy number l) ≡ untouchedBy number l
+not-noted id backlog number l n = rw (ne-eqb number done n)
+
+same-answer : (d : Direction) (backlog : ℕ) (l : Live) (ws m host ws′ m′ host′ : List ℕ) (r t : TransferAnswer) → r ≡ t
+    → TransfersOn d backlog l ws m host ws′ m′ host′ r → TransfersOn d backlog l ws m host ws′ m′ host′ t
+same-answer d backlog l ws m host ws′ m′ host′ r t e k = rw (← e) k
+
+module _ (d : Direction) (backlog : ℕ) (l : Live) (ws m host : List ℕ) (refused : ℕ)
+    (h : RefusesOn l (length m) (rules.streamNumber (directionOf d)) refused) where
+  pub call-refused : (refused ≡ 0 → ⊥) → TransfersOn d backlog l ws m host ws m host (untouchedBy refused l)
+  call-refused n =
+      same-answer d backlog l ws m host ws m host _ _ (not-noted (rules.streamNumber (directionOf d)) backlog refused l n)
+      (lent-remembered d backlog l ws m host ws m host (untouchedBy refused l) (lent-refused d backlog l ws m host refused h n))
+
+  pub call-flowed : refused ≡ 0 → length m ≡ l .«ram_len» → (ws′ m′ host′ : List ℕ) (g : Flow)
+      → FlowsOn d backlog Transfer l ws m host ws′ m′ host′ g → length ws′ ≡ 68
+      → TransfersOn d backlog l ws m host ws′ m′ host′ (rememberedBy (rules.streamNumber (directionOf d)) backlog (flowAnswer d g l))
+  call-flowed zero-is long ws′ m′ host′ g s room =
+      lent-remembered d backlog l ws m host ws′ m′ host′ (flowAnswer d g l)
+      (lent-flowed d backlog l ws m host refused h zero-is long ws′ m′ host′ g s room)

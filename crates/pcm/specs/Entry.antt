@@ -6,9 +6,7 @@ use Prim.Native.Nat.{ℕ}
 use lib.Dec.{eqb}
 use lib.ListN.{length, getD, take, set}
 use Rattle.registers.specs.Answers.{done, plain}
-use Rattle.registers.specs.Rules.{broken}
 use Rattle.registers.specs.declared.Registers.{Registers}
-use Rattle.ring.specs.declared.Cause.{Cause}
 use Rattle.card.specs.Card.{noStream}
 use Rattle.card.specs.Setters.{withParts, withStreamAt}
 use Rattle.card.specs.declared.Card.{Card}
@@ -19,7 +17,7 @@ use Rattle.live.specs.declared.Live.{Live}
 use Rattle.meaning.specs.Card.{restOf, deviceOf, stepOf, leaves}
 use Rattle.message.specs.Message.{directionOf}
 use Rattle.message.specs.declared.Direction.{Direction}
-use Rattle.rules.specs.Answers.{brokenAnswer, answerBy, brokenBy}
+use Rattle.rules.specs.Answers.{answerBy, brokenBy}
 use Rattle.rules.specs.Calls.{Request, Play, Capture, Step, isRunning, admittedFor, transferred, transferStep}
 use Rattle.rules.specs.Control.{withBacklog}
 use Rattle.rules.specs.Counters.{countersOf}
@@ -67,17 +65,9 @@ flowedCard d f ws c = withFlow d f ws (withRegisters (registersAfter f (c .regis
 abbrev pub flowedLive : Direction → Flow → Live → Live
 flowedLive d f l = flowLive d f (live.withRegisters (registersAfter f (l .registers)) l)
 
--- the answer where nothing was done, where the queue is broken, and after a flow
+-- the answer where nothing was done, and after a flow
 abbrev pub untouchedBy : ℕ → Live → TransferAnswer
 untouchedBy number l = record { answer = plain number; count = 0; live = l }
-
-abbrev pub brokenDown : Direction → Cause → Live → TransferAnswer
-brokenDown d cause l =
-    record {
-      answer = brokenAnswer (rules.queueNumber (directionOf d)) cause;
-      count = 0;
-      live = live.withRegisters (broken (l .registers)) l;
-    }
 
 abbrev pub flowAnswer : Direction → Flow → Live → TransferAnswer
 flowAnswer d f l = record { answer = answerBy (rules.queueNumber (directionOf d)) (f .stop); count = f .moved; live = flowedLive d f l }

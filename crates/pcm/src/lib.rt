@@ -11,13 +11,14 @@ ghost use Rattle.registers.specs.Answers.{done};
 ghost use Rattle.rules.specs.Answers.{answerBy, brokenBy};
 ghost use Rattle.rules.specs.Device.{queueNumber, signalledIf};
 ghost use Rattle.stream.specs.Queue.{FitOwn};
-ghost use Rattle.pcm.specs.Entry.{RunsOn, RefusesOn, PassesOn, untouchedBy, brokenDown, MovesOn, TransfersOn};
+ghost use Rattle.pcm.specs.Entry.{RunsOn, RefusesOn, PassesOn, untouchedBy, flowAnswer, rememberedBy, TransfersOn};
 use live::Live;
 use message::Direction;
 use registers::Answer;
 use registers::Registers;
-use ring::Cause;
 use ring::Stop;
+use transfer::Flow;
+use transfer::Job;
 
 // What a call answers: the count is the bytes handed on, or consumed.
 pub struct TransferAnswer {
@@ -31,7 +32,7 @@ fn is_running(live: Live, id: usize) -> bool
     requires { ⌜ FitLive live ⌝ }
     ensures { λ r. ⌜ RunsOn live id r ⌝ }
 {
-    if 2 <= id {
+    if description::STREAMS <= id {
         return false;
     }
     let config = live.config;
@@ -70,96 +71,13 @@ fn registers_after(registers: Registers, signal: bool, stop: Stop) -> Registers
     stream::break_by(stop, stream::signal_if(signal, registers))
 }
 
-// The play queue worked; its stream does not remember the backlog yet.
-fn work_play(
-    live: Live,
-    words: &mut [u64],
-    m: &mut [u8],
-    host: &mut [u8],
-    backlog: u32,
-) -> TransferAnswer
-    requires { ⌜ FitOwn Direction.Output live (now words) ⌝ }
-    ensures { λ r. ⌜ MovesOn Direction.Output backlog live (now (words .entry)) (now (m .entry)) (now (host .entry))
-        (now (words .exit)) (now (m .exit)) (now (host .exit)) r ⌝ }
-{
-    let refused = refusal(live, m.len(), 0);
-    if refused != 0 {
-        return untouched(live, refused);
-    }
-    let registers = live.registers;
-    let q = stream::virtqueue(registers, Direction::Output, backlog);
-    let queues = live.queues;
-    let counters = queues[2];
-    let message = live.play;
-    let size = message::queue_size(Direction::Output);
-    match ring::check_queue(m, q.page, size, counters.taken, message.count) {
-        ring::Check::Idle => untouched(live, registers::DONE),
-        ring::Check::Broken(cause) => broken_down(live, Direction::Output, cause),
-        ring::Check::New(new) => {
-            let handed = transfer::play(m, words, host, q, counters, message, new);
-            let stop = handed.stop;
-            let after = registers_after(registers, handed.signal, stop);
-            let moved = handed.counters;
-            let left = handed.message;
-            let mut next = live;
-            next.registers = after;
-            next.queues[2] = moved;
-            next.play = left;
-            TransferAnswer {
-                answer: answer_by(Direction::Output, stop),
-                count: handed.moved,
-                live: next,
-            }
-        }
-    }
-}
-
-// The capture queue worked; its stream does not remember the backlog yet.
-fn work_capture(
-    live: Live,
-    words: &mut [u64],
-    m: &mut [u8],
-    host: &[u8],
-    backlog: u32,
-) -> TransferAnswer
-    requires { ⌜ FitOwn Direction.Input live (now words) ⌝ }
-    ensures { λ r. ⌜ MovesOn Direction.Input backlog live (now (words .entry)) (now (m .entry)) (now (host .entry))
-        (now (words .exit)) (now (m .exit)) (now (host .entry)) r ⌝ }
-{
-    let refused = refusal(live, m.len(), 1);
-    if refused != 0 {
-        return untouched(live, refused);
-    }
-    let registers = live.registers;
-    let q = stream::virtqueue(registers, Direction::Input, backlog);
-    let queues = live.queues;
-    let counters = queues[3];
-    let message = live.capture;
-    let size = message::queue_size(Direction::Input);
-    match ring::check_queue(m, q.page, size, counters.taken, message.count) {
-        ring::Check::Idle => untouched(live, registers::DONE),
-        ring::Check::Broken(cause) => broken_down(live, Direction::Input, cause),
-        ring::Check::New(new) => {
-            let filled = transfer::capture(m, words, host, q, counters, message, new);
-            let stop = filled.stop;
-            let after = registers_after(registers, filled.signal, stop);
-            let moved = filled.counters;
-            let left = filled.message;
-            let mut next = live;
-            next.registers = after;
-            next.queues[3] = moved;
-            next.capture = left;
-            TransferAnswer {
-                answer: answer_by(Direction::Input, stop),
-                count: filled.moved,
-                live: next,
-            }
-        }
-    }
-}
-
 // The backlogs after a call on stream `id`: it remembers that of a call that answered 0.
-fn remember(number: u8, backlogs: [u32; 2], id: usize, backlog: u32) -> [u32; 2]
+fn remember(
+    number: u8,
+    backlogs: [u32; description::STREAMS],
+    id: usize,
+    backlog: u32,
+) -> [u32; description::STREAMS]
     requires { ⌜ id < 2 ⌝ }
     ensures { λ r. ⌜ r ≡ cond (eqb number done) (set backlogs id backlog) backlogs ⌝ }
 {
@@ -169,6 +87,29 @@ fn remember(number: u8, backlogs: [u32; 2], id: usize, backlog: u32) -> [u32; 2]
     let mut next = backlogs;
     next[id] = backlog;
     next
+}
+
+// What a call answers after a flow on the queue of a direction, that of stream `id`: the registers, the queue and
+// the backlog that the stream remembers are put back.
+fn flowed(live: Live, f: Flow, backlog: u32, direction: Direction, id: usize) -> TransferAnswer
+    requires { ⌜ id < 2 ⌝ }
+    ensures { λ r. ⌜ r ≡ rememberedBy id backlog (flowAnswer direction f live) ⌝ }
+{
+    let stop = f.stop;
+    let answer = answer_by(direction, stop);
+    let registers = live.registers;
+    let after = registers_after(registers, f.signal, stop);
+    let mut next = live;
+    next.registers = after;
+    let mut told = stream::with_flow(next, direction, f);
+    let backlogs = told.backlogs;
+    let remembered = remember(answer.number, backlogs, id, backlog);
+    told.backlogs = remembered;
+    TransferAnswer {
+        answer: answer,
+        count: f.moved,
+        live: told,
+    }
 }
 
 // The play call: payload of the play queue handed to the host buffer. The backlog is the host's, in bytes.
@@ -183,45 +124,51 @@ pub fn play(
     ensures { λ r. ⌜ TransfersOn Direction.Output backlog live (now (words .entry)) (now (m .entry)) (now (host .entry))
         (now (words .exit)) (now (m .exit)) (now (host .exit)) r ⌝ }
 {
-    let told = work_play(live, words, m, host, backlog);
-    let answer = told.answer;
-    let mut next = told.live;
-    let backlogs = next.backlogs;
-    let after = remember(answer.number, backlogs, 0, backlog);
-    next.backlogs = after;
-    TransferAnswer {
-        answer: answer,
-        count: told.count,
-        live: next,
+    let refused = refusal(live, m.len(), 0);
+    if refused != 0 {
+        return untouched(live, refused);
     }
+    let f = stream::run(
+        live,
+        words,
+        m,
+        host,
+        Direction::Output,
+        backlog,
+        Job::Transfer,
+    );
+    flowed(live, f, backlog, Direction::Output, 0)
 }
 
-// The capture call: host bytes recorded into the payload of the capture queue.
+// The capture call: host bytes recorded into the payload of the capture queue. They are only read.
 pub fn capture(
     live: Live,
     words: &mut [u64],
     m: &mut [u8],
-    host: &[u8],
+    host: &mut [u8],
     backlog: u32,
 ) -> TransferAnswer
     requires { ⌜ FitOwn Direction.Input live (now words) ⌝ }
     ensures { λ r. ⌜ TransfersOn Direction.Input backlog live (now (words .entry)) (now (m .entry)) (now (host .entry))
-        (now (words .exit)) (now (m .exit)) (now (host .entry)) r ⌝ }
+        (now (words .exit)) (now (m .exit)) (now (host .exit)) r × (now (host .exit) ≡ now (host .entry)) ⌝ }
 {
-    let told = work_capture(live, words, m, host, backlog);
-    let answer = told.answer;
-    let mut next = told.live;
-    let backlogs = next.backlogs;
-    let after = remember(answer.number, backlogs, 1, backlog);
-    next.backlogs = after;
-    TransferAnswer {
-        answer: answer,
-        count: told.count,
-        live: next,
+    let refused = refusal(live, m.len(), 1);
+    if refused != 0 {
+        return untouched(live, refused);
     }
+    let f = stream::run(
+        live,
+        words,
+        m,
+        host,
+        Direction::Input,
+        backlog,
+        Job::Transfer,
+    );
+    flowed(live, f, backlog, Direction::Input, 1)
 }
 
-// Nothing was done: a check refuses the call, or the queue is idle.
+// Nothing was done: a check refuses the call.
 fn untouched(live: Live, number: u8) -> TransferAnswer
     ensures { λ r. ⌜ r ≡ untouchedBy number live ⌝ }
 {
@@ -229,21 +176,6 @@ fn untouched(live: Live, number: u8) -> TransferAnswer
         answer: registers::plain(number),
         count: 0,
         live: live,
-    }
-}
-
-// The queue is broken: nothing was done.
-fn broken_down(live: Live, direction: Direction, cause: Cause) -> TransferAnswer
-    ensures { λ r. ⌜ r ≡ brokenDown direction cause live ⌝ }
-{
-    let registers = live.registers;
-    let mut next = live;
-    let after = registers.break_down();
-    next.registers = after;
-    TransferAnswer {
-        answer: rules::broken_answer(message::queue_number(direction), cause),
-        count: 0,
-        live: next,
     }
 }
 

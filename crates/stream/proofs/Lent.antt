@@ -1,94 +1,63 @@
--- Emptying a queue of a card that is lent: by the check of its queue, in terms of the small state and the words.
+-- A job on a queue of a card that is lent, in terms of the small state and the words.
 use mathlib.Core.Path.{_≡_, _∙_, refl, sym}
-use mathlib.Core.List.{List}
-use mathlib.Core.Bool.{false}
+use mathlib.Core.List.{List, [], _∷_}
 use Prim.Native.Nat.{ℕ}
-use lib.ListN.{length, getD}
-use Rattle.registers.specs.Map.{sizeOf}
-use Rattle.ring.specs.Rules.{checkOf}
-use Rattle.ring.specs.declared.Cause.{Cause}
-use Rattle.ring.specs.declared.Check.{Check}
-use Rattle.ring.specs.declared.Stop.{Stop}
-use Rattle.card.specs.Card.{noCounters}
-use Rattle.card.specs.Fit.{Fit}
-use Rattle.card.specs.declared.Card.{Card}
+use native.Mathlib.Omega.{arith}
+use lib.ListN.{length}
 use Rattle.card.specs.declared.Counters.{Counters}
+use Rattle.card.specs.declared.Message.{Message}
 use Rattle.card.specs.declared.Parts.{Parts}
 use Rattle.live.specs.declared.Live.{Live}
 use Rattle.meaning.specs.Card.{restOf}
 use Rattle.message.specs.Message.{directionOf, virtqueueIn}
 use Rattle.message.specs.declared.Direction.{Direction}
 use Rattle.message.specs.declared.Direction.the-variants.{Output, Input}
-use Rattle.rules.specs.Calls.{virtqueueOf}
-use Rattle.rules.specs.Counters.{countersOf}
-use Rattle.rules.specs.Device.{queueNumber}
-use Rattle.rules.specs.Transfer.{releaseRun}
-use Rattle.flow.specs.Flow.{freshFlow, Steps}
+use Rattle.message.specs.declared.Virtqueue.{Virtqueue}
+use Rattle.flow.specs.Flow.{freshFlow, StepsOn}
 use Rattle.flow.specs.declared.Flow.{Flow}
-use Rattle.stream.specs.Queue.{laidOut, countersIn, workIn, wordsIn, withFlow, messageIn, flowLive, cardWith, FitsWith, Empties}
+use Rattle.flow.specs.declared.Job.{Job}
+use Rattle.flow.specs.declared.Job.the-variants.{Release}
+use Rattle.transfer.specs.Runs.{checkAt, foundRun}
+use Rattle.stream.specs.Queue.{laidOut, countersLive, messageIn, flowLive, cardWith, FlowsOn, EmptiesOn}
 use Rattle.stream.proofs.Fits.{with-fit, flow-fits}
+use Rattle.stream.proofs.Found.{FlowsIn}
 use Rattle.stream.proofs.Laws.{flowed-in}
-use Rattle.stream.proofs.Outcomes.{checked, empties-idle, empties-broken, empties-new, empties-fit}
+use Rattle.stream.proofs.Outcomes.{empties, empties-fit}
 
--- the counters of a direction's queue
-abbrev pub countersLive : Live → Direction → Counters
-countersLive l d = getD (l .queues) (queueNumber (directionOf d)) noCounters
+-- the queue's place, its counters and its message are those of the small state
+pub flows-by : (d : Direction) (latency : ℕ) (job : Job) (l : Live) (ws m host ws′ m′ host′ : List ℕ) (g : Flow) (q : Virtqueue)
+    (c : Counters) (message : Message) → q ≡ laidOut (l .registers) d latency → c ≡ countersLive l d → message ≡ messageIn l d
+    → StepsOn (directionOf (q .direction)) (foundRun job (virtqueueIn q) (checkAt (virtqueueIn q) c message m)) ws m host
+    (freshFlow c message) ws′ m′ host′ g
+    → FlowsOn d latency job l ws m host ws′ m′ host′ g
+flows-by d latency job l ws m host ws′ m′ host′ g q c message laid counts work s = rw (laid, counts, work) at s
 
-module _ (l : Live) (latency : ℕ) (m ws : List ℕ) where
-  -- the check of the queue
-  abbrev pub checkLive : Direction → Check
-  checkLive d =
-      let q = laidOut (l .registers) d latency in
-      checkOf m (q .page) (sizeOf (queueNumber (directionOf d))) (countersLive l d .taken) (messageIn l d .count)
+module _ (l : Live) (p : Parts) (ws other : List ℕ) where
+  -- of every card with this small state and these words
+  pub flows-in : (d : Direction) (latency : ℕ) (job : Job) (m host ws′ m′ host′ : List ℕ) (g : Flow)
+      → FlowsOn d latency job l ws m host ws′ m′ host′ g → FlowsIn (cardWith d l p ws other) d latency job m host ws′ m′ host′ g
+  unfolding restOf
+  flows-in Output latency job m host ws′ m′ host′ g s = s
+  flows-in Input latency job m host ws′ m′ host′ g s = s
 
-  -- the flow of a Release
-  abbrev pub ReleasesLive : Direction → ℕ → List ℕ → List ℕ → Flow → Type 0
-  ReleasesLive d n ws′ m′ g =
-      Steps (releaseRun (countersOf (directionOf d)) (virtqueueIn (laidOut (l .registers) d latency)) n) ws m
-      (freshFlow (countersLive l d) (messageIn l d)) ws′ m′ g
+  pub ram-in : (d : Direction) → cardWith d l p ws other .«ram_len» ≡ l .«ram_len»
+  ram-in Output = refl
+  ram-in Input = refl
 
-  module _ (p : Parts) (other : List ℕ) where
-    check-in : (d : Direction) (f : FitsWith d l p ws other)
-        → checked (cardWith d l p ws other) d latency m (with-fit l p ws other d f) ≡ checkLive d
-    unfolding restOf
-    check-in Output f = refl
-    check-in Input f = refl
+none-left : (l : List ℕ) → length l ≡ 0 → l ≡ []
+none-left [] e = refl
+none-left (x ∷ l) e = absurd (omega arith)
 
-    steps-in : (d : Direction) (n : ℕ) (ws′ m′ : List ℕ) (g : Flow) → ReleasesLive d n ws′ m′ g
-        → let c = cardWith d l p ws other in
-        Steps (releaseRun (countersOf (directionOf d)) (virtqueueOf (restOf c) (directionOf d) latency) n) (wordsIn c d) m
-        (freshFlow (countersIn c d) (workIn c d)) ws′ m′ g
-    unfolding restOf
-    steps-in Output n ws′ m′ g s = s
-    steps-in Input n ws′ m′ g s = s
-
-    ram-in : (d : Direction) → cardWith d l p ws other .«ram_len» ≡ l .«ram_len»
-    ram-in Output = refl
-    ram-in Input = refl
-
-    module _ (d : Direction) (f : FitsWith d l p ws other) where
-      abbrev before : Card
-      before = cardWith d l p ws other
-
-      abbrev fit : Fit before
-      fit = with-fit l p ws other d f
-
-      pub lent-idle : checkLive d ≡ Check.Idle → Empties (directionOf d) latency before m m Stop.Going false before × FitsWith d l p ws other
-      lent-idle h = (empties-idle before d latency m fit (check-in d f ∙ h), f)
-
-      pub lent-broken : (cause : Cause) → checkLive d ≡ Check.Broken cause
-          → Empties (directionOf d) latency before m m (Stop.Broke cause) false before × FitsWith d l p ws other
-      lent-broken cause h = (empties-broken before d latency m fit cause (check-in d f ∙ h), f)
-
-      pub lent-new : (n : ℕ) → checkLive d ≡ Check.New n → length m ≡ l .«ram_len» → (ws′ m′ : List ℕ) (g : Flow)
-          → ReleasesLive d n ws′ m′ g
-          → length ws′ ≡ 68
-          → Empties (directionOf d) latency before m m′ (g .stop) (g .signal) (cardWith d (flowLive d g l) p ws′ other)
-          × FitsWith d (flowLive d g l) p ws′ other
-      lent-new n h long ws′ m′ g s room =
-          let k = check-in d f ∙ h in
-          let at = long ∙ sym (ram-in d) in
-          let t = steps-in d n ws′ m′ g s in (
-            rw (← (flowed-in g ws′ l p ws other d)) (empties-new before d latency m fit n k at ws′ m′ g t room),
-            flow-fits l p ws other d g ws′ f (empties-fit before d latency m fit n k at ws′ m′ g t room),
-          )
+-- a Release with an empty host buffer empties the queue
+pub lent-emptied : (d : Direction) (latency : ℕ) (l : Live) (ws m ws′ m′ host host′ : List ℕ) (g : Flow)
+    → FlowsOn d latency Release l ws m host ws′ m′ host′ g → host ≡ [] → length m ≡ l .«ram_len» → length ws′ ≡ 68
+    → EmptiesOn d latency l ws m ws′ m′ (record { stop = g .stop; signal = g .signal; live = flowLive d g l })
+lent-emptied d latency l ws m ws′ m′ host host′ g s none long room p other f =
+    let c = cardWith d l p ws other in
+    let fit = with-fit l p ws other d f in
+    let left = none-left host′ (s .host-long ∙ rw none) in
+    let t = flows-in l p ws other d latency Release m [] ws′ m′ [] g (rw (none, left) at s) in
+    let at = long ∙ sym (ram-in l p ws other d) in (
+      rw (← (flowed-in g ws′ l p ws other d)) (empties c d latency m fit ws′ m′ g t),
+      flow-fits l p ws other d g ws′ f (empties-fit c d latency m fit ws′ m′ g t at room),
+    )

@@ -14,7 +14,7 @@ use Rattle.card.specs.declared.Parts.{Parts}
 use Rattle.live.specs.Live.{cardIn, FitLive, FitPlay, FitCapture, Fits}
 use Rattle.live.specs.declared.Live.{Live}
 use Rattle.meaning.specs.Card.{countersAt, restOf, deviceOf}
-use Rattle.message.specs.Message.{directionOf}
+use Rattle.message.specs.Message.{directionOf, virtqueueIn}
 use Rattle.message.specs.declared.Virtqueue.{Virtqueue}
 use Rattle.message.specs.declared.Direction.{Direction}
 use Rattle.message.specs.declared.Direction.the-variants.{Output, Input}
@@ -22,7 +22,10 @@ use Rattle.rules.specs.Calls.{emptied, virtqueueOf}
 use Rattle.rules.specs.Counters.{countersOf}
 use Rattle.rules.specs.Device as rules
 use Rattle.ring.specs.declared.Stop.{Stop}
+use Rattle.flow.specs.Flow.{freshFlow, StepsOn}
 use Rattle.flow.specs.declared.Flow.{Flow}
+use Rattle.flow.specs.declared.Job.{Job}
+use Rattle.transfer.specs.Runs.{checkAt, foundRun}
 use Rattle.stream.specs.declared.Emptied.{Emptied}
 
 -- ---- in the small state
@@ -40,6 +43,16 @@ laidOut g d latency =
 abbrev pub messageIn : Live → Direction → Message
 messageIn l Output = l .play
 messageIn l Input = l .capture
+
+abbrev pub countersLive : Live → Direction → Counters
+countersLive l d = getD (l .queues) (rules.queueNumber (directionOf d)) card.noCounters
+
+-- a job on that queue, with statuses of this latency: words, memory and host buffer before, then after, and the flow that it leaves
+abbrev pub FlowsOn : Direction → ℕ → Job → Live → List ℕ → List ℕ → List ℕ → List ℕ → List ℕ → List ℕ → Flow → Type 0
+FlowsOn d latency job l ws m host ws′ m′ host′ r =
+    let v : rules.Virtqueue = virtqueueIn (laidOut (l .registers) d latency) in
+    StepsOn (directionOf d) (foundRun job v (checkAt v (countersLive l d) (messageIn l d) m)) ws m host
+    (freshFlow (countersLive l d) (messageIn l d)) ws′ m′ host′ r
 
 -- after a flow on the queue of a direction
 abbrev pub flowLive : Direction → Flow → Live → Live

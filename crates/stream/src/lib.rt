@@ -2,14 +2,12 @@
 // work, the state with another one, and its emptying by a RELEASE (01, "Control messages"). The words of its
 // chain are lent beside the state.
 ghost use mathlib.Core.Path.{_≡_};
-ghost use lib.ListN.{length, getD};
-ghost use Rattle.card.specs.Card.{noCounters};
+ghost use lib.ListN.{length};
 ghost use Rattle.live.specs.Live.{FitLive};
-ghost use Rattle.message.specs.Message.{directionOf};
 ghost use Rattle.rules.specs.Answers.{brokenBy};
 ghost use Rattle.registers.specs.Fit.{FitRegisters};
-ghost use Rattle.rules.specs.Device.{signalledIf, queueNumber};
-ghost use Rattle.stream.specs.Queue.{laidOut, messageIn, Remembers, flowLive, FitOwn, EmptiesOn};
+ghost use Rattle.rules.specs.Device.{signalledIf};
+ghost use Rattle.stream.specs.Queue.{laidOut, messageIn, countersLive, Remembers, flowLive, FitOwn, FlowsOn, EmptiesOn};
 use card::Counters;
 use card::Message;
 use live::Live;
@@ -18,6 +16,12 @@ use message::Virtqueue;
 use registers::Registers;
 use ring::Stop;
 use transfer::Flow;
+use transfer::Job;
+
+// The queues of the streams, as places in the card's arrays.
+const PLAY: usize = registers::PLAY_QUEUE as usize;
+
+const CAPTURE: usize = registers::CAPTURE_QUEUE as usize;
 
 // What a RELEASE made of a stream's queue: where it stands, an interrupt wanted, the small state.
 pub struct Emptied {
@@ -71,8 +75,8 @@ pub fn virtqueue(registers: Registers, direction: Direction, latency: u32) -> Vi
     let pages = registers.pages;
     let indirect = registers.indirect();
     let page = match direction {
-        Direction::Output => pages[2],
-        Direction::Input => pages[3],
+        Direction::Output => pages[PLAY],
+        Direction::Input => pages[CAPTURE],
     };
     Virtqueue {
         direction: direction,
@@ -85,12 +89,12 @@ pub fn virtqueue(registers: Registers, direction: Direction, latency: u32) -> Vi
 // The counters of a stream's queue.
 fn counters_of(live: Live, direction: Direction) -> Counters
     requires { ⌜ FitLive live ⌝ }
-    ensures { λ r. ⌜ r ≡ getD (live .queues) (queueNumber (directionOf direction)) noCounters ⌝ }
+    ensures { λ r. ⌜ r ≡ countersLive live direction ⌝ }
 {
     let queues = live.queues;
     match direction {
-        Direction::Output => queues[2],
-        Direction::Input => queues[3],
+        Direction::Output => queues[PLAY],
+        Direction::Input => queues[CAPTURE],
     }
 }
 
@@ -113,16 +117,37 @@ pub fn with_flow(live: Live, direction: Direction, f: Flow) -> Live
     let message = f.message;
     match direction {
         Direction::Output => {
-            next.queues[2] = counters;
+            next.queues[PLAY] = counters;
             next.play = message;
             next
         }
         Direction::Input => {
-            next.queues[3] = counters;
+            next.queues[CAPTURE] = counters;
             next.capture = message;
             next
         }
     }
+}
+
+// A job on a stream's queue, with statuses of this latency.
+pub fn run(
+    live: Live,
+    words: &mut [u64],
+    m: &mut [u8],
+    host: &mut [u8],
+    direction: Direction,
+    latency: u32,
+    job: Job,
+) -> Flow
+    requires { ⌜ FitOwn direction live (now words) × (length (now m) ≡ live .«ram_len») ⌝ }
+    ensures { λ r. ⌜ FlowsOn direction latency job live (now (words .entry)) (now (m .entry)) (now (host .entry))
+        (now (words .exit)) (now (m .exit)) (now (host .exit)) r ⌝ }
+{
+    let registers = live.registers;
+    let q = virtqueue(registers, direction, latency);
+    let counters = counters_of(live, direction);
+    let message = message_of(live, direction);
+    transfer::run(m, words, host, q, counters, message, job)
 }
 
 // A RELEASE of a stream, past its checks: its queue is checked, its message in work completed, then
@@ -137,30 +162,12 @@ pub fn empty(
     requires { ⌜ FitOwn direction live (now words) × (length (now m) ≡ live .«ram_len») ⌝ }
     ensures { λ r. ⌜ EmptiesOn direction latency live (now (words .entry)) (now (m .entry)) (now (words .exit)) (now (m .exit)) r ⌝ }
 {
-    let registers = live.registers;
-    let q = virtqueue(registers, direction, latency);
-    let counters = counters_of(live, direction);
-    let message = message_of(live, direction);
-    let size = message::queue_size(direction);
-    match ring::check_queue(m, q.page, size, counters.taken, message.count) {
-        ring::Check::Idle => Emptied {
-            stop: Stop::Going,
-            signal: false,
-            live: live,
-        },
-        ring::Check::Broken(cause) => Emptied {
-            stop: Stop::Broke(cause),
-            signal: false,
-            live: live,
-        },
-        ring::Check::New(new) => {
-            let f = transfer::release(m, words, q, counters, message, new);
-            let stop = f.stop;
-            Emptied {
-                stop: stop,
-                signal: f.signal,
-                live: with_flow(live, direction, f),
-            }
-        }
+    let mut host = [0u8; 0];
+    let f = run(live, words, m, &mut host, direction, latency, Job::Release);
+    let stop = f.stop;
+    Emptied {
+        stop: stop,
+        signal: f.signal,
+        live: with_flow(live, direction, f),
     }
 }

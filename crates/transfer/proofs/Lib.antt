@@ -1,4 +1,2 @@
--- Laws of the loops over new entries.
+-- Laws of the loop over new entries.
 pub mod Laws
-pub mod Whiles
-pub mod Rest

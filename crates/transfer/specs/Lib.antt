@@ -1,2 +1,2 @@
--- The loops over new entries.
-pub mod Whiles
+-- What a job makes of a stream's queue.
+pub mod Runs

@@ -147,18 +147,18 @@ pub extern "C" fn wekshurag_card_play(
     }
 }
 
-// The capture call: host bytes recorded into the payload of the capture queue.
+// The capture call: host bytes recorded into the payload of the capture queue. They are only read.
 #[no_mangle]
 pub extern "C" fn wekshurag_card_capture(
     live: &mut Live,
     words: &mut [u64],
     ram: &mut [u8],
-    host: &[u8],
+    host: &mut [u8],
     backlog: u32,
 ) -> CallResult
     requires { ⌜ FitOwn Direction.Input (now live) (now words) ⌝ }
     ensures { λ r. ⌜ TransfersOn Direction.Input backlog (now (live .entry)) (now (words .entry)) (now (ram .entry)) (now (host .entry))
-        (now (words .exit)) (now (ram .exit)) (now (host .entry)) (told r (now (live .exit))) ⌝ }
+        (now (words .exit)) (now (ram .exit)) (now (host .exit)) (told r (now (live .exit))) × (now (host .exit) ≡ now (host .entry)) ⌝ }
 {
     let before = *live;
     let after = entries::capture(before, words, ram, host, backlog);

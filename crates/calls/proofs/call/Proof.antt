@@ -1,4 +1,4 @@
--- Each entry does the rules' step; the call tells what the entry told, and only a play is lent the host buffer to write.
+-- Each entry does the rules' step; the call tells what the entry told, and only a play writes to the host buffer.
 use mathlib.Core.Path.{_≡_, refl}
 use borrow.Author.Needs.{needs}
 use Rattle.meaning.proofs.Steps.{read-step, write-step}
@@ -103,9 +103,10 @@ same-length-3 c = search needs
 
 returns-4 : tie.Need-returns-4
 returns-4 c =
-    let e = c .before .before .before .before .before .play in
+    let p = c .before .before .before .before .before in
+    let e = p .play in
     let o : c .queue-outcome2 .result ≡ queueOutcome (e .result .answer) (e .result .count) (e .result .card) = c .queue-outcome2 .ensures in
-    rw (c .before .before .before .before .before .before .before .before .before .request3 .given .1, o) (record { says = e .ensures .0; fit = e .ensures .1 }, refl)
+    rw (p .before .before .before .before .request3 .given .1, o) (record { says = e .ensures .0; fit = e .ensures .1 }, refl)
 
 same-length-4 : tie.Need-same-length-4
 same-length-4 c = search needs
@@ -115,9 +116,10 @@ same-length-5 c = search needs
 
 returns-5 : tie.Need-returns-5
 returns-5 c =
-    let e = c .before .before .before .capture in
+    let p = c .before .before .before .before .before in
+    let e = p .capture in
     let o : c .queue-outcome3 .result ≡ queueOutcome (e .result .answer) (e .result .count) (e .result .card) = c .queue-outcome3 .ensures in
-    rw (c .before .before .before .before .before .before .before .request4 .given .1, o) (record { says = e .ensures .0; fit = e .ensures .1 }, refl)
+    rw (p .before .before .before .before .request4 .given .1, o) (record { says = e .ensures .0; fit = e .ensures .1 }, e .ensures .2)
 
 same-length-6 : tie.Need-same-length-6
 same-length-6 c = search needs

@@ -4,6 +4,13 @@ use borrow.Author.Needs.{needs}
 use Rattle.calls.proofs.capture.Statement.{statement}
 use Rattle.calls.proofs.capture.Tie as tie
 
+-- where the entry was called, and where the function starts
+abbrev captured : tie.After-joined → tie.After-capture
+captured c = (c .before .before .before .before .before .before) .before .before .before .before
+
+abbrev lent : tie.After-capture → tie.After-of-card
+lent c = c .before .before .before .before
+
 of-card-requires : tie.Need-of-card-requires
 of-card-requires c κs = search needs
 
@@ -12,7 +19,7 @@ slice-aggregate-capture c = search needs
 
 capture-requires : tie.Need-capture-requires
 capture-requires c κs =
-    let at = c .before .before in
+    let at = c .before .before .before in
     let s = at .before .before .before .before in
     rw (at .of-card .ensures) (capture-own (s .args .card) (s .pre))
 
@@ -22,21 +29,18 @@ joined-requires c κs = search needs
 same-length : tie.Need-same-length
 same-length c = search needs
 
--- where the entry was called, and where the function starts
-abbrev captured : tie.After-joined → tie.After-capture
-captured c = (c .before .before .before .before .before .before) .before .before
-
-abbrev lent : tie.After-capture → tie.After-of-card
-lent c = c .before .before .before
+same-length-2 : tie.Need-same-length-2
+same-length-2 c = search needs
 
 returns : tie.Need-returns
 returns c =
     let p = captured c in
     let s = lent p .before .before .before .before in
     let a = s .args in
-    rw (c .joined .ensures)
-    (capture-whole (a .card) (s .pre) _ (lent p .of-card .ensures) (a .backlog) (a .m .now) (a .host .now) _ _ _ (p .capture .result)
-    (p .capture .ensures))
+    let e =
+    capture-whole (a .card) (s .pre) _ (lent p .of-card .ensures) (a .backlog) (a .m .now) (a .host .now) _ _ _ (p .capture .result)
+    (p .capture .ensures .0) in
+    rw (c .joined .ensures) (e .0, e .1, p .capture .ensures .1)
 
 pub capture-spec : {M : Type 1} → statement M
 capture-spec =
@@ -47,4 +51,5 @@ capture-spec =
     capture-requires
     joined-requires
     same-length
+    same-length-2
     returns)

@@ -42,7 +42,7 @@ returns c =
     record {
       steps = record {
         run = λ host. rw (c .either .ensures, c .before .no-message .ensures, em, ec, ei)
-            (ended-run (virtqueueIn (a .q)) (endingOf (a .ending)) code (a .list .now) (a .m .now) host f (start .pre .0)
+            (ended-run (virtqueueIn (a .q)) (endingOf (a .job)) code (a .list .now) (a .m .now) host f (start .pre .0)
             (at-status-of .status-of .ensures));
         message = rw (c .before .no-message .ensures) (no-message-fit _ _);
         moved = refl;
