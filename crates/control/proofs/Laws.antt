@@ -1,7 +1,7 @@
 -- Laws of control requests: a request goes by its first bytes.
 use mathlib.Core.Path.{_≡_, refl, sym, _∙_, ap}
 use mathlib.Core.Bool.{Bool, true, false}
-use mathlib.Core.List.{List, [], _∷_, _++_, map}
+use mathlib.Core.List.{List, _++_}
 use mathlib.Core.Option.{Option, none, some}
 use Prim.Native.Nat.{ℕ, zero, suc, _+_, _-_, _≤_, _<_}
 use native.Mathlib.Omega.{arith}
@@ -20,6 +20,7 @@ use Rattle.rules.specs.declared.Asked.{Asked}
 use Rattle.rules.specs.declared.Asked.the-variants.{Information, Remap, Pcm}
 use Rattle.rules.specs.declared.Command.{Command}
 use Rattle.rules.specs.declared.Command.the-variants as command
+use Rattle.control.specs.Control.{readAs, Reads}
 
 -- ---- a request's first bytes
 
@@ -85,3 +86,10 @@ module _ (p : rules.Parts) (xs ys : List ℕ) (h : (n at : ℕ) → at + n ≤ 2
 
 pub length-request : (m ws : List ℕ) (r : Ranges) → Sound ws r → length (bytesAt m (places (rangesOf ws r))) ≡ r .bytes
 length-request m ws r s = rw (length-map, length-places) (sym s)
+
+-- what a request asks that is known and has the length of its layout
+pub reads-as : (q bs : List ℕ) (a : Asked) → ((p : rules.Parts) (room : ℕ) → rules.served p q room ≡ rules.answerTo a p bs room)
+    → Reads q bs (readAs a)
+reads-as q bs (Information l) h = h
+reads-as q bs Remap h = h
+reads-as q bs (Pcm c) h = h
