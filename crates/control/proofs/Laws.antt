@@ -14,6 +14,7 @@ use Rattle.memory.proofs.Laws.{le-same}
 use Rattle.ranges.specs.Ranges.{Sound, rangesOf, places, bytesAt}
 use Rattle.ranges.specs.declared.Ranges.{Ranges}
 use Rattle.ranges.proofs.Laws.{length-places, map-take}
+use Rattle.reply.specs.declared.Pending.{Pending}
 use Rattle.rules.specs.Control as rules
 use Rattle.rules.specs.Lifecycle.{transition}
 use Rattle.rules.specs.declared.Asked.{Asked}
@@ -88,8 +89,9 @@ pub length-request : (m ws : List ℕ) (r : Ranges) → Sound ws r → length (b
 length-request m ws r s = rw (length-map, length-places) (sym s)
 
 -- what a request asks that is known and has the length of its layout
-pub reads-as : (q bs : List ℕ) (a : Asked) → ((p : rules.Parts) (room : ℕ) → rules.served p q room ≡ rules.answerTo a p bs room)
-    → Reads q bs (readAs a)
-reads-as q bs (Information l) h = h
-reads-as q bs Remap h = h
-reads-as q bs (Pcm c) h = h
+pub reads-as : (ws : List ℕ) (pending : Pending) (q bs m : List ℕ) (a : Asked)
+    → ((p : rules.Parts) (room : ℕ) → rules.served p q room ≡ rules.answerTo a p bs room)
+    → Reads ws pending q bs m m (readAs a)
+reads-as ws pending q bs m (Information l) h = (refl, h)
+reads-as ws pending q bs m Remap h = (refl, h)
+reads-as ws pending q bs m (Pcm c) h = (refl, h)

@@ -2,6 +2,8 @@
 use mathlib.Core.Path.{_≡_}
 use mathlib.Core.List.{List}
 use Prim.Native.Nat.{ℕ}
+use Rattle.reply.specs.declared.Pending.{Pending}
+use Rattle.requests.specs.Requests.{Replies}
 use Rattle.rules.specs.Control as rules
 use Rattle.rules.specs.declared.Asked.{Asked}
 use Rattle.rules.specs.declared.Asked.the-variants.{Information, Remap, Pcm}
@@ -20,9 +22,14 @@ abbrev pub changedBy : Change → rules.Parts → List ℕ → rules.Served
 changedBy change.Remap p bs = rules.remap p bs
 changedBy (change.Pcm c) p bs = rules.commanded p c bs
 
--- what a request comes to, whatever the parts and the room for the reply: told by its first bytes
-abbrev pub Reads : List ℕ → List ℕ → Reading → Type 0
-Reads request bs (Refused code) = (p : rules.Parts) (room : ℕ) → rules.served p request room ≡ rules.refusal p code
-Reads request bs (Informs l) = (p : rules.Parts) (room : ℕ) → rules.served p request room ≡ rules.information p l bs room
-Reads request bs Remaps = (p : rules.Parts) (room : ℕ) → rules.served p request room ≡ changedBy change.Remap p bs
-Reads request bs (Commands c) = (p : rules.Parts) (room : ℕ) → rules.served p request room ≡ changedBy (change.Pcm c) p bs
+-- what a request comes to, whatever the parts and the room for the reply: one that is refused is completed; of any other its first
+-- bytes tell
+abbrev pub Reads : List ℕ → Pending → List ℕ → List ℕ → List ℕ → List ℕ → Reading → Type 0
+Reads ws pending request bs m m′ (Refused posted) =
+    (p : rules.Parts) (room : ℕ) → Replies ws pending p (rules.served p request room) posted m m′
+Reads ws pending request bs m m′ (Informs l) =
+    (m′ ≡ m) × ((p : rules.Parts) (room : ℕ) → rules.served p request room ≡ rules.information p l bs room)
+Reads ws pending request bs m m′ Remaps =
+    (m′ ≡ m) × ((p : rules.Parts) (room : ℕ) → rules.served p request room ≡ changedBy change.Remap p bs)
+Reads ws pending request bs m m′ (Commands c) =
+    (m′ ≡ m) × ((p : rules.Parts) (room : ℕ) → rules.served p request room ≡ changedBy (change.Pcm c) p bs)

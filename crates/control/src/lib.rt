@@ -15,14 +15,15 @@ use ranges::Ranges;
 use reply::Pending;
 use reply::Served;
 use requests::Check;
+use ring::Posted;
 use rules::Asked;
 use rules::Command;
 use rules::Decoded;
 use rules::Listing;
 
-// What a request asks: it is refused with a status, it is for information, or it may change the parts.
+// What a request asks: it is refused and its message completed, it is for information, or it may change the parts.
 pub enum Reading {
-    Refused(u32),
+    Refused(Posted),
     Informs(Listing),
     Remaps,
     Commands(Command),
@@ -97,16 +98,23 @@ fn read_as(asked: Asked) -> Reading
 }
 
 // What a control request asks. Its first bytes are put into `bytes`; no layout is longer.
-pub fn read(m: &[u8], list: &[u64], request: Ranges, bytes: &mut [u8]) -> Reading
+pub fn read(
+    m: &mut [u8],
+    list: &[u64],
+    pending: Pending,
+    request: Ranges,
+    bytes: &mut [u8],
+) -> Reading
     requires { ⌜ Sound (now list) request × (now bytes ≡ replicate 24 0) ⌝ }
-    ensures { λ r. ⌜ Reads (bytesAt (now (m .entry)) (places (rangesOf (now (list .entry)) request))) (now (bytes .exit)) r ⌝ }
+    ensures { λ r. ⌜ Reads (now (list .entry)) pending (bytesAt (now (m .entry)) (places (rangesOf (now (list .entry)) request)))
+        (now (bytes .exit)) (now (m .entry)) (now (m .exit)) r ⌝ }
 {
     ranges::gather(m, list, request, 0, bytes, 0, 24);
     let Decoded::Known(asked) = decode(memory::number32(bytes, 0)) else {
-        return Reading::Refused(rules::NOT_SUPP);
+        return Reading::Refused(reply::complete(m, list, pending, rules::NOT_SUPP));
     };
     let Check::Passed = is_laid_out(asked, request.bytes) else {
-        return Reading::Refused(rules::BAD_MSG);
+        return Reading::Refused(reply::complete(m, list, pending, rules::BAD_MSG));
     };
     read_as(asked)
 }

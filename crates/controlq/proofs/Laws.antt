@@ -8,6 +8,8 @@ use borrow.Author.Tests.{ltb-true, ltb-false}
 use lib.Dec.{eqb, leb, ltb}
 use lib.ListN.{length, getD, take, length-take, length-set}
 use lib.Seq.{getD-set-same, getD-set-other, set-out, take-set-lt}
+use Rattle.control.specs.Control.{Reads}
+use Rattle.control.specs.declared.Reading.{Reading}
 use Rattle.counts.specs.declared.DescriptorNumber.{DescriptorNumber}
 use Rattle.counts.specs.declared.PageNumber.{PageNumber}
 use Rattle.ranges.specs.Ranges.{noRanges, rangesOf, places, bytesAt, total, allInside}
@@ -55,6 +57,7 @@ use Rattle.rules.specs.Device.{withControl, pageOf, signalledIf, oneTaken}
 use Rattle.rules.specs.Numbers.{controlQueue, sOk, sBadMsg}
 use Rattle.reply.specs.Reply.{Outcome, Serves, completionOf, closedOf, postedBy}
 use Rattle.reply.specs.declared.Kind.{Kind}
+use Rattle.reply.specs.declared.Pending as reply
 use Rattle.reply.specs.declared.Kind.the-variants as kinds
 use Rattle.reply.specs.declared.Served.{Served}
 use Rattle.stream.specs.declared.Emptied.{Emptied}
@@ -516,3 +519,8 @@ comes-by s s′ l p pw cw ws bs m r e h = rw e h
 -- what is known of a turn, of an equal one is
 pub turns-as : (l : Live) (p : Parts) (m ws bs m′ : List ℕ) (r r′ : Turn) → r ≡ r′ → Turns l p m ws bs m′ r → Turns l p m ws bs m′ r′
 turns-as l p m ws bs m′ r r′ e h = rw (← e) h
+
+-- .. and of a reading
+pub reads-told : (ws : List ℕ) (pending : reply.Pending) (q bs m m′ : List ℕ) (r r′ : Reading) → r ≡ r′ → Reads ws pending q bs m m′ r
+    → Reads ws pending q bs m m′ r′
+reads-told ws pending q bs m m′ r r′ e h = rw (← e) h

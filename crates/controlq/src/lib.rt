@@ -407,8 +407,8 @@ fn answer(
     let head = message.head;
     let reply = message.reply;
     let pending = pending_in(live, head, reply);
-    match control::read(m, list, request, bytes) {
-        Reading::Refused(code) => Answered::Completed(reply::complete(m, list, pending, code)),
+    match control::read(m, list, pending, request, bytes) {
+        Reading::Refused(posted) => Answered::Completed(posted),
         Reading::Informs(l) => {
             let current = live::parts_now(live, parts);
             Answered::Completed(requests::inform(m, list, current, pending, l, bytes, reply.bytes))

@@ -1,5 +1,5 @@
 -- The first bytes tell code, layout and request; all else of the request is passed over.
-use mathlib.Core.Path.{_≡_, _∙_, sym, ap}
+use mathlib.Core.Path.{_≡_, _∙_, refl, sym, ap}
 use mathlib.Core.Bool.{true, false}
 use mathlib.Core.List.{List}
 use Prim.Native.Nat.{ℕ, _+_, _≤_}
@@ -19,7 +19,7 @@ use Rattle.control.proofs.read.Tie as tie
 
 -- where the function starts, and where a known request is decoded
 abbrev start : tie.After-number32 → tie.Start
-start c = c .before .before .before .before .before .before .before .before .before
+start c = c .before .before .before .before .before .before .before .before .before .before
 
 abbrev decoded : tie.After-known-told → tie.After-decode
 decoded c = c .before .before .before
@@ -65,16 +65,24 @@ enum-known-asked c = search needs
 enum-told : tie.Need-enum-told
 enum-told c = search needs
 
+complete-requires : tie.Need-complete-requires
+complete-requires c κs = search needs
+
 same-length : tie.Need-same-length
 same-length c = search needs
+
+same-length-2 : tie.Need-same-length-2
+same-length-2 c = search needs
 
 returns : tie.Need-returns
 unfolding served
 returns c p room =
-    let d = c .before .before in
+    let o = c .before .before in
+    let t = o .before .before in
+    let d = t .before .before in
     let unknown : decodedOf (word (whole (start (d .before))) 0) ≡ Unknown = rw (← (code-is (d .before)))
-    (sym (d .decode .ensures) ∙ c .enum-told .given .1) in
-    rw unknown
+    (sym (d .decode .ensures) ∙ t .enum-told .given .1) in
+    rw unknown (record { bytes = _; same = refl; completes = o .complete .ensures })
 
 is-laid-out-requires : tie.Need-is-laid-out-requires
 is-laid-out-requires c κs = search needs
@@ -85,25 +93,36 @@ enum-told-2 c = search needs
 enum-told-3 : tie.Need-enum-told-3
 enum-told-3 c = search needs
 
-same-length-2 : tie.Need-same-length-2
-same-length-2 c = search needs
+complete-requires-2 : tie.Need-complete-requires-2
+complete-requires-2 c κs = search needs
+
+same-length-3 : tie.Need-same-length-3
+same-length-3 c = search needs
+
+same-length-4 : tie.Need-same-length-4
+same-length-4 c = search needs
 
 returns-2 : tie.Need-returns-2
 unfolding served
 returns-2 c p room =
-    let i = c .before .before in
+    let o = c .before .before in
+    let t = o .before .before in
+    let i = t .before .before in
     let k = i .before in
     let a = read-at k in
     let short : leb (layoutOf (k .before .asked .given .0 .0)) (length (whole a)) ≡ false =
     rw (length-request (a .args .m .now) _ (a .args .request) (a .pre .0))
-    (check-failed _ (sym (i .is-laid-out .ensures) ∙ c .enum-told3 .given .1)) in
-    rw (known k, short)
+    (check-failed _ (sym (i .is-laid-out .ensures) ∙ t .enum-told3 .given .1)) in
+    rw (known k, short) (record { bytes = _; same = refl; completes = o .complete2 .ensures })
 
 read-as-requires : tie.Need-read-as-requires
 read-as-requires c κs = search needs
 
-same-length-3 : tie.Need-same-length-3
-same-length-3 c = search needs
+same-length-5 : tie.Need-same-length-5
+same-length-5 c = search needs
+
+same-length-6 : tie.Need-same-length-6
+same-length-6 c = search needs
 
 returns-3 : tie.Need-returns-3
 unfolding served
@@ -115,7 +134,7 @@ returns-3 c =
     let long : leb (layoutOf asked) (length (whole a)) ≡ true = rw (length-request (a .args .m .now) _ (a .args .request) (a .pre .0))
     (check-passed _ (sym (i .is-laid-out .ensures) ∙ c .before .enum-told2 .given .1)) in
     rw (c .read-as .ensures)
-    (reads-as _ _ asked (λ p room. rw (known k, long, answers-agree p _ (whole a) (agree (decoded k .before)) asked room)))
+    (reads-as _ _ _ _ _ asked (λ p room. rw (known k, long, answers-agree p _ (whole a) (agree (decoded k .before)) asked room)))
 
 pub read-spec : {M : Type 1} → statement M
 read-spec =
@@ -126,13 +145,18 @@ read-spec =
     decode-requires
     enum-known-asked
     enum-told
+    complete-requires
     same-length
+    same-length-2
     returns
     is-laid-out-requires
     enum-told-2
     enum-told-3
-    same-length-2
+    complete-requires-2
+    same-length-3
+    same-length-4
     returns-2
     read-as-requires
-    same-length-3
+    same-length-5
+    same-length-6
     returns-3)
