@@ -1,7 +1,7 @@
 -- Laws of control requests: a request goes by its first bytes.
 use mathlib.Core.Path.{_≡_, refl, sym, _∙_, ap}
 use mathlib.Core.Bool.{Bool, true, false}
-use mathlib.Core.List.{List, [], _∷_, _++_, map}
+use mathlib.Core.List.{List, _++_}
 use mathlib.Core.Option.{Option, none, some}
 use Prim.Native.Nat.{ℕ, zero, suc, _+_, _-_, _≤_, _<_}
 use native.Mathlib.Omega.{arith}
@@ -14,12 +14,14 @@ use Rattle.memory.proofs.Laws.{le-same}
 use Rattle.ranges.specs.Ranges.{Sound, rangesOf, places, bytesAt}
 use Rattle.ranges.specs.declared.Ranges.{Ranges}
 use Rattle.ranges.proofs.Laws.{length-places, map-take}
+use Rattle.reply.specs.declared.Pending.{Pending}
 use Rattle.rules.specs.Control as rules
 use Rattle.rules.specs.Lifecycle.{transition}
 use Rattle.rules.specs.declared.Asked.{Asked}
 use Rattle.rules.specs.declared.Asked.the-variants.{Information, Remap, Pcm}
 use Rattle.rules.specs.declared.Command.{Command}
 use Rattle.rules.specs.declared.Command.the-variants as command
+use Rattle.control.specs.Control.{readAs, Reads}
 
 -- ---- a request's first bytes
 
@@ -85,3 +87,11 @@ module _ (p : rules.Parts) (xs ys : List ℕ) (h : (n at : ℕ) → at + n ≤ 2
 
 pub length-request : (m ws : List ℕ) (r : Ranges) → Sound ws r → length (bytesAt m (places (rangesOf ws r))) ≡ r .bytes
 length-request m ws r s = rw (length-map, length-places) (sym s)
+
+-- what a request asks that is known and has the length of its layout
+pub reads-as : (ws : List ℕ) (pending : Pending) (q bs m : List ℕ) (a : Asked)
+    → ((p : rules.Parts) (room : ℕ) → rules.served p q room ≡ rules.answerTo a p bs room)
+    → Reads ws pending q bs m m (readAs a)
+reads-as ws pending q bs m (Information l) h = (refl, h)
+reads-as ws pending q bs m Remap h = (refl, h)
+reads-as ws pending q bs m (Pcm c) h = (refl, h)

@@ -1,22 +1,39 @@
-// Control messages (01, "Control messages"): a request is decoded and served, step by step. A step that
-// refuses completes the message. The queues, and with them the work of RELEASE, are the caller's.
+// Control messages (01, "Control messages"): what a request asks, and the requests that may change the parts.
+// The queues, and with them the work of RELEASE, are the caller's.
 ghost use mathlib.Core.Path.{_≡_};
 ghost use lib.Dec.{leb};
+ghost use lib.ListN.{replicate};
 ghost use Rattle.card.specs.Fit.{FitParts};
 ghost use Rattle.meaning.specs.Card.{partsOf};
 ghost use Rattle.ranges.specs.Ranges.{Sound, rangesOf, places, bytesAt};
 ghost use Rattle.reply.specs.Reply.{Serves};
 ghost use Rattle.requests.specs.Requests.{checked};
-ghost use Rattle.rules.specs.Control.{served, decodedOf, commandLayout, layoutOf, answerTo};
+ghost use Rattle.rules.specs.Control.{decodedOf, commandLayout, layoutOf};
+ghost use Rattle.control.specs.Control.{readAs, changedBy, Reads};
 use card::Parts;
 use ranges::Ranges;
 use reply::Pending;
 use reply::Served;
 use requests::Check;
+use ring::Posted;
 use rules::Asked;
 use rules::Command;
 use rules::Decoded;
 use rules::Listing;
+
+// What a request asks: it is refused and its message completed, it is for information, or it may change the parts.
+pub enum Reading {
+    Refused(Posted),
+    Informs(Listing),
+    Remaps,
+    Commands(Command),
+}
+
+// A request that may change the parts.
+pub enum Change {
+    Remap,
+    Pcm(Command),
+}
 
 // What a request's code asks.
 fn decode(code: u32) -> Decoded
@@ -70,44 +87,53 @@ fn is_laid_out(asked: Asked, len: u32) -> Check
     Check::Failed
 }
 
-// A request that has the length of its layout.
-fn act(
+fn read_as(asked: Asked) -> Reading
+    ensures { λ r. ⌜ r ≡ readAs asked ⌝ }
+{
+    match asked {
+        Asked::Information(l) => Reading::Informs(l),
+        Asked::Remap => Reading::Remaps,
+        Asked::Pcm(command) => Reading::Commands(command),
+    }
+}
+
+// What a control request asks. Its first bytes are put into `bytes`; no layout is longer.
+pub fn read(
+    m: &mut [u8],
+    list: &[u64],
+    pending: Pending,
+    request: Ranges,
+    bytes: &mut [u8],
+) -> Reading
+    requires { ⌜ Sound (now list) request × (now bytes ≡ replicate 24 0) ⌝ }
+    ensures { λ r. ⌜ Reads (now (list .entry)) pending (bytesAt (now (m .entry)) (places (rangesOf (now (list .entry)) request)))
+        (now (bytes .exit)) (now (m .entry)) (now (m .exit)) r ⌝ }
+{
+    ranges::gather(m, list, request, 0, bytes, 0, 24);
+    let Decoded::Known(asked) = decode(memory::number32(bytes, 0)) else {
+        return Reading::Refused(reply::complete(m, list, pending, rules::NOT_SUPP));
+    };
+    let Check::Passed = is_laid_out(asked, request.bytes) else {
+        return Reading::Refused(reply::complete(m, list, pending, rules::BAD_MSG));
+    };
+    read_as(asked)
+}
+
+// A request that may change the parts, served by its first bytes.
+pub fn act(
     m: &mut [u8],
     list: &[u64],
     parts: Parts,
     pending: Pending,
-    asked: Asked,
+    change: Change,
     request: &[u8],
-    room: u32,
 ) -> Served
     requires { ⌜ FitParts parts ⌝ }
-    ensures { λ r. ⌜ Serves (now (list .entry)) pending parts (answerTo asked (partsOf parts) (now (request .entry)) room)
+    ensures { λ r. ⌜ Serves (now (list .entry)) pending parts (changedBy change (partsOf parts) (now (request .entry)))
         r (now (m .entry)) (now (m .exit)) ⌝ }
 {
-    match asked {
-        Asked::Information(l) => requests::inform(m, list, parts, pending, l, request, room),
-        Asked::Remap => requests::remap(m, list, parts, pending, request),
-        Asked::Pcm(command) => commands::command(m, list, parts, pending, command, request),
+    match change {
+        Change::Remap => requests::remap(m, list, parts, pending, request),
+        Change::Pcm(command) => commands::command(m, list, parts, pending, command, request),
     }
-}
-
-// A control request, served. Its bytes are gathered before anything is written.
-pub fn serve(m: &mut [u8], list: &[u64], parts: Parts, pending: Pending, request: Ranges) -> Served
-    requires { ⌜ FitParts parts × Sound (now list) request ⌝ }
-    ensures { λ r. ⌜ Serves (now (list .entry)) pending parts
-        (served (partsOf parts) (bytesAt (now (m .entry)) (places (rangesOf (now (list .entry)) request))) (pending .reply .bytes))
-        r (now (m .entry)) (now (m .exit)) ⌝ }
-{
-    // no layout is longer
-    let mut bytes = [0u8; 24];
-    ranges::gather(m, list, request, 0, &mut bytes, 0, 24);
-    let code = memory::number32(&bytes, 0);
-    let Decoded::Known(asked) = decode(code) else {
-        return reply::answer(m, list, parts, pending, rules::NOT_SUPP);
-    };
-    let Check::Passed = is_laid_out(asked, request.bytes) else {
-        return reply::answer(m, list, parts, pending, rules::BAD_MSG);
-    };
-    let reply = pending.reply;
-    act(m, list, parts, pending, asked, &bytes, reply.bytes)
 }

@@ -8,6 +8,8 @@ use borrow.Author.Tests.{ltb-true, ltb-false}
 use lib.Dec.{eqb, leb, ltb}
 use lib.ListN.{length, getD, take, length-take, length-set}
 use lib.Seq.{getD-set-same, getD-set-other, set-out, take-set-lt}
+use Rattle.control.specs.Control.{Reads}
+use Rattle.control.specs.declared.Reading.{Reading}
 use Rattle.counts.specs.declared.DescriptorNumber.{DescriptorNumber}
 use Rattle.counts.specs.declared.PageNumber.{PageNumber}
 use Rattle.ranges.specs.Ranges.{noRanges, rangesOf, places, bytesAt, total, allInside}
@@ -55,16 +57,19 @@ use Rattle.rules.specs.Device.{withControl, pageOf, signalledIf, oneTaken}
 use Rattle.rules.specs.Numbers.{controlQueue, sOk, sBadMsg}
 use Rattle.reply.specs.Reply.{Outcome, Serves, completionOf, closedOf, postedBy}
 use Rattle.reply.specs.declared.Kind.{Kind}
+use Rattle.reply.specs.declared.Pending as reply
 use Rattle.reply.specs.declared.Kind.the-variants as kinds
 use Rattle.reply.specs.declared.Served.{Served}
 use Rattle.stream.specs.declared.Emptied.{Emptied}
 use Rattle.stream.proofs.Fits.{signal-fit}
 use Rattle.stream.proofs.Held.{held-device, held-fits}
 use Rattle.stream.proofs.Released.{released-ordered}
+use Rattle.controlq.specs.declared.Answered.{Answered}
 use Rattle.controlq.specs.declared.Ending.the-variants.{Broke, Completed}
 use Rattle.controlq.specs.declared.Side.the-variants.{Usable, Unusable}
+use Rattle.controlq.specs.declared.Turn.{Turn}
 use Rattle.controlq.specs.Control.{sideOf, servedChain, pendingOf, pendingIn, endsOn, walkedAt, headOf}
-use Rattle.controlq.specs.Control.{takenLive, finishOf, Ends, EmptiesFor, markedOf, markedLive, releasedLive}
+use Rattle.controlq.specs.Control.{takenLive, finishOf, Ends, Comes, Turns, EmptiesFor, markedOf, markedLive, releasedLive}
 
 -- ---- the card
 
@@ -120,6 +125,18 @@ module _ (l : Live) (p : Parts) (pw cw : List ℕ) (f : Fits l p pw cw) where
             ∙ rw (held-device own (fits-card l p pw cw f) g _ controlQueue (omega arith)),
         held-fits l p pw cw f g _ (signal-fit (t .interrupt) (l .registers) (f .live .registers)) controlQueue (omega arith),
       )
+
+  same-parts : rules.withParts (partsOf (partsNow l p)) (restOf own) ≡ restOf own
+  unfolding restOf
+  same-parts = refl
+
+  -- a reply that leaves the parts as they are
+  pub replied-ends : (head : DescriptorNumber) (ws : List ℕ) (reply : Ranges) (bytes m after : List ℕ) (t : Posted)
+      → completion after t ≡ completionOf ws (pendingIn l head reply) bytes m
+      → Ends
+      (ordered countersOf (acted (rules.Reply (partsOf (partsNow l p)) bytes) (pendingOf own head (rangesOf ws reply)) m) (deviceOf own) m)
+      (finishOf (Completed t) l p) pw cw after
+  replied-ends head ws reply bytes m after t e = rw same-parts (counted-ends head ws reply bytes m after t e)
 
   registers-fits : (g : Registers) → FitRegisters g → Fits (live.withRegisters g l) p pw cw
   registers-fits g k =
@@ -492,3 +509,18 @@ module _ (c : Card) (m : List ℕ) where
       unfolding restOf
       control-next zero h z = absurd (z refl)
       control-next (suc n) h z = rw (control-by, long, lives, h)
+
+-- what a step comes to, an equal one does
+pub comes-by : (s s′ : Step (Device Queue)) (l : Live) (p : Parts) (pw cw ws bs m : List ℕ) (r : Answered) → s ≡ s′
+    → Comes s′ l p pw cw ws bs m r
+    → Comes s l p pw cw ws bs m r
+comes-by s s′ l p pw cw ws bs m r e h = rw e h
+
+-- what is known of a turn, of an equal one is
+pub turns-as : (l : Live) (p : Parts) (m ws bs m′ : List ℕ) (r r′ : Turn) → r ≡ r′ → Turns l p m ws bs m′ r → Turns l p m ws bs m′ r′
+turns-as l p m ws bs m′ r r′ e h = rw (← e) h
+
+-- .. and of a reading
+pub reads-told : (ws : List ℕ) (pending : reply.Pending) (q bs m m′ : List ℕ) (r r′ : Reading) → r ≡ r′ → Reads ws pending q bs m m′ r
+    → Reads ws pending q bs m m′ r′
+reads-told ws pending q bs m m′ r r′ e h = rw (← e) h

@@ -4,10 +4,10 @@ use mathlib.Core.Bool.{cond, _&&_}
 use mathlib.Core.List.{List, []}
 use Prim.Native.Nat.{ℕ}
 use lib.Dec.{leb, ltb}
-use lib.ListN.{getD, set}
+use lib.ListN.{length, getD, set}
 use Rattle.chain.specs.Walk.{whole, walkOf}
 use Rattle.counts.specs.declared.DescriptorNumber.{DescriptorNumber}
-use Rattle.ranges.specs.Ranges.{total, allInside}
+use Rattle.ranges.specs.Ranges.{Sound, total, allInside, rangesOf, places, bytesAt}
 use Rattle.ranges.specs.declared.Range.{Range}
 use Rattle.ranges.specs.declared.Ranges.{Ranges}
 use Rattle.registers.specs.Answers.{done, plain}
@@ -22,10 +22,14 @@ use Rattle.card.specs.declared.Counters.{Counters}
 use Rattle.card.specs.declared.Parts.{Parts}
 use Rattle.live.specs.Live.{cardIn, withRegisters, Fits}
 use Rattle.live.specs.declared.Live.{Live}
-use Rattle.meaning.specs.Card.{countersAt, restOf, deviceOf, leaves}
+use Rattle.control.specs.Control.{changedBy}
+use Rattle.control.specs.declared.Change.{Change}
+use Rattle.control.specs.declared.Change.the-variants as change
+use Rattle.meaning.specs.Card.{countersAt, partsOf, restOf, deviceOf, stepOf, leaves}
 use Rattle.rules.specs.Answers.{brokenAnswer}
-use Rattle.rules.specs.Calls.{Result, Step, Pending, Order, ended, indirect, readMessage, controlHead}
-use Rattle.rules.specs.Control.{withState, withStream}
+use Rattle.rules.specs.Calls.{Request, Result, Step, Pending, Order, ended, ordered, acted, indirect, readMessage, controlHead}
+use Rattle.rules.specs.Control.{served, withState, withStream}
+use Rattle.rules.specs.Counters.{countersOf}
 use Rattle.rules.specs.Device.{Device, Queue, directionOf, pageOf, streamAt, signalledIf, oneTaken}
 use Rattle.rules.specs.Numbers.{controlQueue}
 use Rattle.reply.specs.declared.Pending as reply
@@ -35,9 +39,14 @@ use Rattle.stream.specs.declared.Emptied.{Emptied}
 use Rattle.controlq.specs.declared.ControlAnswer.{ControlAnswer}
 use Rattle.controlq.specs.declared.Ending.{Ending}
 use Rattle.controlq.specs.declared.Ending.the-variants.{Untouched, Broke, Completed}
-use Rattle.controlq.specs.declared.Handled.{Handled}
+use Rattle.controlq.specs.declared.Answered.{Answered}
+use Rattle.controlq.specs.declared.Answered.the-variants as answered
+use Rattle.controlq.specs.declared.Message.{Message}
+use Rattle.controlq.specs.declared.Met.{Met}
+use Rattle.controlq.specs.declared.Next.{Next}
 use Rattle.controlq.specs.declared.Side.{Side}
 use Rattle.controlq.specs.declared.Side.the-variants.{Usable, Unusable}
+use Rattle.controlq.specs.declared.Turn.{Turn}
 
 -- ---- the steps of reading a message
 
@@ -100,16 +109,70 @@ finishOf (Broke queue cause) l p =
     record { answer = brokenAnswer queue cause; count = 0; live = withRegisters (broken (l .registers)) l; parts = p }
 finishOf (Completed posted) l p = record { answer = plain done; count = 1; live = countedLive posted l; parts = p }
 
-abbrev pub finished : Handled → ControlAnswer
-finished h = finishOf (h .ending) (h .live) (h .parts)
-
-abbrev pub untouchedBy : ℕ → Live → Parts → Handled
-untouchedBy number l p = record { ending = Untouched number; live = l; parts = p }
-
 -- what an answer tells, over the words of the chains and memory, is what this step leaves; and all is fit
 abbrev pub Ends : Step (Device Queue) → ControlAnswer → List ℕ → List ℕ → List ℕ → Type 0
 Ends s r pw cw m =
     (s ≡ leaves (cardIn (r .live) (r .parts) pw cw) (r .answer) (r .count) [] [] m) × Fits (r .live) (r .parts) pw cw
+
+-- ---- the steps of the call
+
+-- a message that is taken; what is left to do is its reply
+abbrev pub asksIn : Card → List ℕ → Message → Pending
+asksIn c ws message = pendingOf c (message .head) (rangesOf ws (message .reply))
+
+-- the step of the rules for the message at a head, taken
+abbrev pub walkedStep : Card → DescriptorNumber → List ℕ → Step (Device Queue)
+walkedStep c head m = ordered countersOf (walkedAt c head m) (deviceOf c) m
+
+-- .. for one of this request and this reply
+abbrev pub servedStep : Card → List ℕ → Ranges → Message → List ℕ → Step (Device Queue)
+servedStep c ws request message m =
+    ordered countersOf
+    (acted (served (partsOf (c .parts)) (bytesAt m (places (rangesOf ws request))) (message .reply .bytes)) (asksIn c ws message) m)
+    (deviceOf c) m
+
+-- .. for a request that may change the parts, by its first bytes
+abbrev pub changeStep : Change → Card → List ℕ → Message → List ℕ → List ℕ → Step (Device Queue)
+changeStep change c ws message bs m =
+    ordered countersOf (acted (changedBy change (partsOf (c .parts)) bs) (asksIn c ws message) m) (deviceOf c) m
+
+-- every card with this small state: what the checks of a call and the next head make of it
+abbrev pub Finds : Live → List ℕ → Next → Type 0
+Finds l m (Next.Over ending) =
+    (p : Parts) (pw cw : List ℕ) → Fits l p pw cw → Ends (stepOf (cardIn l p pw cw) Request.Control m) (finishOf ending l p) pw cw m
+Finds l m (Next.At head) =
+    (length m ≡ l .«ram_len»)
+    × ((p : Parts) (pw cw : List ℕ) → Fits l p pw cw
+    → stepOf (cardIn l p pw cw) Request.Control m ≡ walkedStep (cardIn (takenLive l) p pw cw) head m)
+
+-- .. and the walk of a message that is taken
+abbrev pub Meets : Live → DescriptorNumber → List ℕ → List ℕ → List ℕ → Met → Type 0
+Meets l head m ws m′ (Met.Over posted) =
+    (p : Parts) (pw cw : List ℕ) → Fits l p pw cw → Ends (walkedStep (cardIn l p pw cw) head m) (finishOf (Completed posted) l p) pw cw m′
+Meets l head m ws m′ (Met.Whole request reply) =
+    (m′ ≡ m) × Sound ws request
+    × ((p : Parts) (pw cw : List ℕ)
+    → walkedStep (cardIn l p pw cw) head m ≡ servedStep (cardIn l p pw cw) ws request (record { head = head; reply = reply }) m)
+
+-- a step is what a message comes to
+abbrev pub Comes : Step (Device Queue) → Live → Parts → List ℕ → List ℕ → List ℕ → List ℕ → List ℕ → Answered → Type 0
+Comes s l p pw cw ws bs m (answered.Completed posted) = Ends s (finishOf (Completed posted) l p) pw cw m
+Comes s l p pw cw ws bs m (answered.Remaps message) =
+    (s ≡ changeStep change.Remap (cardIn l p pw cw) ws message bs m) × (length m ≡ l .«ram_len»)
+Comes s l p pw cw ws bs m (answered.Commands message command) =
+    (s ≡ changeStep (change.Pcm command) (cardIn l p pw cw) ws message bs m) × (length m ≡ l .«ram_len»)
+
+-- every card with this small state and these parts: what its message comes to
+abbrev pub Answers : Live → Parts → List ℕ → Ranges → Message → List ℕ → List ℕ → List ℕ → Answered → Type 0
+Answers l p ws request message m bs m′ r =
+    (pw cw : List ℕ) → Fits l p pw cw → Comes (servedStep (cardIn l p pw cw) ws request message m) l p pw cw ws bs m′ r
+
+-- .. and the call
+abbrev pub Turns : Live → Parts → List ℕ → List ℕ → List ℕ → List ℕ → Turn → Type 0
+Turns l p m ws bs m′ (Turn.Over ending) =
+    (pw cw : List ℕ) → Fits l p pw cw → Ends (stepOf (cardIn l p pw cw) Request.Control m) (finishOf ending l p) pw cw m′
+Turns l p m ws bs m′ (Turn.Taken a) =
+    (pw cw : List ℕ) → Fits l p pw cw → Comes (stepOf (cardIn l p pw cw) Request.Control m) (takenLive l) p pw cw ws bs m′ a
 
 -- ---- a Release
 

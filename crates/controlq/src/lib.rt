@@ -1,11 +1,13 @@
 // The control call of the card (01, "Control messages"): one message is taken from the control queue,
 // read step by step, acted on and answered. A step that fails completes the chain. The card is lent in
-// pieces: its small state and parts by value, the words of its chains as slices.
+// pieces: its small state and parts by value, the words of its chains as slices. Only a request that may
+// change the parts hands them on; every other end leaves them as they are.
 ghost use mathlib.Core.Path.{_≡_};
 ghost use mathlib.Core.List.{[]};
 ghost use Prim.Native.Nat.{_≤_};
-ghost use lib.ListN.{length};
-ghost use Rattle.live.specs.Live.{FitLive, FitPlay, FitCapture, Fits, cardIn, withRegisters};
+ghost use lib.ListN.{length, replicate};
+ghost use Rattle.live.specs.Live.{FitLive, FitPlay, FitCapture, Fits, partsNow, cardIn, withRegisters};
+ghost use Rattle.card.specs.Fit.{FitParts};
 ghost use Rattle.meaning.specs.Card.{deviceOf, stepOf, leaves};
 ghost use Rattle.ranges.specs.Ranges.{Sound, noRanges, rangesOf};
 ghost use Rattle.registers.specs.Map.{sizeOf};
@@ -15,12 +17,13 @@ ghost use Rattle.rules.specs.Calls.{Request, ReleaseFirst, ordered};
 ghost use Rattle.rules.specs.Counters.{countersOf};
 ghost use Rattle.rules.specs.Device.{queueNumber, directionOf, signalledIf};
 ghost use Rattle.rules.specs.Numbers.{controlQueue};
-ghost use Rattle.controlq.specs.Control.{pendingOf, pendingIn, sideOf, takenLive, countedLive, markedLive, finished, Ends};
-ghost use Rattle.controlq.specs.declared.Side.the-variants.{Usable};
-ghost use Rattle.controlq.specs.Control.{EmptiesFor, untouchedBy, servedChain, walkedAt, headOf};
+ghost use Rattle.controlq.specs.Control.{pendingIn, sideOf, takenLive, countedLive, markedLive, finishOf, Ends};
+ghost use Rattle.controlq.specs.Control.{EmptiesFor, Finds, Meets, Answers, Turns, asksIn, changeStep};
 use card::Counters;
 use card::Parts;
 use chain::End;
+use control::Change;
+use control::Reading;
 use counts::DescriptorNumber;
 use live::Live;
 use message::Direction;
@@ -31,10 +34,8 @@ use reply::Pending;
 use ring::Cause;
 use ring::Posted;
 use ring::Stop;
+use rules::Command;
 use stream::Emptied;
-
-// The number of the control queue.
-const CONTROL_QUEUE: usize = 0;
 
 // What the call answers: the count is the messages completed.
 #[repr(C)]
@@ -52,24 +53,48 @@ enum Ending {
     Completed(Posted),
 }
 
-// What a call made of the card, but for what its end changes.
-struct Handled {
-    ending: Ending,
-    live: Live,
-    parts: Parts,
-}
-
 // Whether a side of a message can be used: it lies inside RAM and has the four bytes of a header.
 enum Side {
     Usable,
     Unusable,
 }
 
+// What a call finds: it ends with nothing taken, or there is a message at this head.
+enum Next {
+    Over(Ending),
+    At(DescriptorNumber),
+}
+
+// A message that is taken: completed already, or to be served by its request and its reply.
+enum Met {
+    Over(Posted),
+    Whole(Ranges, Ranges),
+}
+
+// A message that is taken, to be answered in its reply.
+struct Message {
+    head: DescriptorNumber,
+    reply: Ranges,
+}
+
+// What a message that is taken comes to: it is completed, or its request may change the parts.
+enum Answered {
+    Completed(Posted),
+    Remaps(Message),
+    Commands(Message, Command),
+}
+
+// What a call comes to: it ends with nothing taken, or its message comes to this.
+enum Turn {
+    Over(Ending),
+    Taken(Answered),
+}
+
 // How many descriptors the control queue has.
 fn queue_size() -> u16
     ensures { λ r. ⌜ r ≡ sizeOf controlQueue ⌝ }
 {
-    registers::queue_size(0)
+    registers::queue_size(registers::CONTROL_QUEUE)
 }
 
 fn judge(len: usize, list: &[u64], ranges: Ranges) -> Side
@@ -90,13 +115,13 @@ fn take_one(live: Live) -> Live
     ensures { λ r. ⌜ r ≡ takenLive live ⌝ }
 {
     let queues = live.queues;
-    let counters = queues[CONTROL_QUEUE];
+    let counters = queues[registers::CONTROL_QUEUE as usize];
     let after = Counters {
         taken: std::num::wrapping_add_u16(counters.taken, 1),
         completed: counters.completed,
     };
     let mut next = live;
-    next.queues[CONTROL_QUEUE] = after;
+    next.queues[registers::CONTROL_QUEUE as usize] = after;
     next
 }
 
@@ -106,24 +131,21 @@ fn counted(live: Live, posted: Posted) -> Live
 {
     let registers = live.registers;
     let queues = live.queues;
-    let counters = queues[CONTROL_QUEUE];
+    let counters = queues[registers::CONTROL_QUEUE as usize];
     let after = Counters {
         taken: counters.taken,
         completed: posted.completed,
     };
     let mut next = live;
     next.registers = stream::signal_if(posted.interrupt, registers);
-    next.queues[CONTROL_QUEUE] = after;
+    next.queues[registers::CONTROL_QUEUE as usize] = after;
     next
 }
 
 // The answer of a call, with what its end changes of the card.
-fn finish(handled: Handled) -> ControlAnswer
-    ensures { λ r. ⌜ r ≡ finished handled ⌝ }
+fn finish(live: Live, parts: Parts, ending: Ending) -> ControlAnswer
+    ensures { λ r. ⌜ r ≡ finishOf ending live parts ⌝ }
 {
-    let live = handled.live;
-    let parts = handled.parts;
-    let ending = handled.ending;
     match ending {
         Ending::Untouched(number) => ControlAnswer {
             answer: registers::plain(number),
@@ -157,9 +179,9 @@ fn pending_in(live: Live, head: DescriptorNumber, reply: Ranges) -> Pending
 {
     let registers = live.registers;
     let queues = live.queues;
-    let counters = queues[CONTROL_QUEUE];
+    let counters = queues[registers::CONTROL_QUEUE as usize];
     Pending {
-        page: registers.pages[CONTROL_QUEUE],
+        page: registers.pages[registers::CONTROL_QUEUE as usize],
         completed: counters.completed,
         head: head,
         reply: reply,
@@ -172,11 +194,11 @@ fn complete_mute(live: Live, m: &mut [u8], head: DescriptorNumber) -> Posted
 {
     let registers = live.registers;
     let queues = live.queues;
-    let counters = queues[CONTROL_QUEUE];
+    let counters = queues[registers::CONTROL_QUEUE as usize];
     let size = queue_size();
     ring::post(
         m,
-        registers.pages[CONTROL_QUEUE],
+        registers.pages[registers::CONTROL_QUEUE as usize],
         size,
         counters.completed,
         head,
@@ -247,268 +269,175 @@ fn release(
     capture_words: &mut [u64],
     m: &mut [u8],
     list: &[u64],
-    head: DescriptorNumber,
-    reply: Ranges,
+    message: Message,
     id: u32,
-) -> Handled
+) -> ControlAnswer
     requires { ⌜ Fits live parts (now «play_words») (now «capture_words») × (length (now m) ≡ live .«ram_len») ⌝ }
     ensures { λ r. ⌜ Ends
         (ordered countersOf
         (ReleaseFirst id
-        (pendingOf (cardIn live parts (now («play_words» .entry)) (now («capture_words» .entry))) head
-        (rangesOf (now (list .entry)) reply)))
+        (asksIn (cardIn live parts (now («play_words» .entry)) (now («capture_words» .entry))) (now (list .entry)) message))
         (deviceOf (cardIn live parts (now («play_words» .entry)) (now («capture_words» .entry)))) (now (m .entry)))
-        (finished r) (now («play_words» .exit)) (now («capture_words» .exit)) (now (m .exit)) ⌝ }
+        r (now («play_words» .exit)) (now («capture_words» .exit)) (now (m .exit)) ⌝ }
 {
     let emptied = empty(live, play_words, capture_words, m, id);
     let after = emptied.live;
     let stop = emptied.stop;
     let signalled = signal(after, emptied.signal);
     match stop {
-        Stop::Broke(cause) => Handled {
-            ending: Ending::Broke(queue_of(id), cause),
-            live: signalled,
-            parts: parts,
-        },
+        Stop::Broke(cause) => finish(signalled, parts, Ending::Broke(queue_of(id), cause)),
         Stop::Going => {
             let marked = mark_released(signalled, id);
-            let pending = pending_in(marked, head, reply);
+            let pending = pending_in(marked, message.head, message.reply);
             let posted = reply::complete(m, list, pending, message::OK);
-            Handled {
-                ending: Ending::Completed(posted),
-                live: marked,
-                parts: parts,
-            }
+            finish(marked, parts, Ending::Completed(posted))
         }
     }
 }
 
-// A message whose reply can be used: its request is judged and served.
-fn serve(
+// A request that may change the parts, by its first bytes.
+fn change(
     live: Live,
     parts: Parts,
     play_words: &mut [u64],
     capture_words: &mut [u64],
     m: &mut [u8],
     list: &[u64],
-    head: DescriptorNumber,
-    request: Ranges,
-    reply: Ranges,
-) -> Handled
-    requires { ⌜ Fits live parts (now «play_words») (now «capture_words») × (length (now m) ≡ live .«ram_len»)
-        × Sound (now list) request × Sound (now list) reply
-        × (sideOf (length (now m)) (rangesOf (now list) reply) ≡ Usable) ⌝ }
+    message: Message,
+    asked: Change,
+    request: &[u8],
+) -> ControlAnswer
+    requires { ⌜ Fits live parts (now «play_words») (now «capture_words») × (length (now m) ≡ live .«ram_len») ⌝ }
     ensures { λ r. ⌜ Ends
-        (ordered countersOf
-        (servedChain (cardIn live parts (now («play_words» .entry)) (now («capture_words» .entry))) head
-        (rangesOf (now (list .entry)) request) (rangesOf (now (list .entry)) reply) (now (m .entry)))
-        (deviceOf (cardIn live parts (now («play_words» .entry)) (now («capture_words» .entry)))) (now (m .entry)))
-        (finished r) (now («play_words» .exit)) (now («capture_words» .exit)) (now (m .exit)) ⌝ }
+        (changeStep asked (cardIn live parts (now («play_words» .entry)) (now («capture_words» .entry))) (now (list .entry)) message
+        (now (request .entry)) (now (m .entry)))
+        r (now («play_words» .exit)) (now («capture_words» .exit)) (now (m .exit)) ⌝ }
 {
-    let pending = pending_in(live, head, reply);
-    let Side::Usable = judge(m.len(), list, request) else {
-        let posted = reply::complete(m, list, pending, rules::BAD_MSG);
-        return Handled {
-            ending: Ending::Completed(posted),
-            live: live,
-            parts: parts,
-        };
-    };
+    let pending = pending_in(live, message.head, message.reply);
     let current = live::parts_now(live, parts);
-    let served = control::serve(m, list, current, pending, request);
+    let served = control::act(m, list, current, pending, asked, request);
     let kind = served.kind;
     match kind {
         Kind::Completed(posted) => {
             let after = served.parts;
-            Handled {
-                ending: Ending::Completed(posted),
-                live: live::keep(live, after),
-                parts: after,
-            }
+            finish(live::keep(live, after), after, Ending::Completed(posted))
         }
-        Kind::Release(id) => release(
-            live,
-            parts,
-            play_words,
-            capture_words,
-            m,
-            list,
-            head,
-            reply,
-            id,
-        ),
+        Kind::Release(id) => release(live, parts, play_words, capture_words, m, list, message, id),
     }
 }
 
-// A message that was walked whole: without a reply that can be used it is completed with length 0.
-fn serve_chain(
-    live: Live,
-    parts: Parts,
-    play_words: &mut [u64],
-    capture_words: &mut [u64],
-    m: &mut [u8],
-    list: &[u64],
-    head: DescriptorNumber,
-    request: Ranges,
-    reply: Ranges,
-) -> Handled
-    requires { ⌜ Fits live parts (now «play_words») (now «capture_words») × (length (now m) ≡ live .«ram_len»)
-        × Sound (now list) request × Sound (now list) reply ⌝ }
-    ensures { λ r. ⌜ Ends
-        (ordered countersOf
-        (servedChain (cardIn live parts (now («play_words» .entry)) (now («capture_words» .entry))) head
-        (rangesOf (now (list .entry)) request) (rangesOf (now (list .entry)) reply) (now (m .entry)))
-        (deviceOf (cardIn live parts (now («play_words» .entry)) (now («capture_words» .entry)))) (now (m .entry)))
-        (finished r) (now («play_words» .exit)) (now («capture_words» .exit)) (now (m .exit)) ⌝ }
-{
-    let Side::Usable = judge(m.len(), list, reply) else {
-        let posted = complete_mute(live, m, head);
-        return Handled {
-            ending: Ending::Completed(posted),
-            live: live,
-            parts: parts,
-        };
-    };
-    serve(
-        live,
-        parts,
-        play_words,
-        capture_words,
-        m,
-        list,
-        head,
-        request,
-        reply,
-    )
-}
-
-// The message at `head`, taken: one that can't be walked is completed with length 0.
-fn answer_chain(
-    live: Live,
-    parts: Parts,
-    play_words: &mut [u64],
-    capture_words: &mut [u64],
-    m: &mut [u8],
-    head: DescriptorNumber,
-) -> Handled
-    requires { ⌜ Fits live parts (now «play_words») (now «capture_words») × (length (now m) ≡ live .«ram_len») ⌝ }
-    ensures { λ r. ⌜ Ends
-        (ordered countersOf
-        (walkedAt (cardIn live parts (now («play_words» .entry)) (now («capture_words» .entry))) head (now (m .entry)))
-        (deviceOf (cardIn live parts (now («play_words» .entry)) (now («capture_words» .entry)))) (now (m .entry)))
-        (finished r) (now («play_words» .exit)) (now («capture_words» .exit)) (now (m .exit)) ⌝ }
-{
-    let registers = live.registers;
-    let page = registers.pages[CONTROL_QUEUE];
-    let indirect = registers.features / registers::HOST_FEATURES % 2 == 1;
-    let size = queue_size();
-    let mut words = [0u64; 68];
-    let walked = chain::walk(m, &mut words, page.address(), size, head, indirect);
-    let end = walked.end;
-    let End::Whole = end else {
-        let posted = complete_mute(live, m, head);
-        return Handled {
-            ending: Ending::Completed(posted),
-            live: live,
-            parts: parts,
-        };
-    };
-    let chain = walked.chain;
-    let request = chain.request;
-    let reply = chain.reply;
-    serve_chain(
-        live,
-        parts,
-        play_words,
-        capture_words,
-        m,
-        &words,
-        head,
-        request,
-        reply,
-    )
-}
-
-// The next message of the control queue.
-fn answer_next(
-    live: Live,
-    parts: Parts,
-    play_words: &mut [u64],
-    capture_words: &mut [u64],
-    m: &mut [u8],
-) -> Handled
-    requires { ⌜ Fits live parts (now «play_words») (now «capture_words») × (length (now m) ≡ live .«ram_len») ⌝ }
-    ensures { λ r. ⌜ Ends
-        (ordered countersOf
-        (headOf (cardIn live parts (now («play_words» .entry)) (now («capture_words» .entry))) (now (m .entry)))
-        (deviceOf (cardIn live parts (now («play_words» .entry)) (now («capture_words» .entry)))) (now (m .entry)))
-        (finished r) (now («play_words» .exit)) (now («capture_words» .exit)) (now (m .exit)) ⌝ }
-{
-    let registers = live.registers;
-    let page = registers.pages[CONTROL_QUEUE];
-    let queues = live.queues;
-    let counters = queues[CONTROL_QUEUE];
-    let size = queue_size();
-    match ring::next_head(m, page, size, counters.taken) {
-        ring::Head::Broken(cause) => Handled {
-            ending: Ending::Broke(CONTROL_QUEUE as u8, cause),
-            live: live,
-            parts: parts,
-        },
-        ring::Head::At(head) => {
-            let taken = take_one(live);
-            answer_chain(taken, parts, play_words, capture_words, m, head)
-        }
-    }
-}
-
-// Nothing was done: a check refuses the call, or there is nothing to take.
-fn untouched(live: Live, parts: Parts, number: u8) -> Handled
-    ensures { λ r. ⌜ r ≡ untouchedBy number live parts ⌝ }
-{
-    Handled {
-        ending: Ending::Untouched(number),
-        live: live,
-        parts: parts,
-    }
-}
-
-// The checks of the call, then the next message.
-fn handle(
-    live: Live,
-    parts: Parts,
-    play_words: &mut [u64],
-    capture_words: &mut [u64],
-    m: &mut [u8],
-) -> Handled
-    requires { ⌜ Fits live parts (now «play_words») (now «capture_words») ⌝ }
-    ensures { λ r. ⌜ Ends
-        (stepOf (cardIn live parts (now («play_words» .entry)) (now («capture_words» .entry))) Request.Control (now (m .entry)))
-        (finished r) (now («play_words» .exit)) (now («capture_words» .exit)) (now (m .exit)) ⌝ }
+// The checks of the call, and the head of the next message.
+fn find_next(live: Live, m: &[u8]) -> Next
+    ensures { λ r. ⌜ Finds live (now (m .entry)) r ⌝ }
 {
     if m.len() != live.ram_len {
-        return untouched(live, parts, registers::LENGTH_DIFFERS);
+        return Next::Over(Ending::Untouched(registers::LENGTH_DIFFERS));
     }
     let registers = live.registers;
     if !registers.is_live() {
-        return untouched(live, parts, registers::NOT_LIVE);
+        return Next::Over(Ending::Untouched(registers::NOT_LIVE));
     }
-    let page = registers.pages[CONTROL_QUEUE];
+    let page = registers.pages[registers::CONTROL_QUEUE as usize];
     let queues = live.queues;
-    let counters = queues[CONTROL_QUEUE];
+    let counters = queues[registers::CONTROL_QUEUE as usize];
     let size = queue_size();
     match ring::check_queue(m, page, size, counters.taken, 0) {
-        ring::Check::Idle => untouched(live, parts, registers::DONE),
-        ring::Check::Broken(cause) => Handled {
-            ending: Ending::Broke(CONTROL_QUEUE as u8, cause),
-            live: live,
-            parts: parts,
-        },
+        ring::Check::Idle => Next::Over(Ending::Untouched(registers::DONE)),
+        ring::Check::Broken(cause) => Next::Over(Ending::Broke(
+            registers::CONTROL_QUEUE as u8,
+            cause,
+        )),
         ring::Check::New(new) => {
             if new == 0 {
-                return untouched(live, parts, registers::DONE);
+                return Next::Over(Ending::Untouched(registers::DONE));
             }
-            answer_next(live, parts, play_words, capture_words, m)
+            match ring::next_head(m, page, size, counters.taken) {
+                ring::Head::Broken(cause) => Next::Over(Ending::Broke(
+                    registers::CONTROL_QUEUE as u8,
+                    cause,
+                )),
+                ring::Head::At(head) => Next::At(head),
+            }
+        }
+    }
+}
+
+// The message at `head`, taken: its chain is walked and its sides are judged. One without a reply that can be used is
+// completed with length 0, one without such a request with BAD_MSG.
+fn meet(live: Live, m: &mut [u8], words: &mut [u64], head: DescriptorNumber) -> Met
+    requires { ⌜ length (now words) ≡ 68 ⌝ }
+    ensures { λ r. ⌜ Meets live head (now (m .entry)) (now (words .exit)) (now (m .exit)) r ⌝ }
+{
+    let registers = live.registers;
+    let page = registers.pages[registers::CONTROL_QUEUE as usize];
+    let size = queue_size();
+    let walked = chain::walk(m, words, page.address(), size, head, registers.indirect());
+    let end = walked.end;
+    let chain = walked.chain;
+    let request = chain.request;
+    let reply = chain.reply;
+    let End::Whole = end else {
+        return Met::Over(complete_mute(live, m, head));
+    };
+    let Side::Usable = judge(m.len(), words, reply) else {
+        return Met::Over(complete_mute(live, m, head));
+    };
+    let Side::Usable = judge(m.len(), words, request) else {
+        let pending = pending_in(live, head, reply);
+        return Met::Over(reply::complete(m, words, pending, rules::BAD_MSG));
+    };
+    Met::Whole(request, reply)
+}
+
+// A message with both sides, by its request: refused, informed, or left to do where the parts may change. The
+// request's first bytes are put into `bytes`.
+fn answer(
+    live: Live,
+    parts: Parts,
+    m: &mut [u8],
+    list: &[u64],
+    bytes: &mut [u8],
+    message: Message,
+    request: Ranges,
+) -> Answered
+    requires { ⌜ FitParts (partsNow live parts) × (length (now m) ≡ live .«ram_len») × Sound (now list) request
+        × (now bytes ≡ replicate 24 0) ⌝ }
+    ensures { λ r. ⌜ Answers live parts (now (list .entry)) request message (now (m .entry)) (now (bytes .exit)) (now (m .exit)) r ⌝ }
+{
+    let head = message.head;
+    let reply = message.reply;
+    let pending = pending_in(live, head, reply);
+    match control::read(m, list, pending, request, bytes) {
+        Reading::Refused(posted) => Answered::Completed(posted),
+        Reading::Informs(l) => {
+            let current = live::parts_now(live, parts);
+            Answered::Completed(requests::inform(m, list, current, pending, l, bytes, reply.bytes))
+        }
+        Reading::Remaps => Answered::Remaps(message),
+        Reading::Commands(command) => Answered::Commands(message, command),
+    }
+}
+
+// The call up to what may change the parts; the words of the message's chain and the first bytes of its request are
+// left in `words` and `bytes`.
+fn attend(live: Live, parts: Parts, m: &mut [u8], words: &mut [u64], bytes: &mut [u8]) -> Turn
+    requires { ⌜ FitParts (partsNow live parts) × (length (now words) ≡ 68) × (now bytes ≡ replicate 24 0) ⌝ }
+    ensures { λ r. ⌜ Turns live parts (now (m .entry)) (now (words .exit)) (now (bytes .exit)) (now (m .exit)) r ⌝ }
+{
+    match find_next(live, m) {
+        Next::Over(ending) => Turn::Over(ending),
+        Next::At(head) => {
+            let taken = take_one(live);
+            match meet(taken, m, words, head) {
+                Met::Over(posted) => Turn::Taken(Answered::Completed(posted)),
+                Met::Whole(request, reply) => {
+                    let message = Message {
+                        head: head,
+                        reply: reply,
+                    };
+                    Turn::Taken(answer(taken, parts, m, words, bytes, message, request))
+                }
+            }
         }
     }
 }
@@ -527,5 +456,37 @@ pub fn control(
         (now (m .exit)))
         × Fits (r .live) (r .parts) (now («play_words» .exit)) (now («capture_words» .exit)) ⌝ }
 {
-    finish(handle(live, parts, play_words, capture_words, m))
+    let mut words = [0u64; 68];
+    let mut bytes = [0u8; 24];
+    match attend(live, parts, m, &mut words, &mut bytes) {
+        Turn::Over(ending) => finish(live, parts, ending),
+        Turn::Taken(answered) => {
+            let taken = take_one(live);
+            match answered {
+                Answered::Completed(posted) => finish(taken, parts, Ending::Completed(posted)),
+                Answered::Remaps(message) => change(
+                    taken,
+                    parts,
+                    play_words,
+                    capture_words,
+                    m,
+                    &words,
+                    message,
+                    Change::Remap,
+                    &bytes,
+                ),
+                Answered::Commands(message, command) => change(
+                    taken,
+                    parts,
+                    play_words,
+                    capture_words,
+                    m,
+                    &words,
+                    message,
+                    Change::Pcm(command),
+                    &bytes,
+                ),
+            }
+        }
+    }
 }

@@ -7,7 +7,8 @@ use native.Mathlib.Nat.{zero-add, add-comm, suc-mul}
 use native.Mathlib.Omega.{arith}
 use lib.ListN.{length, getD, set, take, drop, replicate, length-take, length-map, length-append, length-replicate}
 use Rattle.description.specs.declared.MapInfo.{MapInfo}
-use lib.Seq.{take-all, sets, sets-eq, drop-cons, getD-take}
+use lib.Seq.{take-all, take-at, drop-at, take-add, take-take, take-set-le, length-take-le, drop-append-le}
+use lib.Seq.{sets, sets-eq, length-sets, drop-cons, getD-take}
 use Rattle.memory.specs.Bytes.{put}
 use Rattle.card.specs.Card.{noStream}
 use Rattle.card.specs.declared.Stream.{Stream}
@@ -20,7 +21,8 @@ use Rattle.meaning.specs.Card.{partsOf}
 use Rattle.rules.specs.declared.Listing.{Listing}
 use Rattle.rules.specs.declared.Listing.the-variants.{Jacks, Streams, Maps}
 use Rattle.rules.specs.Device.{bytesOf}
-use Rattle.rules.specs.Control.{pcmItem, pcmItems, mapItem, joined}
+use Rattle.rules.specs.Control.{jackItem, noJack, pcmItem, pcmItems, mapItem, joined}
+use Rattle.information.specs.Items.{laid, fourOf, jackBytes, mapBytes, emptyMap, WholeMaps, Holds, row}
 
 -- ---- items
 
@@ -126,11 +128,136 @@ module _ (k : ℕ) (l : List Stream) (i : ℕ) (h : i < length (pcmItems 0 (take
   pub listed-stream : getD (pcmItems 0 (take k l)) i [] ≡ pcmItem i (getD l i noStream)
   listed-stream = rw (getD-pcmItems 0 (take k l) i among, zero-add, getD-take k l i noStream (streams-inside .0))
 
--- what stands past the end of an array of maps
-abbrev pub emptyMap : MapInfo
-emptyMap = record { nid = 0; direction = 0; channels = 0; positions = [] }
-
 pub few-items : (l : Listing) (p : Parts) → FitParts p → length (itemsOf l (partsOf p)) ≤ 4
 few-items Jacks p f = rw (length-map, length-take) (omega arith)
 few-items Streams p f = rw (length-pcmItems, length-take) (omega arith)
 few-items Maps p f = rw (length-map, length-take) (omega arith)
+
+-- ---- items in a buffer
+
+module _ {A : Type 0} where
+  take-sets : (vs l : List A) (i n : ℕ) → n ≤ i → take n (sets l i vs) ≡ take n l
+  take-sets [] l i n h = refl
+  take-sets (v ∷ vs) l i n h = take-sets vs (set l i v) (suc i) n (omega arith) ∙ take-set-le n l i v h
+
+  -- what two lists with one front hold there
+  same-inside : (xs ys : List A) (at k : ℕ) → at ≤ length xs → at ≤ length ys → take (at + k) xs ≡ take (at + k) ys
+      → take k (drop at xs) ≡ take k (drop at ys)
+  same-inside xs ys at k h g e =
+      sym (drop-at (take at xs) (take k (drop at xs)) at (length-take-le at xs h))
+      ∙ ap (drop at) (sym (take-add at k xs) ∙ e ∙ take-add at k ys)
+      ∙ drop-at (take at ys) (take k (drop at ys)) at (length-take-le at ys g)
+
+-- what stands in front of a place stays
+front-kept : (xs : List (List ℕ)) (bs : List ℕ) (at n : ℕ) → n ≤ at → take n (laid bs at xs) ≡ take n bs
+front-kept [] bs at n h = refl
+front-kept (x ∷ xs) bs at n h = front-kept xs (sets bs at x) (at + 32) n (omega arith) ∙ take-sets x bs at n h
+
+length-laid : (xs : List (List ℕ)) (bs : List ℕ) (at : ℕ) → length (laid bs at xs) ≡ length bs
+length-laid [] bs at = refl
+length-laid (x ∷ xs) bs at = length-laid xs (sets bs at x) (at + 32) ∙ length-sets bs at x
+
+-- an item stands where it was put
+put-there : (bs x : List ℕ) (at : ℕ) → length x ≡ 32 → at + 32 ≤ length bs → take 32 (drop at (sets bs at x)) ≡ x
+put-there bs x at h g =
+    let front = take at bs ++ x in
+    let end = drop (at + length x) bs in
+    let n : length (take at bs) ≡ at = length-take-le at bs (omega arith) in
+    let long : at ≤ length front = rw length-append (omega (arith, n)) in
+    ap (λ (r : List ℕ). take 32 (drop at r)) (sets-eq x bs at (omega arith))
+    ∙ ap (take 32) (drop-append-le at front end long ∙ ap (λ (r : List ℕ). r ++ end) (drop-at (take at bs) x at n))
+    ∙ take-at x end 32 h
+
+pub laid-there : (xs : List (List ℕ)) (bs : List ℕ) (at i : ℕ) → ((k : ℕ) → k < length xs → length (getD xs k []) ≡ 32)
+    → at + 32 * length xs ≤ length bs → i < length xs
+    → take 32 (drop (at + 32 * i) (laid bs at xs)) ≡ getD xs i []
+laid-there [] bs at i long h g = absurd (omega arith)
+laid-there (x ∷ xs) bs at zero long h g =
+    let e : at + 32 * 0 ≡ at = omega arith in
+    let s = sets bs at x in
+    let n = length-laid xs s (at + 32) in
+    let m = length-sets bs at x in
+    rw e (same-inside (laid s (at + 32) xs) s at 32 (omega (arith, n, m)) (omega (arith, m))
+    (front-kept xs s (at + 32) (at + 32) (omega arith))
+    ∙ put-there bs x at (long 0 (omega arith)) (omega arith))
+laid-there (x ∷ xs) bs at (suc i) long h g =
+    let e : at + 32 * suc i ≡ at + 32 + 32 * i = omega arith in
+    let m = length-sets bs at x in
+    rw e (laid-there xs (sets bs at x) (at + 32) i (λ k b. long (suc k) (omega arith)) (omega (arith, m)) (omega arith))
+
+four-at : {A : Type 0} (f : A → List ℕ) (d : A) (l : List A) (i : ℕ) → i < 4 → getD (fourOf f d l) i [] ≡ f (getD l i d)
+four-at f d l zero h = refl
+four-at f d l (suc zero) h = refl
+four-at f d l (suc (suc zero)) h = refl
+four-at f d l (suc (suc (suc zero))) h = refl
+four-at f d l (suc (suc (suc (suc i)))) h = absurd (omega arith)
+
+-- the first bytes of an item at its place
+cut-there : (xs : List (List ℕ)) (bs : List ℕ) (natural i : ℕ) → ((k : ℕ) → k < length xs → length (getD xs k []) ≡ 32)
+    → 32 * length xs ≤ length bs → i < length xs → natural ≤ 32
+    → take natural (drop (32 * i) (laid bs 0 xs)) ≡ take natural (getD xs i [])
+cut-there xs bs natural i long h g n =
+    let e : 0 + 32 * i ≡ 32 * i = omega arith in
+    sym (take-take natural 32 (drop (32 * i) (laid bs 0 xs)) n)
+    ∙ ap (take natural) (rw e at (laid-there xs bs 0 i long (omega arith) g))
+
+module _ (p : Parts) (f : FitParts p) (bs : List ℕ) (b : length bs ≡ 128) where
+  pub jacks-held : Holds 24 (itemsOf Jacks (partsOf p)) (laid bs 0 (fourOf jackBytes noJack (p .jacks)))
+  unfolding bytesOf
+  jacks-held i h =
+      let few : i < 4 = omega (arith, listed-inside jackItem noJack (p .«jack_count») (p .jacks) i h .0) in
+      cut-there (fourOf jackBytes noJack (p .jacks)) bs 24 i (λ k g. rw (four-at jackBytes noJack (p .jacks) k g)) (omega arith) few
+      (omega arith)
+      ∙ rw (four-at jackBytes noJack (p .jacks) i few, listed jackItem noJack (p .«jack_count») (p .jacks) i h)
+
+  abbrev twoStreams : List (List ℕ)
+  twoStreams = pcmItem 0 (getD (p .streams) 0 noStream) ∷ pcmItem 1 (getD (p .streams) 1 noStream) ∷ []
+
+  two-at : (i : ℕ) → i < 2 → getD twoStreams i [] ≡ pcmItem i (getD (p .streams) i noStream)
+  two-at zero h = refl
+  two-at (suc zero) h = refl
+  two-at (suc (suc i)) h = absurd (omega arith)
+
+  pub streams-held : Holds 32 (itemsOf Streams (partsOf p)) (laid bs 0 twoStreams)
+  unfolding bytesOf
+  streams-held i h =
+      let few : i < 2 = omega (arith, streams-inside (p .«stream_count») (p .streams) i h .0) in
+      cut-there twoStreams bs 32 i (λ k g. rw (two-at k g)) (omega arith) few (omega arith)
+      ∙ rw (two-at i few, listed-stream (p .«stream_count») (p .streams) i h)
+
+  pub maps-held : WholeMaps (p .maps) → Holds 24 (itemsOf Maps (partsOf p)) (laid bs 0 (fourOf mapBytes emptyMap (p .maps)))
+  maps-held w i h =
+      let few : i < 4 = omega (arith, listed-inside mapItem emptyMap (p .«map_count») (p .maps) i h .0) in
+      cut-there (fourOf mapBytes emptyMap (p .maps)) bs 24 i
+      (λ k g. rw (four-at mapBytes emptyMap (p .maps) k g, length-append) (omega (arith, whole k g))) (omega arith) few (omega arith)
+      ∙ rw (four-at mapBytes emptyMap (p .maps) i few, listed mapItem emptyMap (p .«map_count») (p .maps) i h)
+      (take-at (mapItem (getD (p .maps) i emptyMap)) (replicate 8 0) 24 (whole i few)) where
+        whole : (k : ℕ) → k < 4 → length (mapItem (getD (p .maps) k emptyMap)) ≡ 24
+        whole zero h = w .0
+        whole (suc zero) h = w .1
+        whole (suc (suc zero)) h = w .2
+        whole (suc (suc (suc zero))) h = w .3
+        whole (suc (suc (suc (suc k)))) h = absurd (omega arith)
+
+-- ---- a row of items out of a buffer
+
+module _ (natural size : ℕ) (bs : List ℕ) where
+  pub row-none : (i n : ℕ) → n ≡ 0 → row natural size bs i n ≡ []
+  row-none i n h = rw h
+
+  pub row-more : (i n k : ℕ) → n ≡ k + 1
+      → row natural size bs i n ≡ fitted size (take natural (drop (32 * i) bs)) ++ row natural size bs (i + 1) k
+  row-more i n k h = rw (h, add-one k)
+
+  -- the items of a list
+  pub row-held : (items : List (List ℕ)) → Holds natural items bs → (k i : ℕ) → i + k ≤ length items
+      → row natural size bs i k ≡ joined (take k (drop i (map (fitted size) items)))
+  row-held items held zero i h = refl
+  row-held items held (suc k) i h =
+      let n : i < length (map (fitted size) items) = rw length-map (omega arith) in
+      rw (
+        joined-next (map (fitted size) items) (suc k) k i (sym (add-one k)) n,
+        getD-map (fitted size) [] [] items i (omega arith),
+        ← (held i (omega arith)),
+        row-held items held k (i + 1) (omega arith),
+      )

@@ -1,15 +1,17 @@
 // The items of JACK_INFO, PCM_INFO and CHMAP_INFO (01, "Control messages").
 ghost use mathlib.Core.Path.{_≡_};
-ghost use mathlib.Core.List.{[], _++_, map};
+ghost use mathlib.Core.List.{[], _∷_, map};
 ghost use mathlib.Core.Bool.{cond};
 ghost use lib.Dec.{eqb};
-ghost use Prim.Native.Nat.{_+_, _≤_, _<_, min};
+ghost use Prim.Native.Nat.{_+_, _*_, _≤_};
 ghost use lib.ListN.{length, getD, take, drop, replicate};
 ghost use lib.Seq.{sets};
 ghost use Rattle.card.specs.Fit.{FitParts};
 ghost use Rattle.meaning.specs.Card.{partsOf};
 ghost use Rattle.ranges.specs.Ranges.{rangesOf, places, putAt};
-ghost use Rattle.rules.specs.Control.{jackItem, pcmItem, mapItem, naturalSize, itemsOf, fitted, joined};
+ghost use Rattle.card.specs.Card.{noStream};
+ghost use Rattle.rules.specs.Control.{pcmItem, mapItem, noJack, naturalSize, itemsOf, fitted, joined};
+ghost use Rattle.information.specs.Items.{laid, fourOf, jackBytes, mapBytes, emptyMap, WholeMaps, Holds, row};
 use card::Jack;
 use card::Parts;
 use card::Stream;
@@ -42,7 +44,7 @@ pub fn total(parts: Parts, l: Listing) -> usize
 
 // An item, then zeros to the length of the longest.
 fn jack_item(jack: Jack) -> [u8; 32]
-    ensures { λ r. ⌜ r ≡ jackItem jack ++ replicate 8 0 ⌝ }
+    ensures { λ r. ⌜ r ≡ jackBytes jack ⌝ }
 {
     let info = jack.info;
     let mut bytes = [0u8; 32];
@@ -80,7 +82,7 @@ fn pcm_item(number: usize, stream: Stream) -> [u8; 32]
 }
 
 fn map_item(map: MapInfo) -> [u8; 32]
-    ensures { λ r. ⌜ (r ≡ mapItem map ++ replicate 8 0) × (length (mapItem map) ≡ 24) ⌝ }
+    ensures { λ r. ⌜ (r ≡ mapBytes map) × (length (mapItem map) ≡ 24) ⌝ }
 {
     let positions = map.positions;
     let mut bytes = [0u8; 32];
@@ -91,23 +93,61 @@ fn map_item(map: MapInfo) -> [u8; 32]
     bytes
 }
 
-// The item at `i` of a list.
-fn item(parts: Parts, l: Listing, i: usize) -> [u8; 32]
-    requires { ⌜ FitParts parts × (i < length (itemsOf l (partsOf parts))) ⌝ }
-    ensures { λ r. ⌜ (take (naturalSize l) r ≡ getD (itemsOf l (partsOf parts)) i []) × (length r ≡ 32) ⌝ }
+// An item at its place in a buffer.
+fn put_item(bytes: &mut [u8], at: usize, item: [u8; 32])
+    requires { ⌜ at + 32 ≤ length (now bytes) ⌝ }
+    ensures { λ r. ⌜ now (bytes .exit) ≡ sets (now (bytes .entry)) at item ⌝ }
+{
+    ranges::copy(bytes, at, &item, 0, 32);
+}
+
+fn put_jacks(bytes: &mut [u8], jacks: [Jack; 4])
+    requires { ⌜ length (now bytes) ≡ 128 ⌝ }
+    ensures { λ r. ⌜ now (bytes .exit) ≡ laid (now (bytes .entry)) 0 (fourOf jackBytes noJack jacks) ⌝ }
+{
+    put_item(bytes, 0, jack_item(jacks[0]));
+    put_item(bytes, 32, jack_item(jacks[1]));
+    put_item(bytes, 64, jack_item(jacks[2]));
+    put_item(bytes, 96, jack_item(jacks[3]));
+}
+
+fn put_streams(bytes: &mut [u8], streams: [Stream; 2])
+    requires { ⌜ length (now bytes) ≡ 128 ⌝ }
+    ensures { λ r. ⌜ now (bytes .exit)
+        ≡ laid (now (bytes .entry)) 0 (pcmItem 0 (getD streams 0 noStream) ∷ pcmItem 1 (getD streams 1 noStream) ∷ []) ⌝ }
+{
+    put_item(bytes, 0, pcm_item(0, streams[0]));
+    put_item(bytes, 32, pcm_item(1, streams[1]));
+}
+
+fn put_maps(bytes: &mut [u8], maps: [MapInfo; 4])
+    requires { ⌜ length (now bytes) ≡ 128 ⌝ }
+    ensures { λ r. ⌜ (now (bytes .exit) ≡ laid (now (bytes .entry)) 0 (fourOf mapBytes emptyMap maps))
+        × WholeMaps maps ⌝ }
+{
+    put_item(bytes, 0, map_item(maps[0]));
+    put_item(bytes, 32, map_item(maps[1]));
+    put_item(bytes, 64, map_item(maps[2]));
+    put_item(bytes, 96, map_item(maps[3]));
+}
+
+// All items of a list, 32 bytes apart.
+fn put_items(bytes: &mut [u8], parts: Parts, l: Listing)
+    requires { ⌜ FitParts parts × (length (now bytes) ≡ 128) ⌝ }
+    ensures { λ r. ⌜ Holds (naturalSize l) (itemsOf l (partsOf parts)) (now (bytes .exit)) ⌝ }
 {
     match l {
         Listing::Jacks => {
-            let jack = parts.jacks[i];
-            jack_item(jack)
+            let jacks = parts.jacks;
+            put_jacks(bytes, jacks);
         }
         Listing::Streams => {
-            let stream = parts.streams[i];
-            pcm_item(i, stream)
+            let streams = parts.streams;
+            put_streams(bytes, streams);
         }
         Listing::Maps => {
-            let map = parts.maps[i];
-            map_item(map)
+            let maps = parts.maps;
+            put_maps(bytes, maps);
         }
     }
 }
@@ -124,6 +164,9 @@ fn write_zeros(m: &mut [u8], list: &[u64], reply: Ranges, start: usize, n: usize
     requires { ⌜ start + n ≤ 4294967295 ⌝ }
     ensures { λ r. ⌜ now (m .exit) ≡ putAt (now (m .entry)) (drop start (places (rangesOf (now (list .entry)) reply))) (replicate n 0) ⌝ }
 {
+    if n == 0 {
+        return;
+    }
     let run = zeros();
     let mut at = start;
     let mut left = n;
@@ -135,24 +178,55 @@ fn write_zeros(m: &mut [u8], list: &[u64], reply: Ranges, start: usize, n: usize
     }
 }
 
-// An item of `natural` bytes in `size` bytes of a reply, from its byte `at` on: cut, or zeros behind it.
+// The item of `natural` bytes at `from` of a buffer, in `size` bytes of a reply from its byte `at` on: cut, or zeros
+// behind it.
 fn write_item(
     m: &mut [u8],
     list: &[u64],
     reply: Ranges,
     at: usize,
-    item: &[u8],
+    items: &[u8],
+    from: usize,
     natural: usize,
     size: usize,
 )
-    requires { ⌜ (at + size ≤ 4294967295) × (natural ≤ length (now item)) ⌝ }
+    requires { ⌜ (at + size ≤ 4294967295) × (from + natural ≤ length (now items)) ⌝ }
     ensures { λ r. ⌜ now (m .exit)
         ≡ putAt (now (m .entry)) (drop at (places (rangesOf (now (list .entry)) reply)))
-        (fitted size (take natural (now (item .entry)))) ⌝ }
+        (fitted size (take natural (drop from (now (items .entry))))) ⌝ }
 {
     let k = ranges::least(natural, size);
-    ranges::scatter(m, list, reply, at, item, 0, k);
+    ranges::scatter(m, list, reply, at, items, from, k);
     write_zeros(m, list, reply, at + k, size - k);
+}
+
+// `count` items of a buffer from its item `start` on, `size` bytes apart, written to a reply behind its status; returns
+// where they end.
+fn write_row(
+    m: &mut [u8],
+    list: &[u64],
+    reply: Ranges,
+    items: &[u8],
+    natural: usize,
+    start: usize,
+    count: usize,
+    size: usize,
+) -> usize
+    requires { ⌜ (natural ≤ 32) × (32 * (start + count) ≤ length (now items)) × (start + count ≤ 4) × (4 + count * size ≤ 4294967295) ⌝ }
+    ensures { λ r. ⌜ (now (m .exit)
+        ≡ putAt (now (m .entry)) (drop 4 (places (rangesOf (now (list .entry)) reply))) (row natural size (now (items .entry)) start count))
+        × (r ≡ 4 + count * size) ⌝ }
+{
+    let mut at: usize = 4;
+    let mut i = start;
+    let mut left = count;
+    while 0 < left {
+        write_item(m, list, reply, at, items, 32 * i, natural, size);
+        at += size;
+        i += 1;
+        left -= 1;
+    }
+    at
 }
 
 // `count` items from `start` on, `size` bytes apart, written to a reply behind its status; returns where they end.
@@ -174,15 +248,7 @@ pub fn write_items(
         × (r ≡ 4 + length (joined (take count (drop start (map (fitted size) (itemsOf l (partsOf parts))))))) ⌝ }
 {
     let natural = natural_size(l);
-    let mut at: usize = 4;
-    let mut i = start;
-    let mut left = count;
-    while 0 < left {
-        let bytes = item(parts, l, i);
-        write_item(m, list, reply, at, &bytes, natural, size);
-        at += size;
-        i += 1;
-        left -= 1;
-    }
-    at
+    let mut items = [0u8; 128];
+    put_items(&mut items, parts, l);
+    write_row(m, list, reply, &items, natural, start, count, size)
 }

@@ -7,16 +7,17 @@ ghost use lib.Dec.{ltb};
 ghost use lib.ListN.{length, take, drop};
 ghost use Rattle.card.specs.Fit.{FitParts};
 ghost use Rattle.meaning.specs.Card.{partsOf};
-ghost use Rattle.reply.specs.Reply.{Serves, outcome, completedWith};
+ghost use Rattle.reply.specs.Reply.{Serves, completionOf};
+ghost use Rattle.ring.specs.Rules.{completion};
 ghost use Rattle.rules.specs.Control.{information as informationOf, remap as remapOf, remapAt, remappable, fourBits};
 ghost use Rattle.rules.specs.Control.{itemsOf, fitted, joined, spaced, listed, roomy, status};
 ghost use Rattle.rules.specs.Numbers.{sOk};
-ghost use Rattle.requests.specs.Requests.{checked, partFound};
+ghost use Rattle.requests.specs.Requests.{checked, partFound, Replies};
 use card::Jack;
 use card::Parts;
-use reply::Kind;
 use reply::Pending;
 use reply::Served;
+use ring::Posted;
 use rules::Listing;
 
 // Whether a request passes a step of its reading.
@@ -160,10 +161,10 @@ fn list_items(
     start: u32,
     count: u32,
     size: u32,
-) -> Served
+) -> Posted
     requires { ⌜ FitParts parts × (start + count ≤ length (itemsOf l (partsOf parts))) × (4 + count * size ≤ 4294967295) ⌝ }
-    ensures { λ r. ⌜ outcome (now (m .exit)) r
-        ≡ completedWith (now (list .entry)) pending parts
+    ensures { λ r. ⌜ completion (now (m .exit)) r
+        ≡ completionOf (now (list .entry)) pending
         (status sOk ++ joined (take count (drop start (map (fitted size) (itemsOf l (partsOf parts))))))
         (now (m .entry)) ⌝ }
 {
@@ -179,14 +180,10 @@ fn list_items(
         count as usize,
         size as usize,
     );
-    let posted = reply::close(m, pending, len as u32);
-    Served {
-        parts: parts,
-        kind: Kind::Completed(posted),
-    }
+    reply::close(m, pending, len as u32)
 }
 
-// JACK_INFO, PCM_INFO, CHMAP_INFO; `room` is the length of the reply's writable side.
+// JACK_INFO, PCM_INFO, CHMAP_INFO: no part changes; `room` is the length of the reply's writable side.
 pub fn inform(
     m: &mut [u8],
     list: &[u64],
@@ -195,22 +192,22 @@ pub fn inform(
     l: Listing,
     request: &[u8],
     room: u32,
-) -> Served
+) -> Posted
     requires { ⌜ FitParts parts ⌝ }
-    ensures { λ r. ⌜ Serves (now (list .entry)) pending parts (informationOf (partsOf parts) l (now (request .entry)) room)
-        r (now (m .entry)) (now (m .exit)) ⌝ }
+    ensures { λ r. ⌜ Replies (now (list .entry)) pending (partsOf parts)
+        (informationOf (partsOf parts) l (now (request .entry)) room) r (now (m .entry)) (now (m .exit)) ⌝ }
 {
     let start = memory::number32(request, 4);
     let count = memory::number32(request, 8);
     let size = memory::number32(request, 12);
     let Check::Passed = is_spaced(count, size) else {
-        return reply::answer(m, list, parts, pending, rules::BAD_MSG);
+        return reply::complete(m, list, pending, rules::BAD_MSG);
     };
     let Check::Passed = is_listed(parts, l, start, count) else {
-        return reply::answer(m, list, parts, pending, rules::BAD_MSG);
+        return reply::complete(m, list, pending, rules::BAD_MSG);
     };
     let Check::Passed = is_roomy(count, size, room) else {
-        return reply::answer(m, list, parts, pending, rules::BAD_MSG);
+        return reply::complete(m, list, pending, rules::BAD_MSG);
     };
     list_items(m, list, parts, pending, l, start, count, size)
 }

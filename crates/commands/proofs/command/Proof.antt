@@ -1,8 +1,8 @@
--- A stream that is there and a lawful transition are obeyed; else BAD_MSG. `t2` is the parameter `parts`.
+-- A stream that is there and a lawful transition are obeyed; else BAD_MSG. `t3` is the parameter `parts`.
 use mathlib.Core.Path.{_≡_, _∙_, sym}
 use mathlib.Core.Bool.{true, false}
-use mathlib.Core.Option.{none, some}
-use Prim.Native.Nat.{_<_}
+use mathlib.Core.Option.{Option, none, some}
+use Prim.Native.Nat.{ℕ, _<_}
 use native.Mathlib.Omega.{arith}
 use borrow.Author.Tests.{ltb-true}
 use lib.Dec.{ltb}
@@ -17,34 +17,33 @@ use borrow.Author.Needs.{needs}
 use Rattle.commands.proofs.command.Statement.{statement}
 use Rattle.commands.proofs.command.Tie as tie
 
--- the stream that was found is the one asked for
-the-stream : (c : tie.After-known-told) →
-    let at-i = c .before in
-    let at-slice-known = at-i .before .before .before .before .before .before in
-    let start = at-slice-known .before in
-    at-i .i .given .0 .0 ≡ word (start .args .request .now) 1
-the-stream c =
-    let at-number32 = c .before .before .before .before in
-    let start = at-number32 .before .before .before .before in
-    found-there (ltb (at-number32 .number32 .result) (start .args .t3 .«stream_count»)) _ _
-    (sym (c .before .before .before .find .ensures) ∙ c .before .i .given .1) .1
-    ∙ at-number32 .number32 .ensures
+-- where the function starts
+abbrev start : tie.After-known-told → tie.Start
+start c = c .before .before .before .before .before .before .before .before
 
-there : (c : tie.After-known-told) →
-    let at-shared-slice-known = c .before .before .before .before .before .before in
-    let at-slice-known = at-shared-slice-known .before in
-    let start = at-slice-known .before in
-    ltb (word (start .args .request .now) 1) (start .args .t3 .«stream_count») ≡ true
-there c =
-    let at-number32 = c .before .before .before .before in
-    rw (← (at-number32 .number32 .ensures)) (found-there _ _ _ (sym (c .before .before .before .find .ensures) ∙ c .before .i .given .1) .0)
+-- the stream that was found is there, and the one asked for
+found : (c : tie.After-known-told) → let a = start c .args in
+    (ltb (word (a .request .now) 1) (a .t3 .«stream_count») ≡ true) × (c .before .i .given .0 .0 ≡ word (a .request .now) 1)
+found c =
+    let n = c .before .before .before .before in
+    let f = found-there (ltb (n .number32 .result) (start c .args .t3 .«stream_count»)) _ _
+    (sym (c .before .before .before .find .ensures) ∙ c .before .i .given .1) in
+    (rw (← (n .number32 .ensures)) (f .0), f .1 ∙ n .number32 .ensures)
 
-inside : (c : tie.After-known-told) →
-    let at-i = c .before in
-    let at-slice-known = at-i .before .before .before .before .before .before in
-    let start = at-slice-known .before in
-    at-i .i .given .0 .0 < start .args .t3 .«stream_count»
-inside c = rw (the-stream c) (ltb-true _ _ (there c))
+inside : (c : tie.After-known-told) → c .before .i .given .0 .0 < start c .args .t3 .«stream_count»
+inside c =
+    let a = start c .args in
+    let there : word (a .request .now) 1 < a .t3 .«stream_count» = ltb-true _ _ (found c .0) in
+    omega (arith, found c .1, there)
+
+few : (c : tie.After-known-told) → c .before .i .given .0 .0 < 2
+few c = omega (arith, inside c, start c .pre .streams)
+
+-- where it is led is where the one asked for is
+led : (c : tie.After-known-told) (o : Option ℕ) → let a = start c .args in
+    transition (a .asked) (getD (a .t3 .streams) (c .before .i .given .0 .0) noStream .state) ≡ o
+    → transition (a .asked) (getD (a .t3 .streams) (word (a .request .now) 1) noStream .state) ≡ o
+led c o h = rw (← (found c .1)) h
 
 number32-requires : tie.Need-number32-requires
 number32-requires c κs = search needs
@@ -78,16 +77,10 @@ returns c =
     (serves-same _ (a .pending) (a .t3) _ _ _ _ (start .pre) (at-answer .answer .ensures))
 
 mul-stream : tie.Need-mul-stream
-mul-stream c =
-    let at-shared-slice-known = c .before .before .before .before .before .before in
-    let start = at-shared-slice-known .before .before in
-    omega (arith, inside c, start .pre .streams)
+mul-stream c = omega (arith, few c)
 
 element-copy-out-stream : tie.Need-element-copy-out-stream
-element-copy-out-stream c =
-    let at-shared-slice-known = c .before .before .before .before .before .before in
-    let start = at-shared-slice-known .before .before in
-    omega (arith, inside c, start .pre .streams)
+element-copy-out-stream c = omega (arith, few c)
 
 lifecycle-requires : tie.Need-lifecycle-requires
 lifecycle-requires c κs = search needs
@@ -106,49 +99,34 @@ same-length-2 c = search needs
 
 returns-2 : tie.Need-returns-2
 returns-2 c =
-    let at-enum-told2 = c .before .before .before .before in
-    let at-lifecycle = at-enum-told2 .before .before in
-    let at-known-told = at-lifecycle .before .before in
-    let at-i = at-known-told .before in
-    let at-slice-known = at-i .before .before .before .before .before .before in
-    let start = at-slice-known .before in
-    let a = start .args in
-    let unlawful : transition (a .asked) (getD (a .t3 .streams) (word (a .request .now) 1) noStream .state)
-    ≡ none = rw (← (the-stream at-known-told))
-    (led-nowhere (transition (a .asked) (getD (a .t3 .streams) (at-i .i .given .0 .0) noStream .state))
-    (sym (at-lifecycle .lifecycle .ensures .0) ∙ at-enum-told2 .enum-told2 .given .1)) in
-    rw (command-led (a .t3) (start .pre) (a .asked) (a .request .now) (there at-known-told) none unlawful)
-    (serves-same _ (a .pending) (a .t3) _ _ _ _ (start .pre) (c .before .before .answer2 .ensures))
+    let t = c .before .before .before .before in
+    let r = t .before .before in
+    let k = r .before .before in
+    let s = start k in
+    let a = s .args in
+    let unlawful = led k none (led-nowhere _ (sym (r .lifecycle .ensures .0) ∙ t .enum-told2 .given .1)) in
+    rw (command-led (a .t3) (s .pre) (a .asked) (a .request .now) (found k .0) none unlawful)
+    (serves-same _ (a .pending) (a .t3) _ _ _ _ (s .pre) (c .before .before .answer2 .ensures))
 
 obey-requires : tie.Need-obey-requires
 obey-requires c κs =
-    let at-lifecycle = c .before .before .before .before in
-    let at-known-told = at-lifecycle .before .before in
-    let at-shared-slice-known = at-known-told .before .before .before .before .before .before in
-    let start = at-shared-slice-known .before .before in
-    (start .pre, inside at-known-told, rw (c .before .before .state .given .1) at (at-lifecycle .lifecycle .ensures .1))
+    let r = c .before .before .before .before in
+    let k = r .before .before in
+    (start k .pre, inside k, rw (c .before .before .state .given .1) at (r .lifecycle .ensures .1))
 
 same-length-3 : tie.Need-same-length-3
 same-length-3 c = search needs
 
 returns-3 : tie.Need-returns-3
 returns-3 c =
-    let at-state = c .before .before .before .before .before in
-    let at-lifecycle = at-state .before .before in
-    let at-known-told = at-lifecycle .before .before in
-    let at-i = at-known-told .before in
-    let at-slice-known = at-i .before .before .before .before .before .before in
-    let start = at-slice-known .before in
-    let a = start .args in
-    let state = at-state .state .given .0 .0 in
-    let lawful : transition (a .asked) (getD (a .t3 .streams) (word (a .request .now) 1) noStream .state)
-    ≡ some state = rw (← (the-stream at-known-told))
-    (led-to (transition (a .asked) (getD (a .t3 .streams) (at-i .i .given .0 .0) noStream .state)) state
-    (sym (at-lifecycle .lifecycle .ensures .0) ∙ at-state .state .given .1)) in
-    rw (
-      command-led (a .t3) (start .pre) (a .asked) (a .request .now) (there at-known-told) (some state) lawful,
-      ← (the-stream at-known-told),
-    )
+    let t = c .before .before .before .before .before in
+    let r = t .before .before in
+    let k = r .before .before in
+    let s = start k in
+    let a = s .args in
+    let state = t .state .given .0 .0 in
+    let lawful = led k (some state) (led-to _ state (sym (r .lifecycle .ensures .0) ∙ t .state .given .1)) in
+    rw (command-led (a .t3) (s .pre) (a .asked) (a .request .now) (found k .0) (some state) lawful, ← (found k .1))
     (c .before .before .obey .ensures)
 
 pub command-spec : {M : Type 1} → statement M

@@ -1,4 +1,5 @@
 -- A broken queue is answered for its cause; else the stream is Released and the message answered.
+use mathlib.Core.Path.{_∙_}
 use Rattle.live.specs.Live.{Fits, withRegisters}
 use Rattle.rules.specs.Device.{signalledIf}
 use Rattle.controlq.proofs.Laws.{few-streams, emptied-fits, release-broken, release-going}
@@ -13,8 +14,11 @@ emptied c = c .before .before .before .before .before .before .before .before
 abbrev start : tie.After-empty → tie.Start
 start c = c .before .before .before .before .before .before .before .before
 
-abbrev signalled-at : tie.After-slice-known7 → tie.After-signal
-signalled-at c = c .before .before .before .before .before .before .before .before
+abbrev broke-at : tie.After-finish → tie.After-signal
+broke-at c = c .before .before .before .before .before
+
+abbrev going-at : tie.After-finish2 → tie.After-signal
+going-at c = c .before .before .before .before .before .before .before .before .before
 
 -- the small state with its signal is fit
 signalled : (c : tie.After-empty) → let e = c .empty .result in
@@ -24,7 +28,7 @@ signalled c =
     let s = start c in
     let a = s .args in
     emptied-fits (a .live) (a .parts) (a .play-words .now) (a .capture-words .now) (s .pre .0) (a .id) (a .m .now) _ _ _
-    (c .empty .result) (c .empty .ensures) (a .head) (a .list .now) (a .reply)
+    (c .empty .result) (c .empty .ensures) (a .message .head) (a .list .now) (a .message .reply)
 
 empty-requires : tie.Need-empty-requires
 empty-requires c κs = search needs
@@ -37,6 +41,9 @@ enum-known-stop c = search needs
 
 queue-of-requires : tie.Need-queue-of-requires
 queue-of-requires c κs = search needs
+
+finish-requires : tie.Need-finish-requires
+finish-requires c κs = search needs
 
 enum-told : tie.Need-enum-told
 enum-told c = search needs
@@ -53,8 +60,11 @@ pending-in-requires c κs = search needs
 complete-requires : tie.Need-complete-requires
 complete-requires c κs = search needs
 
+finish-requires-2 : tie.Need-finish-requires-2
+finish-requires-2 c κs = search needs
+
 same-length : tie.Need-same-length
-same-length c = search needs
+same-length c = emptied (broke-at c) .empty .kept .1 .0
 
 same-length-2 : tie.Need-same-length-2
 same-length-2 c = search needs
@@ -64,34 +74,36 @@ same-length-3 c = search needs
 
 returns : tie.Need-returns
 returns c =
-    let k = c .before .before .before .before in
+    let k = broke-at c in
     let e = emptied k in
     let s = start e in
     let a = s .args in
-    rw (c .queue-of .ensures, k .signal .ensures)
+    rw (c .finish .ensures, c .before .queue-of .ensures, k .signal .ensures)
     (release-broken (a .live) (a .parts) (a .play-words .now) (a .capture-words .now) (s .pre .0) (a .id) (a .m .now) _ _ _
-    (e .empty .result) (e .empty .ensures) (a .head) (a .list .now) (a .reply) _ (c .before .before .stop .given .1))
+    (e .empty .result) (e .empty .ensures) (a .message .head) (a .list .now) (a .message .reply) _
+    (c .before .before .before .stop .given .1))
 
 same-length-4 : tie.Need-same-length-4
-same-length-4 c = emptied (signalled-at c) .empty .kept .1 .0
+same-length-4 c = emptied (going-at c) .empty .kept .1 .0
 
 same-length-5 : tie.Need-same-length-5
-same-length-5 c = emptied (signalled-at c) .empty .kept .1 .1 .0
+same-length-5 c = emptied (going-at c) .empty .kept .1 .1 .0
 
 same-length-6 : tie.Need-same-length-6
-same-length-6 c = search needs
+same-length-6 c = c .before .before .before .complete .kept .0 ∙ emptied (going-at c) .empty .kept .1 .1 .1 .0
 
 returns-2 : tie.Need-returns-2
 returns-2 c =
-    let o = c .before .before in
+    let o = c .before .before .before in
     let n = o .before .before .before in
     let k = n .before .before .before in
     let e = emptied k in
     let s = start e in
     let a = s .args in
-    rw (n .mark-released .ensures, k .signal .ensures)
+    rw (c .finish2 .ensures, n .mark-released .ensures, k .signal .ensures)
     (release-going (a .live) (a .parts) (a .play-words .now) (a .capture-words .now) (s .pre .0) (a .id) (a .m .now) _ _ _
-    (e .empty .result) (e .empty .ensures) (a .head) (a .list .now) (a .reply) _ (o .complete .result) (n .before .enum-told .given .1)
+    (e .empty .result) (e .empty .ensures) (a .message .head) (a .list .now) (a .message .reply) _ (o .complete .result)
+    (n .before .enum-told .given .1)
     (rw (o .before .before .pending-in .ensures, n .mark-released .ensures, k .signal .ensures) at (o .complete .ensures)))
 
 pub release-spec : {M : Type 1} → statement M
@@ -102,10 +114,12 @@ release-spec =
     signal-requires
     enum-known-stop
     queue-of-requires
+    finish-requires
     enum-told
     mark-released-requires
     pending-in-requires
     complete-requires
+    finish-requires-2
     same-length
     same-length-2
     same-length-3

@@ -20,6 +20,9 @@ Inv-loop m₀ list reply start n run at₀ left₀ m at left =
 abbrev μ-loop : tie.MeasureT-loop
 μ-loop m₀ list reply start n run at₀ left₀ m at left = left
 
+returns : tie.Need-returns Inv-loop μ-loop
+returns c = rw (c .if1 .taken) (sym (putAt-nil _ _))
+
 zeros-requires : tie.Need-zeros-requires Inv-loop μ-loop
 zeros-requires c κs = omega arith
 
@@ -50,7 +53,7 @@ loop-again c =
     let at-least = at-scatter .before .before .before in
     let at-loop = at-least .before .before in
     let at-zeros = at-loop .before in
-    let start = at-zeros .before .before .before in
+    let start = at-zeros .before .before .before .before in
     let l = at-loop .loop in
     let k = at-least .least .result in
     let ps = places (rangesOf (start .args .list .now) (start .args .reply)) in
@@ -77,10 +80,10 @@ loop-again c =
 same-length : tie.Need-same-length Inv-loop μ-loop
 same-length c = omega arith
 
-returns : tie.Need-returns Inv-loop μ-loop
-returns c =
+returns-2 : tie.Need-returns-2 Inv-loop μ-loop
+returns-2 c =
     let l = c .before .loop in
-    let a = c .before .before .before .before .before .args in
+    let a = c .before .before .before .before .before .before .args in
     let z : l .left ≡ 0 = omega arith in
     sym (putAt-nil (l .m) (drop (l .at) (places (rangesOf (a .list .now) (a .reply))))) ∙ rw z at (l .inv .2)
 
@@ -90,6 +93,7 @@ write-zeros-spec =
     (tie.spec
     Inv-loop
     μ-loop
+    returns
     zeros-requires
     loop-holds
     least-requires
@@ -100,4 +104,4 @@ write-zeros-spec =
     loop-less
     loop-again
     same-length
-    returns)
+    returns-2)

@@ -1,5 +1,5 @@
 -- Each step refuses with BAD_MSG; past all of them the items are listed.
-use mathlib.Core.Path.{_≡_, _∙_, sym}
+use mathlib.Core.Path.{_≡_, _∙_, refl, sym}
 use mathlib.Core.Bool.{true, false}
 use Prim.Native.Nat.{_+_, _*_, _≤_}
 use native.Mathlib.Omega.{arith}
@@ -7,7 +7,6 @@ use borrow.Author.Tests.{leb-true}
 use lib.ListN.{length}
 use Rattle.meaning.specs.Card.{partsOf}
 use Rattle.rules.specs.Control.{information, itemsOf, spaced, listed, roomy, word}
-use Rattle.reply.proofs.Laws.{serves-same}
 use Rattle.requests.proofs.Laws.{check-passed, check-failed}
 use borrow.Author.Needs.{needs}
 use Rattle.requests.proofs.inform.Statement.{statement}
@@ -85,8 +84,8 @@ enum-told c = search needs
 enum-told-2 : tie.Need-enum-told-2
 enum-told-2 c = search needs
 
-answer-requires : tie.Need-answer-requires
-answer-requires c κs = search needs
+complete-requires : tie.Need-complete-requires
+complete-requires c κs = search needs
 
 same-length : tie.Need-same-length
 same-length c = search needs
@@ -94,8 +93,8 @@ same-length c = search needs
 returns : tie.Need-returns
 unfolding information
 returns c =
-    let at-answer = c .before .before in
-    let at-enum-told2 = at-answer .before .before in
+    let at-complete = c .before .before in
+    let at-enum-told2 = at-complete .before .before in
     let at-is-spaced = at-enum-told2 .before .before in
     let at-number323 = at-is-spaced .before in
     let at-number322 = at-number323 .before in
@@ -105,7 +104,7 @@ returns c =
     rw (← (at-number322 .number322 .ensures), ← (at-number323 .number323 .ensures))
     (check-failed (spaced (at-number322 .number322 .result) (at-number323 .number323 .result))
     (sym (at-is-spaced .is-spaced .ensures) ∙ at-enum-told2 .enum-told2 .given .1)) in
-    rw unsized (serves-same _ (a .pending) (a .parts) _ _ _ _ (start .pre) (at-answer .answer .ensures))
+    rw unsized (record { bytes = _; same = refl; completes = at-complete .complete .ensures })
 
 is-listed-requires : tie.Need-is-listed-requires
 is-listed-requires c κs = search needs
@@ -116,8 +115,8 @@ enum-told-3 c = search needs
 enum-told-4 : tie.Need-enum-told-4
 enum-told-4 c = search needs
 
-answer-requires-2 : tie.Need-answer-requires-2
-answer-requires-2 c κs = search needs
+complete-requires-2 : tie.Need-complete-requires-2
+complete-requires-2 c κs = search needs
 
 same-length-2 : tie.Need-same-length-2
 same-length-2 c = search needs
@@ -125,8 +124,8 @@ same-length-2 c = search needs
 returns-2 : tie.Need-returns-2
 unfolding information
 returns-2 c =
-    let at-answer2 = c .before .before in
-    let at-enum-told4 = at-answer2 .before .before in
+    let at-complete2 = c .before .before in
+    let at-enum-told4 = at-complete2 .before .before in
     let at-is-listed = at-enum-told4 .before .before in
     let at-enum-told = at-is-listed .before in
     let at-number322 = at-enum-told .before .before .before .before in
@@ -137,7 +136,7 @@ returns-2 c =
     rw (← (at-number32 .number32 .ensures), ← (at-number322 .number322 .ensures))
     (check-failed (listed (a .l) (partsOf (a .parts)) (at-number32 .number32 .result) (at-number322 .number322 .result))
     (sym (at-is-listed .is-listed .ensures) ∙ at-enum-told4 .enum-told4 .given .1)) in
-    rw (sized at-enum-told, absent) (serves-same _ (a .pending) (a .parts) _ _ _ _ (start .pre) (at-answer2 .answer2 .ensures))
+    rw (sized at-enum-told, absent) (record { bytes = _; same = refl; completes = at-complete2 .complete2 .ensures })
 
 is-roomy-requires : tie.Need-is-roomy-requires
 is-roomy-requires c κs = search needs
@@ -148,8 +147,8 @@ enum-told-5 c = search needs
 enum-told-6 : tie.Need-enum-told-6
 enum-told-6 c = search needs
 
-answer-requires-3 : tie.Need-answer-requires-3
-answer-requires-3 c κs = search needs
+complete-requires-3 : tie.Need-complete-requires-3
+complete-requires-3 c κs = search needs
 
 same-length-3 : tie.Need-same-length-3
 same-length-3 c = search needs
@@ -157,8 +156,8 @@ same-length-3 c = search needs
 returns-3 : tie.Need-returns-3
 unfolding information
 returns-3 c =
-    let at-answer3 = c .before .before in
-    let at-enum-told6 = at-answer3 .before .before in
+    let at-complete3 = c .before .before in
+    let at-enum-told6 = at-complete3 .before .before in
     let at-is-roomy = at-enum-told6 .before .before in
     let at-enum-told3 = at-is-roomy .before in
     let at-enum-told = at-enum-told3 .before .before .before in
@@ -171,7 +170,7 @@ returns-3 c =
     (check-failed (roomy (at-number322 .number322 .result) (at-number323 .number323 .result) (a .room))
     (sym (at-is-roomy .is-roomy .ensures) ∙ at-enum-told6 .enum-told6 .given .1)) in
     rw (sized at-enum-told, there-asked at-enum-told3, narrow)
-    (serves-same _ (a .pending) (a .parts) _ _ _ _ (start .pre) (at-answer3 .answer3 .ensures))
+    (record { bytes = _; same = refl; completes = at-complete3 .complete3 .ensures })
 
 list-items-requires : tie.Need-list-items-requires
 list-items-requires c κs =
@@ -213,7 +212,7 @@ returns-4 c =
       ← (at-number322 .number322 .ensures),
       ← (at-number323 .number323 .ensures),
     )
-    (serves-same _ (a .pending) (a .parts) _ _ _ _ (start .pre) (at-list-items .list-items .ensures))
+    (record { bytes = _; same = refl; completes = at-list-items .list-items .ensures })
 
 pub inform-spec : {M : Type 1} → statement M
 inform-spec =
@@ -225,19 +224,19 @@ inform-spec =
     is-spaced-requires
     enum-told
     enum-told-2
-    answer-requires
+    complete-requires
     same-length
     returns
     is-listed-requires
     enum-told-3
     enum-told-4
-    answer-requires-2
+    complete-requires-2
     same-length-2
     returns-2
     is-roomy-requires
     enum-told-5
     enum-told-6
-    answer-requires-3
+    complete-requires-3
     same-length-3
     returns-3
     list-items-requires

@@ -5,7 +5,7 @@ use lib.ListN.{length-append}
 use Rattle.meaning.specs.Card.{partsOf}
 use Rattle.rules.specs.Control.{itemsOf}
 use Rattle.information.proofs.Laws.{length-items}
-use Rattle.reply.proofs.Laws.{putAt-behind, length-status, completed-outcome}
+use Rattle.reply.proofs.Laws.{putAt-behind, length-status}
 use borrow.Author.Needs.{needs}
 use Rattle.requests.proofs.list_items.Statement.{statement}
 use Rattle.requests.proofs.list_items.Tie as tie
@@ -41,9 +41,8 @@ returns c =
     let at-write-items = at-close .before .before .before .before in
     let at-write-status = at-write-items .before .before .before .before in
     let w = at-write-items .write-items in
-    completed-outcome _ _ _ _
-    (at-close .close .ensures
-    ∙ rw (w .ensures .1, w .ensures .0, at-write-status .write-status .ensures, length-append, length-status, putAt-behind, length-status))
+    at-close .close .ensures
+    ∙ rw (w .ensures .1, w .ensures .0, at-write-status .write-status .ensures, length-append, length-status, putAt-behind, length-status)
 
 pub list-items-spec : {M : Type 1} → statement M
 list-items-spec =

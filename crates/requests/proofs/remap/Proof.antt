@@ -1,6 +1,6 @@
--- Each step refuses with its status; past both the jack found is remapped. `t2` is the parameter `parts`.
+-- Each step refuses with its status; past both the jack found is remapped. `t3` is the parameter `parts`.
 use mathlib.Core.Path.{_≡_, _∙_, sym}
-use mathlib.Core.Bool.{true, false}
+use mathlib.Core.Bool.{Bool, true, false}
 use Prim.Native.Nat.{_<_}
 use native.Mathlib.Omega.{arith}
 use borrow.Author.Tests.{ltb-true}
@@ -13,33 +13,33 @@ use borrow.Author.Needs.{needs}
 use Rattle.requests.proofs.remap.Statement.{statement}
 use Rattle.requests.proofs.remap.Tie as tie
 
--- the jack that was found is the one asked for
-the-jack : (c : tie.After-known-told) →
-    let at-i = c .before in
-    let at-slice-known = at-i .before .before .before .before .before .before in
-    let start = at-slice-known .before in
-    at-i .i .given .0 .0 ≡ word (start .args .request .now) 1
-the-jack c =
-    let at-number32 = c .before .before .before .before in
-    let start = at-number32 .before .before .before .before in
-    found-there (ltb (at-number32 .number32 .result) (start .args .t3 .«jack_count»)) _ _
-    (sym (c .before .before .before .find .ensures) ∙ c .before .i .given .1) .1 ∙ at-number32 .number32 .ensures
+-- where the function starts
+abbrev start : tie.After-known-told → tie.Start
+start c = c .before .before .before .before .before .before .before .before
 
-there : (c : tie.After-known-told) →
-    let at-shared-slice-known = c .before .before .before .before .before .before in
-    let at-slice-known = at-shared-slice-known .before in
-    let start = at-slice-known .before in
-    ltb (word (start .args .request .now) 1) (start .args .t3 .«jack_count») ≡ true
-there c =
-    let at-number32 = c .before .before .before .before in
-    rw (← (at-number32 .number32 .ensures)) (found-there _ _ _ (sym (c .before .before .before .find .ensures) ∙ c .before .i .given .1) .0)
+-- the jack that was found is there, and the one asked for
+found : (c : tie.After-known-told) → let a = start c .args in
+    (ltb (word (a .request .now) 1) (a .t3 .«jack_count») ≡ true) × (c .before .i .given .0 .0 ≡ word (a .request .now) 1)
+found c =
+    let n = c .before .before .before .before in
+    let f = found-there (ltb (n .number32 .result) (start c .args .t3 .«jack_count»)) _ _
+    (sym (c .before .before .before .find .ensures) ∙ c .before .i .given .1) in
+    (rw (← (n .number32 .ensures)) (f .0), f .1 ∙ n .number32 .ensures)
 
-inside : (c : tie.After-known-told) →
-    let at-i = c .before in
-    let at-slice-known = at-i .before .before .before .before .before .before in
-    let start = at-slice-known .before in
-    at-i .i .given .0 .0 < start .args .t3 .«jack_count»
-inside c = rw (the-jack c) (ltb-true _ _ (there c))
+inside : (c : tie.After-known-told) → c .before .i .given .0 .0 < start c .args .t3 .«jack_count»
+inside c =
+    let a = start c .args in
+    let there : word (a .request .now) 1 < a .t3 .«jack_count» = ltb-true _ _ (found c .0) in
+    omega (arith, found c .1, there)
+
+few : (c : tie.After-known-told) → c .before .i .given .0 .0 < 4
+few c = omega (arith, inside c, start c .pre .jacks)
+
+-- what its test says is said of the one asked for
+tested : (c : tie.After-known-told) (b : Bool) → let a = start c .args in
+    remappable (getD (a .t3 .jacks) (c .before .i .given .0 .0) noJack) ≡ b
+    → remappable (getD (a .t3 .jacks) (word (a .request .now) 1) noJack) ≡ b
+tested c b h = rw (← (found c .1)) h
 
 number32-requires : tie.Need-number32-requires
 number32-requires c κs = search needs
@@ -73,16 +73,10 @@ returns c =
     (serves-same _ (a .pending) (a .t3) _ _ _ _ (start .pre) (at-answer .answer .ensures))
 
 mul-jack : tie.Need-mul-jack
-mul-jack c =
-    let at-shared-slice-known = c .before .before .before .before .before .before in
-    let start = at-shared-slice-known .before .before in
-    omega (arith, inside c, start .pre .jacks)
+mul-jack c = omega (arith, few c)
 
 element-copy-out-jack : tie.Need-element-copy-out-jack
-element-copy-out-jack c =
-    let at-shared-slice-known = c .before .before .before .before .before .before in
-    let start = at-shared-slice-known .before .before in
-    omega (arith, inside c, start .pre .jacks)
+element-copy-out-jack c = omega (arith, few c)
 
 is-remappable-requires : tie.Need-is-remappable-requires
 is-remappable-requires c κs = search needs
@@ -101,18 +95,14 @@ same-length-2 c = search needs
 
 returns-2 : tie.Need-returns-2
 returns-2 c =
-    let at-enum-told3 = c .before .before .before .before in
-    let at-is-remappable = at-enum-told3 .before .before in
-    let at-known-told = at-is-remappable .before .before in
-    let at-i = at-known-told .before in
-    let at-slice-known = at-i .before .before .before .before .before .before in
-    let start = at-slice-known .before in
-    let a = start .args in
-    let lacking : remappable (getD (a .t3 .jacks) (word (a .request .now) 1) noJack) ≡ false = rw (← (the-jack at-known-told))
-    (check-failed (remappable (getD (a .t3 .jacks) (at-i .i .given .0 .0) noJack))
-    (sym (at-is-remappable .is-remappable .ensures) ∙ at-enum-told3 .enum-told3 .given .1)) in
-    rw (remap-refused (a .t3) (start .pre) (a .request .now) (there at-known-told) lacking)
-    (serves-same _ (a .pending) (a .t3) _ _ _ _ (start .pre) (c .before .before .answer2 .ensures))
+    let t = c .before .before .before .before in
+    let r = t .before .before in
+    let k = r .before .before in
+    let s = start k in
+    let a = s .args in
+    let lacking = tested k false (check-failed _ (sym (r .is-remappable .ensures) ∙ t .enum-told3 .given .1)) in
+    rw (remap-refused (a .t3) (s .pre) (a .request .now) (found k .0) lacking)
+    (serves-same _ (a .pending) (a .t3) _ _ _ _ (s .pre) (c .before .before .answer2 .ensures))
 
 number32-requires-2 : tie.Need-number32-requires-2
 number32-requires-2 c κs = search needs
@@ -122,34 +112,26 @@ number32-requires-3 c κs = search needs
 
 remap-jack-requires : tie.Need-remap-jack-requires
 remap-jack-requires c κs =
-    let at-jack = c .before .before .before .before .before .before in
-    let at-known-told = at-jack .before in
-    let at-shared-slice-known = at-known-told .before .before .before .before .before .before in
-    let start = at-shared-slice-known .before .before in
-    (start .pre, inside at-known-told)
+    let jack = c .before .before .before .before .before .before in
+    (start (jack .before) .pre, inside (jack .before))
 
 same-length-3 : tie.Need-same-length-3
 same-length-3 c = search needs
 
 returns-3 : tie.Need-returns-3
 returns-3 c =
-    let at-number323 = c .before .before .before .before in
-    let at-number322 = at-number323 .before in
-    let at-enum-told2 = at-number322 .before in
-    let at-is-remappable = at-enum-told2 .before .before in
-    let at-known-told = at-is-remappable .before .before in
-    let at-i = at-known-told .before in
-    let at-slice-known = at-i .before .before .before .before .before .before in
-    let start = at-slice-known .before in
-    let a = start .args in
-    let able : remappable (getD (a .t3 .jacks) (word (a .request .now) 1) noJack) ≡ true = rw (← (the-jack at-known-told))
-    (check-passed (remappable (getD (a .t3 .jacks) (at-i .i .given .0 .0) noJack))
-    (sym (at-is-remappable .is-remappable .ensures) ∙ at-enum-told2 .enum-told2 .given .1)) in
+    let n = c .before .before .before .before in
+    let t = n .before .before in
+    let r = t .before .before in
+    let k = r .before .before in
+    let s = start k in
+    let a = s .args in
+    let able = tested k true (check-passed _ (sym (r .is-remappable .ensures) ∙ t .enum-told2 .given .1)) in
     rw (
-      remap-there (a .t3) (start .pre) (a .request .now) (there at-known-told) able,
-      ← (the-jack at-known-told),
-      ← (at-number322 .number322 .ensures),
-      ← (at-number323 .number323 .ensures),
+      remap-there (a .t3) (s .pre) (a .request .now) (found k .0) able,
+      ← (found k .1),
+      ← (n .before .number322 .ensures),
+      ← (n .number323 .ensures),
     )
     (c .before .before .remap-jack .ensures)
 

@@ -1,0 +1,2 @@
+-- What a control request's code and first bytes tell.
+pub mod Control

@@ -1,0 +1,2 @@
+-- The items of information in a buffer.
+pub mod Items
