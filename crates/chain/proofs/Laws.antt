@@ -52,44 +52,93 @@ module _ (m : List ℕ) (a size number : ℕ) where
         let i : a + 16 * number ≡ a + number * 16 = omega arith in
         getD-descriptors m a size number noDescriptor there ∙ rw i (sym e)
 
-pub inTable-none : (n : ℕ) (table : List Descriptor) (number : ℕ) (rd wr : List Range) → n ≡ 0 → inTable n table number rd wr
+inTable-none : (n : ℕ) (table : List Descriptor) (number : ℕ) (rd wr : List Range) → n ≡ 0 → inTable n table number rd wr
     ≡ faulted TooMany
 unfolding inTable
 inTable-none n table number rd wr h = rw h
 
-pub direct-none : (m : List ℕ) (negotiated : Bool) (n : ℕ) (table : List Descriptor) (number : ℕ) (rd wr : List Range) → n ≡ 0
+direct-none : (m : List ℕ) (negotiated : Bool) (n : ℕ) (table : List Descriptor) (number : ℕ) (rd wr : List Range) → n ≡ 0
     → direct m negotiated n table number rd wr ≡ faulted TooMany
 unfolding direct
 direct-none m negotiated n table number rd wr h = rw h
 
 -- what the walk makes of a descriptor, where k more may come after it
-abbrev pub inTableTurn : ℕ → List Descriptor → Descriptor → List Range → List Range → Outcome
+abbrev inTableTurn : ℕ → List Descriptor → Descriptor → List Range → List Range → Outcome
 inTableTurn k table d rd wr = cond (isIndirect d) (faulted Nested) (onward d rd wr (inTable k table (d .next .0)))
 
-abbrev pub directTurn : List ℕ → Bool → ℕ → ℕ → List Descriptor → Descriptor → List Range → List Range → Outcome
+abbrev directTurn : List ℕ → Bool → ℕ → ℕ → List Descriptor → Descriptor → List Range → List Range → Outcome
 directTurn m negotiated n k table d rd wr =
     cond (isIndirect d)
     (byEnd (enterOf (length m) negotiated d) (inTable n (descriptors m (d .at .0) (d .len / 16)) 0 rd wr))
     (onward d rd wr (direct m negotiated k table (d .next .0)))
 
 module _ (m : List ℕ) (a size n k number : ℕ) (rd wr : List Range) (fuel : n ≡ k + 1) where
-  pub inTable-past : size ≤ number → inTable n (descriptors m a size) number rd wr ≡ faulted PastTable
+  inTable-past : size ≤ number → inTable n (descriptors m a size) number rd wr ≡ faulted PastTable
   unfolding inTable
   inTable-past h = rw (fuel, add-one, past-size m a size number h)
 
-  pub direct-past : (negotiated : Bool) → size ≤ number → direct m negotiated n (descriptors m a size) number rd wr ≡ faulted PastTable
+  direct-past : (negotiated : Bool) → size ≤ number → direct m negotiated n (descriptors m a size) number rd wr ≡ faulted PastTable
   unfolding direct
   direct-past negotiated h = rw (fuel, add-one, past-size m a size number h)
 
   module _ (d : Descriptor) (there : number < size) (e : d ≡ descriptorAt m (a + number * 16)) where
-    pub inTable-more : inTable n (descriptors m a size) number rd wr ≡ inTableTurn k (descriptors m a size) d rd wr
+    inTable-more : inTable n (descriptors m a size) number rd wr ≡ inTableTurn k (descriptors m a size) d rd wr
     unfolding inTable
     inTable-more = rw (fuel, add-one, in-size m a size number there, at-number m a size number there d e)
 
-    pub direct-more : (negotiated : Bool) → direct m negotiated n (descriptors m a size) number rd wr
+    direct-more : (negotiated : Bool) → direct m negotiated n (descriptors m a size) number rd wr
         ≡ directTurn m negotiated n k (descriptors m a size) d rd wr
     unfolding direct
     direct-more negotiated = rw (fuel, add-one, in-size m a size number there, at-number m a size number there d e)
+
+-- ---- the walk in either table: in an indirect one where it may not go deeper
+
+module _ (m : List ℕ) (negotiated : Bool) where
+  abbrev pub onwards : ℕ → ℕ → List Descriptor → ℕ → List Range → List Range → Outcome
+  onwards zero n table number rd wr = inTable n table number rd wr
+  onwards (suc _) n table number rd wr = direct m negotiated n table number rd wr
+
+  abbrev pub turned : ℕ → ℕ → ℕ → List Descriptor → Descriptor → List Range → List Range → Outcome
+  turned zero n k table d rd wr = inTableTurn k table d rd wr
+  turned (suc _) n k table d rd wr = directTurn m negotiated n k table d rd wr
+
+  pub onwards-none : (deeper n : ℕ) (table : List Descriptor) (number : ℕ) (rd wr : List Range) → n ≡ 0
+      → onwards deeper n table number rd wr ≡ faulted TooMany
+  onwards-none zero n table number rd wr h = inTable-none n table number rd wr h
+  onwards-none (suc _) n table number rd wr h = direct-none m negotiated n table number rd wr h
+
+  module _ (deeper a size n k number : ℕ) (rd wr : List Range) (fuel : n ≡ k + 1) where
+    pub onwards-past : size ≤ number → onwards deeper n (descriptors m a size) number rd wr ≡ faulted PastTable
+    onwards-past h = by deeper where
+      by : (e : ℕ) → onwards e n (descriptors m a size) number rd wr ≡ faulted PastTable
+      by zero = inTable-past m a size n k number rd wr fuel h
+      by (suc _) = direct-past m a size n k number rd wr fuel negotiated h
+
+    pub onwards-more : (d : Descriptor) → number < size → d ≡ descriptorAt m (a + number * 16)
+        → onwards deeper n (descriptors m a size) number rd wr ≡ turned deeper n k (descriptors m a size) d rd wr
+    onwards-more d there e = by deeper where
+      by : (e : ℕ) → onwards e n (descriptors m a size) number rd wr ≡ turned e n k (descriptors m a size) d rd wr
+      by zero = inTable-more m a size n k number rd wr fuel d there e
+      by (suc _) = direct-more m a size n k number rd wr fuel d there e negotiated
+
+  -- a turn by what the descriptor is
+  module _ (deeper n k : ℕ) (table : List Descriptor) (d : Descriptor) (rd wr : List Range) where
+    pub turned-joins : isIndirect d ≡ false → turned deeper n k table d rd wr ≡ onward d rd wr (onwards deeper k table (d .next .0))
+    turned-joins h = by deeper where
+      by : (e : ℕ) → turned e n k table d rd wr ≡ onward d rd wr (onwards e k table (d .next .0))
+      by zero = rw h
+      by (suc _) = rw h
+
+    pub turned-nested : isIndirect d ≡ true → deeper ≡ 0 → turned deeper n k table d rd wr ≡ faulted Nested
+    turned-nested h e = rw (e, h)
+
+    pub turned-enters : (end : End) → enterOf (length m) negotiated d ≡ end → isIndirect d ≡ true → (deeper ≡ 0 → ⊥)
+        → turned deeper n k table d rd wr ≡ byEnd end (inTable n (descriptors m (d .at .0) (d .len / 16)) 0 rd wr)
+    turned-enters end e h some = by deeper some where
+      by : (i : ℕ) → (i ≡ 0 → ⊥)
+          → turned i n k table d rd wr ≡ byEnd end (inTable n (descriptors m (d .at .0) (d .len / 16)) 0 rd wr)
+      by zero z = absurd (z refl)
+      by (suc _) z = rw (h, e)
 
 -- ---- one descriptor joined to a chain
 

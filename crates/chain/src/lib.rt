@@ -254,44 +254,32 @@ fn follow(
     let mut chain = Chain::empty();
     let mut number = head;
     let mut left = MOST_DESCRIPTORS;
+    // the table that the walk is in, and how many indirect ones it may still enter
+    let mut at = table;
+    let mut count = size as u32;
+    let mut deeper: u32 = 1;
     let end = 'walk: loop {
         // One that names an indirect table is not counted, but after 34 it is a fault as well: its
         // table has at least one more.
         if left == 0 {
             break 'walk End::Faulted(Fault::TooMany);
         }
-        if size <= number.number() {
+        if count <= number.number() as u32 {
             break 'walk End::Faulted(Fault::PastTable);
         }
-        let d = Descriptor::read(m, table, number);
+        let d = Descriptor::read(m, at, number);
         if d.is_indirect() {
+            if deeper == 0 {
+                break 'walk End::Faulted(Fault::Nested);
+            }
             if let End::Faulted(fault) = enter(m.len(), indirect, d) {
                 break 'walk End::Faulted(fault);
             }
             number = DescriptorNumber::of(0);
-            loop {
-                if left == 0 {
-                    break 'walk End::Faulted(Fault::TooMany);
-                }
-                if d.len / 16 <= number.number() as u32 {
-                    break 'walk End::Faulted(Fault::PastTable);
-                }
-                let entry = Descriptor::read(m, d.at, number);
-                if entry.is_indirect() {
-                    break 'walk End::Faulted(Fault::Nested);
-                }
-                let step = joined(list, chain, entry);
-                chain = step.chain;
-                let stop = step.end;
-                if let End::Faulted(fault) = stop {
-                    break 'walk End::Faulted(fault);
-                }
-                left -= 1;
-                if !entry.has_next() {
-                    break 'walk End::Whole;
-                }
-                number = entry.next;
-            }
+            at = d.at;
+            count = d.len / 16;
+            deeper = 0;
+            continue 'walk;
         }
         let step = joined(list, chain, d);
         chain = step.chain;
