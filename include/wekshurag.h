@@ -260,7 +260,7 @@ static inline struct wekshurag_result wekshurag_play(struct wekshurag_card *card
 static inline struct wekshurag_result wekshurag_capture(struct wekshurag_card *card, uint8_t *ram, size_t ram_len, const uint8_t *host,
                                                         size_t host_len, uint32_t backlog)
 {
-    /* The archive's function plays and records by one loop, to which the host's bytes are lent; its contract is that these stay as they are. */
+    /* The archive plays and records by one loop, to which the host's bytes are lent; its contract is that a capture only reads them. */
     return wekshurag_card_capture(&card->board.live, card->capture_chain, WEKSHURAG_CHAIN_WORDS, ram, ram_len, (uint8_t *)host, host_len,
                                   backlog);
 }

@@ -33,7 +33,8 @@ use Rattle.pcm.proofs.Outcomes.{transfer-refused, transfer-fit, transfe
 -- ---- the cards of a small state, by the direction
 
 module _ (l : Live) (p : Parts) (ws other : List ℕ) where
-  flowed-in : (d : Direction) (g : Flow) (ws′ : List ℕ) → flowedCard d g ws′ (cardWith d l p ws other) ≡ cardWith d (flowedLive d g l) p ws′ other
+  flowed-in : (d : Direction) (g : Flow) (ws′ : List ℕ)
+      → flowedCard d g ws′ (cardWith d l p ws other) ≡ cardWith d (flowedLive d g l) p ws′ other
   flowed-in Output g ws′ = refl
   flowed-in Input g ws′ = refl
 

@@ -60,7 +60,8 @@ module _ (way : Direction) (backlog : ℕ) (c : Card) (m host : List ℕ) where
 
   -- nothing moved: the registers alone are others
   unmoved : (w : Direction) (a : Answer) (g : Registers) → let e = directionOf w in
-      transferStep e host (deviceOf c) (untouched a g (rules.queueFor e (deviceOf c)) m) ≡ leaves (withRegisters g c) a 0 [] (bufferOf e host) m
+      transferStep e host (deviceOf c) (untouched a g (rules.queueFor e (deviceOf c)) m)
+      ≡ leaves (withRegisters g c) a 0 [] (bufferOf e host) m
   unfolding transferStep deviceOf restOf
   unmoved Output a g = refl
   unmoved Input a g = refl

@@ -5,6 +5,7 @@ ghost use mathlib.Core.Bool.{cond};
 ghost use Prim.Native.Nat.{_<_};
 ghost use lib.Dec.{eqb};
 ghost use lib.ListN.{length, set};
+ghost use Rattle.card.specs.Card.{noMessage};
 ghost use Rattle.live.specs.Live.{FitLive};
 ghost use Rattle.message.specs.Message.{directionOf};
 ghost use Rattle.registers.specs.Answers.{done};
@@ -92,7 +93,7 @@ fn remember(
 // What a call answers after a flow on the queue of a direction, that of stream `id`: the registers, the queue and
 // the backlog that the stream remembers are put back.
 fn flowed(live: Live, f: Flow, backlog: u32, direction: Direction, id: usize) -> TransferAnswer
-    requires { ⌜ id < 2 ⌝ }
+    requires { ⌜ (id < 2) × (f .message .count ≡ 0 → f .message ≡ noMessage) ⌝ }
     ensures { λ r. ⌜ r ≡ rememberedBy id backlog (flowAnswer direction f live) ⌝ }
 {
     let stop = f.stop;

@@ -216,6 +216,12 @@ module _ (x : Range) (rest : List Range) (skip left gone k : ℕ) (g : gone ≡ 
   unfolding places
   places-next = rw (h, g, split-first)
 
+-- a range that is passed over whole
+pub places-skip : (x : Range) (rest : List Range) (skip left : ℕ) → x .len ≤ skip
+    → take left (drop skip (places (x ∷ rest))) ≡ take left (drop (skip - x .len) (places rest))
+unfolding upFrom
+places-skip x rest skip left h = places-next x rest skip left (x .len) 0 (omega arith) (omega arith) ∙ rw sub-zero
+
 pub places-none : (skip left : ℕ) → take left (drop skip (places [])) ≡ []
 unfolding places
 places-none skip left = rw (drop-nil, take-nil)

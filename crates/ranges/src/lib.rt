@@ -65,13 +65,22 @@ fn set_word(list: &mut [u64], i: usize, v: u64)
     list[i] = v;
 }
 
-// The range at place `i` of a list.
+// The range at place `i` of a list: with one test where both its words are there.
 pub fn range_at(list: &[u64], i: usize) -> Range
     requires { ⌜ i < 8589934592 ⌝ }
     ensures { λ r. ⌜ r ≡ rangeIn (now (list .entry)) i ⌝ }
 {
-    let at = word(list, 2 * i);
-    let len = word(list, 2 * i + 1);
+    let k = 2 * i;
+    if list.len() <= k + 1 {
+        let at = word(list, k);
+        let len = word(list, k + 1);
+        return Range {
+            at: GuestAddress::of(at),
+            len,
+        };
+    }
+    let at = list[k];
+    let len = list[k + 1];
     Range {
         at: GuestAddress::of(at),
         len,
@@ -83,9 +92,16 @@ pub fn put_range(list: &mut [u64], i: usize, range: Range)
     requires { ⌜ i < 8589934592 ⌝ }
     ensures { λ r. ⌜ now (list .exit) ≡ putRange (now (list .entry)) i range ⌝ }
 {
+    let k = 2 * i;
     let at = range.at;
-    set_word(list, 2 * i, at.number());
-    set_word(list, 2 * i + 1, range.len);
+    let start = at.number();
+    if list.len() <= k + 1 {
+        set_word(list, k, start);
+        set_word(list, k + 1, range.len);
+        return;
+    }
+    list[k] = start;
+    list[k + 1] = range.len;
 }
 
 // Whether every range lies inside `len` bytes of memory.
@@ -178,6 +194,12 @@ pub fn gather(m: &[u8], list: &[u64], r: Ranges, offset: usize, dst: &mut [u8], 
         }
         let range = range_at(list, i);
         let len = range.len as usize;
+        i += 1;
+        more -= 1;
+        if len <= skip {
+            skip -= len;
+            continue;
+        }
         // of this range, `gone` bytes are passed over and `k` moved
         let gone = least(skip, len);
         let k = least(len - gone, left);
@@ -185,8 +207,6 @@ pub fn gather(m: &[u8], list: &[u64], r: Ranges, offset: usize, dst: &mut [u8], 
         skip -= gone;
         d += k;
         left -= k;
-        i += 1;
-        more -= 1;
     }
 }
 
@@ -218,6 +238,12 @@ pub fn scatter(
         }
         let range = range_at(list, i);
         let len = range.len as usize;
+        i += 1;
+        more -= 1;
+        if len <= skip {
+            skip -= len;
+            continue;
+        }
         // of this range, `gone` bytes are passed over and `k` moved
         let gone = least(skip, len);
         let k = least(len - gone, left);
@@ -225,7 +251,5 @@ pub fn scatter(
         skip -= gone;
         f += k;
         left -= k;
-        i += 1;
-        more -= 1;
     }
 }

@@ -82,7 +82,8 @@ module _ (c : Card) (d : Direction) (latency : ℕ) where
     flow-fit long room =
         let k = found (countersOf way) lies own m in
         let q = queue-fit c d f in
-        let counted : Counted (sizeOf (rules.queueNumber way)) own = rw (queue-in c d) (counted-of way (c .«ram_len») (wordsIn c d) (countersIn c d) (workIn c d) q) in
+        let counted : Counted (sizeOf (rules.queueNumber way)) own =
+        rw (queue-in c d) (counted-of way (c .«ram_len») (wordsIn c d) (countersIn c d) (workIn c d) q) in
         let waits : Waits way own = rw (queue-in c d) (waits-of way (c .«ram_len») (wordsIn c d) (countersIn c d) (workIn c d) q) in
         fit-of way (c .«ram_len») ws′ (g .counters) (g .message) (rw long at (s .fit .message)) room
         (rw left-queue (found-kept lies (begun own m host) job k counted))

@@ -3,6 +3,7 @@
 // chain are lent beside the state.
 ghost use mathlib.Core.Path.{_≡_};
 ghost use lib.ListN.{length};
+ghost use Rattle.card.specs.Card.{noMessage};
 ghost use Rattle.live.specs.Live.{FitLive};
 ghost use Rattle.rules.specs.Answers.{brokenBy};
 ghost use Rattle.registers.specs.Fit.{FitRegisters};
@@ -108,13 +109,25 @@ fn message_of(live: Live, direction: Direction) -> Message
     }
 }
 
+// The message that a flow left. Where there is none, one without anything is written anew: nothing then waits for the flow's.
+fn left_of(message: Message) -> Message
+    requires { ⌜ (message .count ≡ 0 → message ≡ noMessage) ⌝ }
+    ensures { λ r. ⌜ r ≡ message ⌝ }
+{
+    if message.count == 0 {
+        return card::no_message();
+    }
+    message
+}
+
 // The small state with the counters and the message that a flow left of a stream's queue.
 pub fn with_flow(live: Live, direction: Direction, f: Flow) -> Live
+    requires { ⌜ (f .message .count ≡ 0 → f .message ≡ noMessage) ⌝ }
     ensures { λ r. ⌜ r ≡ flowLive direction f live ⌝ }
 {
     let mut next = live;
     let counters = f.counters;
-    let message = f.message;
+    let message = left_of(f.message);
     match direction {
         Direction::Output => {
             next.queues[PLAY] = counters;

@@ -102,7 +102,8 @@ pub fn run(
     job: Job,
 ) -> Flow
     requires { ⌜ FitMessage (length (now m)) (now list) message × (68 ≤ length (now list)) ⌝ }
-    ensures { λ r. ⌜ StepsOn (directionOf (q .direction)) (foundRun job (virtqueueIn q) (checkAt (virtqueueIn q) counters message (now (m .entry))))
+    ensures { λ r. ⌜ StepsOn (directionOf (q .direction))
+        (foundRun job (virtqueueIn q) (checkAt (virtqueueIn q) counters message (now (m .entry))))
         (now (list .entry)) (now (m .entry)) (now (host .entry)) (freshFlow counters message)
         (now (list .exit)) (now (m .exit)) (now (host .exit)) r ⌝ }
 {

@@ -97,7 +97,8 @@ rest-entered c end e =
     let a = start (turn r) .args in
     sym
     (turned-enters (a .m .now) (a .indirect) (l .deeper) (l .left) (l .left - 1) _ (r .read .result) _ _ end
-    (sym (c .enter .ensures) ∙ e) (sym (c .before .before .before .is-indirect .ensures) ∙ c .before .before .if3 .taken) (c .before .if4 .left))
+    (sym (c .enter .ensures) ∙ e) (sym (c .before .before .before .is-indirect .ensures) ∙ c .before .before .if3 .taken)
+    (c .before .if4 .left))
     ∙ rest r
 
 empty-requires : tie.Need-empty-requires Inv-walk μ-walk

@@ -12,13 +12,17 @@ waiting-requires : tie.Need-waiting-requires
 waiting-requires c κs = search needs
 
 returns : tie.Need-returns
-returns c = rw (c .before .before .enum-told .given .1, ← (c .before .waiting .ensures), ne-eqb (c .before .waiting .result) 0 (λ e. omega arith))
+returns c =
+    let w = c .before .waiting in
+    rw (c .before .before .enum-told .given .1, ← (w .ensures), ne-eqb (w .result) 0 (λ e. omega arith))
 
 enum-told-2 : tie.Need-enum-told-2
 enum-told-2 c = search needs
 
 returns-2 : tie.Need-returns-2
-returns-2 c = rw (c .before .before .enum-told .given .1, ← (c .before .waiting .ensures), eq-eqb (c .before .waiting .result) 0 (omega arith))
+returns-2 c =
+    let w = c .before .waiting in
+    rw (c .before .before .enum-told .given .1, ← (w .ensures), eq-eqb (w .result) 0 (omega arith))
 
 returns-3 : tie.Need-returns-3
 returns-3 c = search needs

@@ -10,7 +10,10 @@ use Rattle.flow.proofs.move_for.Tie as tie
 abbrev worked : tie.After-slice-known4 → tie.After-move-payload
 worked c = c .before .before .before .before
 
-told : (c : tie.After-slice-known4) → worked c .before .before .before .before .before .before .before .before .args .job ≡ Transfer
+abbrev start : tie.After-move-payload → tie.Start
+start c = c .before .before .before .before .before .before .before .before
+
+told : (c : tie.After-slice-known4) → start (worked c) .args .job ≡ Transfer
 told c = worked c .before .before .before .enum-told .given .1
 
 enum-told : tie.Need-enum-told

@@ -83,16 +83,17 @@ returns c =
     let l = handing (c .before) in
     let s = start l in
     let a = s .args in
-    let told = c .before .before .before .before .before .before .before .before .enum-told .given .1 in
+    let g = c .before .before .before in
+    let told = g .before .before .before .before .before .enum-told .given .1 in
     record {
       steps = record {
         run =
-            rw (c .advanced .ensures, c .before .before .before .gather .ensures, told)
+            rw (c .advanced .ensures, g .gather .ensures, told)
             (handed-on (a .q) (a .list .now) (a .m .now) (a .host .now) (a .f) (l .least .result) (s .pre .0) (s .pre .1 .inside)
             (s .pre .1 .message .request) (number l ∙ ap (share s) told));
         fit = rw (c .advanced .ensures) (fits-after l);
         long = refl;
-        host-long = c .before .before .before .gather .kept .1 .1 .1 .1 .0;
+        host-long = g .gather .kept .1 .1 .1 .1 .0;
         read = λ e. absurd (no-input (rw told at e));
       };
       busy = rw (c .advanced .ensures) (s .pre .0);
@@ -109,15 +110,16 @@ returns-2 c =
     let l = filling (c .before) in
     let s = start l in
     let a = s .args in
-    let told = c .before .before .before .before .before .before .before .before .enum-told2 .given .1 in
+    let g = c .before .before .before in
+    let told = g .before .before .before .before .before .enum-told2 .given .1 in
     record {
       steps = record {
         run =
-            rw (c .advanced2 .ensures, c .before .before .before .scatter .ensures, told)
+            rw (c .advanced2 .ensures, g .scatter .ensures, told)
             (filled (a .q) (a .list .now) (a .m .now) (a .host .now) (a .f) (l .least .result) (s .pre .0) (s .pre .1 .inside)
             (s .pre .1 .message .reply) (number l ∙ ap (share s) told));
         fit = rw (c .advanced2 .ensures) (fits-after l);
-        long = c .before .before .before .scatter .kept .0;
+        long = g .scatter .kept .0;
         host-long = refl;
         read = λ e. refl;
       };

@@ -46,7 +46,8 @@ reaches-requires c κs = search needs
 
 returns-2 : tie.Need-returns-2
 returns-2 c =
-    let s = c .before .before .before .before .before .before .before in
+    let i = c .before .before in
+    let s = i .before .before .before .before .before in
     let a = s .args in
     record {
       run = sym (job-full (a .job) (virtqueueIn (a .q)) (a .list .now) (a .m .now) (a .host .now) (a .f)
@@ -103,7 +104,8 @@ returns-4 c =
     record {
       run = t .run _
           ∙ job-over (a .job) (virtqueueIn (a .q)) (a .list .now) (a .m .now) (a .host .now) (a .f) (in-reach w) (in-work w) _ _
-          (w .move-for .result) (g .steps .run) (g .busy) (still-fit w) (sym (o .is-over .ensures) ∙ not-false _ (e .before .before .if3 .left));
+          (w .move-for .result) (g .steps .run) (g .busy) (still-fit w)
+          (sym (o .is-over .ensures) ∙ not-false _ (e .before .before .if3 .left));
       fit = fit-beside _ _ _ _ (e .end-message .result) (rw (g .steps .long) at (t .message)) (t .moved) (g .steps .fit .inside);
       long = t .long ∙ g .steps .long;
       host-long = g .steps .host-long;

@@ -2,6 +2,7 @@
 use mathlib.Core.Path.{_∙_, refl}
 use Rattle.message.specs.declared.Direction.the-variants.{Input}
 use Rattle.pcm.proofs.Lent.{call-refused, call-flowed}
+use native.Mathlib.Omega.{arith}
 use borrow.Author.Needs.{needs}
 use Rattle.pcm.proofs.capture.Statement.{statement}
 use Rattle.pcm.proofs.capture.Tie as tie
@@ -27,7 +28,8 @@ returns c =
     let i = c .before in
     let a = start (i .before) .args in (
       rw (c .untouched .ensures)
-          (call-refused Input (a .backlog) (a .live) (a .words .now) (a .m .now) (a .host .now) _ (i .before .refusal .ensures .0) (i .if1 .taken)),
+          (call-refused Input (a .backlog) (a .live) (a .words .now) (a .m .now) (a .host .now) _
+          (i .before .refusal .ensures .0) (i .if1 .taken)),
       refl,
     )
 
@@ -36,7 +38,7 @@ run-requires c κs =
     let i = c .before .before .before in (start (i .before) .pre, i .before .refusal .ensures .1 (i .if1 .left))
 
 flowed-requires : tie.Need-flowed-requires
-flowed-requires c κs = search needs
+flowed-requires c κs = (omega arith, c .before .before .before .before .before .before .run .ensures .fit .message .idle)
 
 same-length : tie.Need-same-length
 same-length c = search needs
@@ -55,7 +57,8 @@ returns-2 c =
     let a = s .args in
     let t = i .before .refusal .ensures in (
       rw (c .flowed .ensures)
-          (call-flowed Input (a .backlog) (a .live) (a .words .now) (a .m .now) (a .host .now) _ (t .0) (i .if1 .left) (t .1 (i .if1 .left)) _ _ _
+          (call-flowed Input (a .backlog) (a .live) (a .words .now) (a .m .now) (a .host .now) _ (t .0) (i .if1 .left)
+          (t .1 (i .if1 .left)) _ _ _
           (r .run .result) (r .run .ensures) (r .run .kept .1 .0 ∙ s .pre .1 .room)),
       r .run .ensures .read refl,
     )

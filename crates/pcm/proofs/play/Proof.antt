@@ -2,6 +2,7 @@
 use mathlib.Core.Path.{_∙_}
 use Rattle.message.specs.declared.Direction.the-variants.{Output}
 use Rattle.pcm.proofs.Lent.{call-refused, call-flowed}
+use native.Mathlib.Omega.{arith}
 use borrow.Author.Needs.{needs}
 use Rattle.pcm.proofs.play.Statement.{statement}
 use Rattle.pcm.proofs.play.Tie as tie
@@ -27,14 +28,15 @@ returns c =
     let i = c .before in
     let a = start (i .before) .args in
     rw (c .untouched .ensures)
-    (call-refused Output (a .backlog) (a .live) (a .words .now) (a .m .now) (a .host .now) _ (i .before .refusal .ensures .0) (i .if1 .taken))
+    (call-refused Output (a .backlog) (a .live) (a .words .now) (a .m .now) (a .host .now) _
+    (i .before .refusal .ensures .0) (i .if1 .taken))
 
 run-requires : tie.Need-run-requires
 run-requires c κs =
     let i = c .before .before .before in (start (i .before) .pre, i .before .refusal .ensures .1 (i .if1 .left))
 
 flowed-requires : tie.Need-flowed-requires
-flowed-requires c κs = search needs
+flowed-requires c κs = (omega arith, c .before .before .before .before .before .before .run .ensures .fit .message .idle)
 
 same-length : tie.Need-same-length
 same-length c = search needs
@@ -53,7 +55,8 @@ returns-2 c =
     let a = s .args in
     let t = i .before .refusal .ensures in
     rw (c .flowed .ensures)
-    (call-flowed Output (a .backlog) (a .live) (a .words .now) (a .m .now) (a .host .now) _ (t .0) (i .if1 .left) (t .1 (i .if1 .left)) _ _ _
+    (call-flowed Output (a .backlog) (a .live) (a .words .now) (a .m .now) (a .host .now) _ (t .0) (i .if1 .left)
+    (t .1 (i .if1 .left)) _ _ _
     (r .run .result) (r .run .ensures) (r .run .kept .1 .0 ∙ s .pre .1 .room))
 
 pub play-spec : {M : Type 1} → statement M

@@ -5,7 +5,8 @@ use Prim.Native.Nat.{_+_, _-_, _≤_}
 use native.Mathlib.Omega.{arith}
 use lib.ListN.{length, take, drop, drop-of-length-le}
 use Rattle.ranges.specs.Ranges.{rangesIn, places, putAt}
-use Rattle.ranges.proofs.Laws.{putAt-nil, places-next, places-none, scatter-next, scatter-room, room-next, rangesIn-none}
+use Rattle.ranges.proofs.Laws.{putAt-nil, places-next, places-none, places-skip, scatter-next, scatter-room, room-next}
+use Rattle.ranges.proofs.Laws.{rangesIn-none}
 use Rattle.ranges.proofs.Laws.{rangesIn-more}
 use Rattle.ranges.proofs.scatter.Statement.{statement}
 use Rattle.ranges.proofs.scatter.Tie as tie
@@ -53,6 +54,31 @@ returns-2 c = rw (← (c .before .before .loop .inv .3), c .if2 .taken)
 range-at-requires : tie.Need-range-at-requires Inv-loop μ-loop
 range-at-requires c κs = omega arith
 
+add-i : tie.Need-add-i Inv-loop μ-loop
+add-i c = omega arith
+
+sub-more : tie.Need-sub-more Inv-loop μ-loop
+sub-more c = omega arith
+
+loop-less : tie.Need-loop-less Inv-loop μ-loop
+loop-less c = omega arith
+
+loop-again : tie.Need-loop-again Inv-loop μ-loop
+loop-again c =
+    let at-range-at = c .before in
+    let at-loop = at-range-at .before .before .before in
+    let at-slice-known = at-loop .before .before .before .before .before .before in
+    let start = at-slice-known .before in
+    let l = at-loop .loop in
+    let list = start .args .list .now in
+    let x = at-range-at .range-at in (
+      omega arith,
+      omega arith,
+      omega arith,
+      rw (← (places-skip (x .result) (rangesIn list (l .i + 1) (l .more - 1)) (l .skip) (l .left) (c .if3 .taken)))
+          (rw (rangesIn-more list (l .i) (l .more) (l .more - 1) (omega arith), ← (x .ensures)) at (l .inv .3)),
+    )
+
 least-requires-2 : tie.Need-least-requires-2 Inv-loop μ-loop
 least-requires-2 c κs = omega arith
 
@@ -74,20 +100,14 @@ add-f c = omega arith
 sub-left : tie.Need-sub-left Inv-loop μ-loop
 sub-left c = omega arith
 
-add-i : tie.Need-add-i Inv-loop μ-loop
-add-i c = omega arith
+loop-less-2 : tie.Need-loop-less-2 Inv-loop μ-loop
+loop-less-2 c = omega arith
 
-sub-more : tie.Need-sub-more Inv-loop μ-loop
-sub-more c = omega arith
-
-loop-less : tie.Need-loop-less Inv-loop μ-loop
-loop-less c = omega arith
-
-loop-again : tie.Need-loop-again Inv-loop μ-loop
-loop-again c =
+loop-again-2 : tie.Need-loop-again-2 Inv-loop μ-loop
+loop-again-2 c =
     let at-least3 = c .before .before .before .before in
     let at-least2 = at-least3 .before in
-    let at-range-at = at-least2 .before in
+    let at-range-at = at-least2 .before .before in
     let at-loop = at-range-at .before .before .before in
     let at-slice-known = at-loop .before .before .before .before .before .before in
     let start = at-slice-known .before in
@@ -132,6 +152,10 @@ scatter-spec =
     same-length
     returns-2
     range-at-requires
+    add-i
+    sub-more
+    loop-less
+    loop-again
     least-requires-2
     sub-least-2
     least-requires-3
@@ -139,9 +163,7 @@ scatter-spec =
     sub-skip
     add-f
     sub-left
-    add-i
-    sub-more
-    loop-less
-    loop-again
+    loop-less-2
+    loop-again-2
     same-length-2
     returns-3)

@@ -17,7 +17,7 @@ run-requires : tie.Need-run-requires
 run-requires c κs = search needs
 
 with-flow-requires : tie.Need-with-flow-requires
-with-flow-requires c κs = search needs
+with-flow-requires c κs = c .before .before .before .before .before .run .ensures .fit .message .idle
 
 same-length : tie.Need-same-length
 same-length c = search needs
@@ -31,7 +31,8 @@ returns c =
     let s = start r in
     let a = s .args in
     rw (c .with-flow .ensures)
-    (lent-emptied (a .direction) (a .latency) (a .live) (a .words .now) (a .m .now) _ _ _ _ (r .run .result) (r .run .ensures) refl (s .pre .1)
+    (lent-emptied (a .direction) (a .latency) (a .live) (a .words .now) (a .m .now) _ _ _ _ (r .run .result) (r .run .ensures) refl
+    (s .pre .1)
     (r .run .kept .1 .0 ∙ own-room (a .direction) (a .live) (a .words .now) (s .pre .0)))
 
 pub empty-spec : {M : Type 1} → statement M

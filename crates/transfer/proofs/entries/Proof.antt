@@ -95,7 +95,8 @@ returns c =
     let w = c .before .before .before .before .before in
     let l = turn w .loop in
     let a = start (turn w) .args in
-    ended w (run-none (a .job) (virtqueueIn (a .q)) (l .list) (l .m) (l .host) (l .f) (l .list) _ _ (w .work .result) (w .work .ensures .run)
+    ended w (run-none (a .job) (virtqueueIn (a .q)) (l .list) (l .m) (l .host) (l .f) (l .list) _ _ (w .work .result)
+    (w .work .ensures .run)
     (l .left) (c .if1 .taken))
 
 goes-on-requires : tie.Need-goes-on-requires Inv-loop μ-loop
@@ -115,7 +116,8 @@ returns-2 c =
     let w = tested (c .before) in
     let l = turn w .loop in
     let a = start (turn w) .args in
-    ended w (run-stop (a .job) (virtqueueIn (a .q)) (l .list) (l .m) (l .host) (l .f) (l .list) _ _ (w .work .result) (w .work .ensures .run)
+    ended w (run-stop (a .job) (virtqueueIn (a .q)) (l .list) (l .m) (l .host) (l .f) (l .list) _ _ (w .work .result)
+    (w .work .ensures .run)
     (l .left) (sym (c .before .goes-on .ensures) ∙ not-true _ (c .if2 .taken)))
 
 meet-requires : tie.Need-meet-requires Inv-loop μ-loop
@@ -146,7 +148,8 @@ loop-again c =
     let e = n .meet .ensures in (
       rw (e .run (w .work .last .1 .1 .0))
           (run-more (a .job) (virtqueueIn (a .q)) (l .list) (l .m) (l .host) (l .f) (l .list) _ _ (w .work .result) (t .run)
-          (l .left) (l .left - 1) (omega arith) (sym (o .goes-on .ensures) ∙ not-false _ (n .before .before .before .if2 .left)) ∙ l .inv .0),
+          (l .left) (l .left - 1) (omega arith) (sym (o .goes-on .ensures) ∙ not-false _ (n .before .before .before .if2 .left))
+          ∙ l .inv .0),
       fit-beside _ _ _ _ (n .meet .result) (rw (t .long, l .inv .2) at (e .message)) (e .moved) (still-fit w .inside),
       e .long ∙ t .long ∙ l .inv .2,
       t .host-long ∙ l .inv .3,

@@ -57,7 +57,8 @@ returns c =
     let k = c .before .before .before in
     let a = start k .args in
     rw (c .begun-flow .ensures)
-    (found-idle (a .job) (virtqueueIn (a .q)) _ _ _ (freshFlow (a .counters) (a .message)) _ (found k ∙ c .before .enum-told .given .1) (fits-first k))
+    (found-idle (a .job) (virtqueueIn (a .q)) _ _ _ (freshFlow (a .counters) (a .message)) _
+    (found k ∙ c .before .enum-told .given .1) (fits-first k))
 
 same-length-2 : tie.Need-same-length-2
 same-length-2 c = search needs
@@ -67,8 +68,8 @@ returns-2 c =
     let k = c .before .before .before .before in
     let a = start k .args in
     rw (c .broken-flow .ensures)
-    (found-broken (a .job) (virtqueueIn (a .q)) _ _ _ (freshFlow (a .counters) (a .message)) _ _ (found k ∙ c .before .before .cause .given .1)
-    (fits-first k))
+    (found-broken (a .job) (virtqueueIn (a .q)) _ _ _ (freshFlow (a .counters) (a .message)) _ _
+    (found k ∙ c .before .before .cause .given .1) (fits-first k))
 
 same-length-3 : tie.Need-same-length-3
 same-length-3 c = search needs
