@@ -21,18 +21,20 @@ use Rattle.card.specs.declared.Card.{Card}
 use Rattle.card.specs.declared.Powered.{Powered}
 use Rattle.meaning.specs.Card.{deviceOf}
 use Rattle.meaning.proofs.Steps.{power-start}
-use Rattle.rules.specs.Account.{takingAt, entryAt, startsAnew, Answers, finishedOk, releasedIoErr, illFormedIoErr, illFormedMute, AnsweredBy, Book}
+use Rattle.rules.specs.Account.{startsAnew}
+use Rattle.device.specs.Account.{takingAt, entryAt, Answers, finishedOk, releasedIoErr, illFormedIoErr, illFormedMute, AnsweredBy, Book}
 use Rattle.rules.specs.Calls.{Call, Told, Step, step}
-use Rattle.rules.specs.Claim.{start, after, countFor, bytesFor, heard, counted, Good, queueOf, shownAs, card, account, toldBy}
-use Rattle.rules.specs.Device.{Direction, output, Taking, Ending, finished, released, illFormed, Device, Queue}
-use Rattle.rules.specs.Histories.{History, unanswered, number}
-use Rattle.rules.specs.Numbers.{sIoErr}
-use Rattle.rules.specs.Transfer.{isWell, payloadOf}
+use Rattle.rules.specs.Claim.{start, after, countFor, bytesFor, heard, counted, shownAs, toldBy}
+use Rattle.device.specs.Claim.{Good, queueOf, card, account}
+use Rattle.device.specs.Device.{Direction, output, Taking, Ending, finished, released, illFormed, Device, Queue}
+use Rattle.device.specs.Histories.{History, unanswered, number}
+use Rattle.device.specs.Numbers.{sIoErr}
+use Rattle.device.specs.Transfer.{isWell, payloadOf}
 use Rattle.rules.proofs.Backlog.{remembers}
 use Rattle.rules.proofs.Anew.{anew-clears}
 use Rattle.rules.proofs.Calls.{low}
 use Rattle.rules.proofs.Drained as drained
-use Rattle.rules.proofs.Reading.{lost-by-release}
+use Rattle.device.proofs.Reading.{lost-by-release}
 use Rattle.rules.proofs.Theorem.{then, Goods, step-same, step-keeps, run-count, unsaid, start-good}
 use Rattle.rules.proofs.Turns.{turns, blank-book}
 use Rattle.calls.specs.Calls.{Does}

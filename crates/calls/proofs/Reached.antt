@@ -5,7 +5,7 @@ use Rattle.description.specs.declared.Description.{Description}
 use Rattle.card.specs.declared.Card.{Card}
 use Rattle.meaning.specs.Card.{deviceOf}
 use Rattle.rules.specs.Calls.{Call, Told}
-use Rattle.rules.specs.Claim.{card}
+use Rattle.device.specs.Claim.{card}
 use Rattle.rules.specs.Reached.{Reached}
 use Rattle.rules.proofs.Reached.{reached}
 use Rattle.calls.specs.Tied.{Tied}

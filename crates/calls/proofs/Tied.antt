@@ -15,7 +15,8 @@ use Rattle.card.specs.declared.Powered.{Powered}
 use Rattle.meaning.specs.Card.{deviceOf}
 use Rattle.meaning.proofs.Steps.{power-start}
 use Rattle.rules.specs.Calls.{Call, Told}
-use Rattle.rules.specs.Claim.{start, toldBy, after, card}
+use Rattle.rules.specs.Claim.{start, toldBy, after}
+use Rattle.device.specs.Claim.{card}
 use Rattle.rules.proofs.Theorem.{holds}
 use Rattle.calls.specs.Tied.{Runs, none, next, Follows, Tied}
 

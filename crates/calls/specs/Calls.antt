@@ -9,7 +9,7 @@ use Rattle.card.specs.Fit.{Fit}
 use Rattle.card.specs.declared.Card.{Card}
 use Rattle.meaning.specs.Card.{deviceOf}
 use Rattle.rules.specs.Calls as rules
-use Rattle.rules.specs.Claim.{card}
+use Rattle.device.specs.Claim.{card}
 use Rattle.calls.specs.declared.Outcome.{Outcome}
 use Rattle.calls.specs.declared.Request.{Request}
 use Rattle.calls.specs.declared.Request.the-variants.{Read, Write, Control, Play, Capture, Event}

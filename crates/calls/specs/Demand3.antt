@@ -7,7 +7,7 @@
 --   on once and in order, but for those that a Release gave up, whose chain it answered IO_ERR, and those of the chain in work that wait;
 --   the plays' counts add up to the places handed on; the latency that a Release tells is that of the last play that was answered 0, since
 --   reset; and no rollover of the 16-bit index makes a buffer new that was played.
--- The account (rules/specs/Account, rules/specs/Histories) is fed what power-up is given, then each call's arguments and the memory lent to
+-- The account (rules/specs/Account, device/specs/Histories) is fed what power-up is given, then each call's arguments and the memory lent to
 -- it. `Demand3` is the claim; the theorem is `demand-3` of proofs/Demand3.
 use mathlib.Core.Path.{_≡_}
 use mathlib.Core.Bool.{cond}
@@ -21,14 +21,16 @@ use Rattle.registers.specs.Answers.{done}
 use Rattle.ring.specs.Rules.{newOf, indexOf}
 use Rattle.card.specs.declared.Card.{Card}
 use Rattle.meaning.specs.Card.{deviceOf}
-use Rattle.rules.specs.Account.{takingAt, entryAt, startsAnew, Turn, Book}
+use Rattle.rules.specs.Account.{startsAnew, Turn}
+use Rattle.device.specs.Account.{takingAt, entryAt, Book}
 use Rattle.rules.specs.Backlog.{lastBacklog}
 use Rattle.rules.specs.Calls.{Control, Play, Call, Told, ReleaseFirst, Pending, orderOf, step}
-use Rattle.rules.specs.Claim.{start, after, countFor, bytesFor, waitingOf, queueOf, shownAs, account}
-use Rattle.rules.specs.Device.{output, Taking, released, Device, pageOf, streamAt}
-use Rattle.rules.specs.Histories.{Note, History, number, handedOf, lostOf}
-use Rattle.rules.specs.Numbers.{playQueue, sIoErr}
-use Rattle.rules.specs.Transfer.{isWell}
+use Rattle.rules.specs.Claim.{start, after, countFor, bytesFor, shownAs}
+use Rattle.device.specs.Claim.{waitingOf, queueOf, account}
+use Rattle.device.specs.Device.{output, Taking, released, Device, pageOf, streamAt}
+use Rattle.device.specs.Histories.{Note, History, number, handedOf, lostOf}
+use Rattle.device.specs.Numbers.{playQueue, sIoErr}
+use Rattle.device.specs.Transfer.{isWell}
 use Rattle.calls.specs.Tied.{Runs, none, next}
 
 -- ---- one call, from the account's state before it

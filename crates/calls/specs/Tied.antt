@@ -8,8 +8,9 @@ use Rattle.card.specs.Fit.{Fit}
 use Rattle.card.specs.declared.Card.{Card}
 use Rattle.meaning.specs.Card.{deviceOf}
 use Rattle.rules.specs.Calls.{Call, Told}
-use Rattle.rules.specs.Claim.{start, toldBy, after, queueOf, shownAs, card, account, Holds}
-use Rattle.rules.specs.Device.{Device, Queue}
+use Rattle.rules.specs.Claim.{start, toldBy, after, shownAs, Holds}
+use Rattle.device.specs.Claim.{queueOf, card, account}
+use Rattle.device.specs.Device.{Device, Queue}
 use Rattle.calls.specs.Calls.{Does}
 
 -- calls one after the other, each doing what `call` promises on the card that the one before it left; what they told, and the last

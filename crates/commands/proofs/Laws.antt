@@ -18,7 +18,7 @@ use Rattle.meaning.specs.Card.{partsOf}
 use Rattle.meaning.proofs.Streams.{stream-at}
 use Rattle.reply.proofs.Laws.{stream-total}
 use Rattle.rules.specs.Control as rules
-use Rattle.rules.specs.Numbers.{sBadMsg}
+use Rattle.device.specs.Numbers.{sBadMsg}
 use Rattle.rules.specs.Lifecycle.{transition}
 use Rattle.rules.specs.declared.Command.{Command}
 use Rattle.rules.specs.declared.Command.the-variants.{SetParams, Prepare, Start, Stop, Release}

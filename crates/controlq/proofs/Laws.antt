@@ -45,16 +45,17 @@ use Rattle.live.specs.Live.{partsNow, cardIn, configIn, keptLive, Fits}
 use Rattle.live.specs.declared.Live.{Live}
 use Rattle.meaning.proofs.Streams.{stream-at}
 use Rattle.meaning.specs.Card.{countersAt, partsOf, restOf, deviceOf, stepOf, leaves}
-use Rattle.rules.specs.Answers.{brokenAnswer}
+use Rattle.device.specs.Answers.{brokenAnswer}
 use Rattle.rules.specs.Calls as calls
+use Rattle.device.specs.Transfer as transfers
 use Rattle.rules.specs.Calls.{Result, Order, Pending, Step, ended, releaseQueue, releasedOf, acted, Done, ReleaseFirst, Control}
 use Rattle.rules.specs.Calls.{releaseStep, refused, broke, replied, withRest, ordered, orderOf, controlFound, indirect}
 use Rattle.rules.specs.Control as rules
 use Rattle.rules.specs.Control.{status, withState}
-use Rattle.rules.specs.Counters.{countersOf}
-use Rattle.rules.specs.Device.{Device, Queue, Rest, Direction, output, input, queueNumber, directionOf, queueFor, withQueue, withRegisters}
-use Rattle.rules.specs.Device.{withControl, pageOf, signalledIf, oneTaken}
-use Rattle.rules.specs.Numbers.{controlQueue, sOk, sBadMsg}
+use Rattle.device.specs.Counters.{countersOf}
+use Rattle.device.specs.Device.{Device, Queue, Rest, Direction, output, input, queueNumber, directionOf, queueFor, withQueue, withRegisters}
+use Rattle.device.specs.Device.{withControl, pageOf, signalledIf, oneTaken}
+use Rattle.device.specs.Numbers.{controlQueue, sOk, sBadMsg}
 use Rattle.reply.specs.Reply.{Outcome, Serves, completionOf, closedOf, postedBy}
 use Rattle.reply.specs.declared.Kind.{Kind}
 use Rattle.reply.specs.declared.Pending as reply
@@ -68,8 +69,8 @@ use Rattle.controlq.specs.declared.Answered.{Answered}
 use Rattle.controlq.specs.declared.Ending.the-variants.{Broke, Completed}
 use Rattle.controlq.specs.declared.Side.the-variants.{Usable, Unusable}
 use Rattle.controlq.specs.declared.Turn.{Turn}
-use Rattle.controlq.specs.Control.{sideOf, servedChain, pendingOf, pendingIn, endsOn, walkedAt, headOf}
-use Rattle.controlq.specs.Control.{takenLive, finishOf, Ends, Comes, Turns, EmptiesFor, markedOf, markedLive, releasedLive}
+use Rattle.controlq.specs.Control.{sideOf, servedChain, pendingOf, pendingIn, endsOn, walkedAt, headOf, takenLive, finishOf, Ends}
+use Rattle.controlq.specs.Control.{Comes, Turns, EmptiesFor, markedOf, markedLive, releasedLive}
 
 -- ---- the card
 
@@ -410,7 +411,7 @@ module _ (b b′ : Device Queue) (e : SameQueues b b′) where
   with-same output r q = rw (e .capture)
   with-same input r q = rw (e .play)
 
-  release-same : (id : ℕ) (p : Pending) (x : calls.Emptied Queue) → releaseStep id p b x ≡ releaseStep id p b′ x
+  release-same : (id : ℕ) (p : Pending) (x : transfers.Emptied Queue) → releaseStep id p b x ≡ releaseStep id p b′ x
   unfolding releaseStep
   release-same id p x = rw (with-same (directionOf id) (releasedOf id p (x .mem) (x .stop) (x .signal) .rest) (x .queue))
 
@@ -418,7 +419,7 @@ module _ (b b′ : Device Queue) (e : SameQueues b b′) where
   ordered-same (Done o) m = rw (e .play, e .capture)
   ordered-same (ReleaseFirst id p) m =
       let d = directionOf id in
-      rw (queue-same d) (release-same id p (calls.emptied (countersOf d) (releaseQueue id (p .rest)) (queueFor d b′) m))
+      rw (queue-same d) (release-same id p (transfers.emptied (countersOf d) (releaseQueue id (p .rest)) (queueFor d b′) m))
 
 module _ (l : Live) (p : Parts) (pw cw : List ℕ) (f : Fits l p pw cw) (m : List ℕ) where
   abbrev here : Card

@@ -26,12 +26,12 @@ use Rattle.control.specs.Control.{changedBy}
 use Rattle.control.specs.declared.Change.{Change}
 use Rattle.control.specs.declared.Change.the-variants as change
 use Rattle.meaning.specs.Card.{countersAt, partsOf, restOf, deviceOf, stepOf, leaves}
-use Rattle.rules.specs.Answers.{brokenAnswer}
+use Rattle.device.specs.Answers.{brokenAnswer}
 use Rattle.rules.specs.Calls.{Request, Result, Step, Pending, Order, ended, ordered, acted, indirect, readMessage, controlHead}
 use Rattle.rules.specs.Control.{served, withState, withStream}
-use Rattle.rules.specs.Counters.{countersOf}
-use Rattle.rules.specs.Device.{Device, Queue, directionOf, pageOf, streamAt, signalledIf, oneTaken}
-use Rattle.rules.specs.Numbers.{controlQueue}
+use Rattle.device.specs.Counters.{countersOf}
+use Rattle.device.specs.Device.{Device, Queue, directionOf, pageOf, streamAt, signalledIf, oneTaken}
+use Rattle.device.specs.Numbers.{controlQueue}
 use Rattle.reply.specs.declared.Pending as reply
 use Rattle.stream.specs.Held.{holdingLive}
 use Rattle.stream.specs.Queue.{Empties}

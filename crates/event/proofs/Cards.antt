@@ -27,8 +27,8 @@ use Rattle.meaning.proofs.Streams.{stream-at, rest-stream}
 use Rattle.meaning.specs.Card.{restOf, deviceOf, stepOf, leaves}
 use Rattle.rules.specs.Calls.{Result, Step, Event, ended, refused, withConnected, admitted, eventAllowed, recorded, eventOf}
 use Rattle.rules.specs.Control.{noJack}
-use Rattle.rules.specs.Device.{Rest, Device, Queue, withJacks, streamAt}
-use Rattle.rules.specs.Numbers.{jackConnected, jackDisconnected, pcmXrun, eventQueue}
+use Rattle.device.specs.Device.{Rest, Device, Queue, withJacks, streamAt}
+use Rattle.device.specs.Numbers.{jackConnected, jackDisconnected, pcmXrun, eventQueue}
 use Rattle.stream.proofs.Held.{held-device, held-fits}
 use Rattle.stream.proofs.Laws.{stream-now}
 use Rattle.stream.specs.Held.{holdingLive}

@@ -14,8 +14,8 @@ use Rattle.live.specs.declared.Live.{Live}
 use Rattle.meaning.specs.Card.{restOf, stepOf, leaves}
 use Rattle.rules.specs.Calls.{Event, withConnected}
 use Rattle.rules.specs.Control.{noJack}
-use Rattle.rules.specs.Device.{Rest}
-use Rattle.rules.specs.Numbers.{jackConnected, pcmXrun}
+use Rattle.device.specs.Device.{Rest}
+use Rattle.device.specs.Numbers.{jackConnected, pcmXrun}
 use Rattle.event.specs.declared.EventAnswer.{EventAnswer}
 
 -- all that a card is made of but the words of its chains

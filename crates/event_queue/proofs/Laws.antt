@@ -25,8 +25,8 @@ use Rattle.ring.specs.declared.Posted.{Posted}
 use Rattle.card.specs.declared.Counters.{Counters}
 use Rattle.rules.specs.Calls.{Result, Ended, Further, refused, broke, eventBytes, eventPosted, eventRoom, eventChain, tried, onward}
 use Rattle.rules.specs.Calls.{eventRun}
-use Rattle.rules.specs.Device.{Rest, bytesOf, signalledIf, oneTaken}
-use Rattle.rules.specs.Numbers.{eventQueue}
+use Rattle.device.specs.Device.{Rest, bytesOf, signalledIf, oneTaken}
+use Rattle.device.specs.Numbers.{eventQueue}
 use Rattle.event_queue.specs.Attempts.{holding, resultIn, sentIn, triedIn, postingOf, attemptOf}
 use Rattle.event_queue.specs.declared.Attempt.{Attempt}
 

@@ -16,10 +16,10 @@ use Rattle.ring.specs.Rules.{Completion, baseOf, nextOf, postedOf, interrupts, 
 use Rattle.ring.specs.declared.Cause.{Cause}
 use Rattle.ring.specs.declared.Posted.{Posted}
 use Rattle.card.specs.declared.Counters.{Counters}
-use Rattle.rules.specs.Answers.{brokenAnswer}
+use Rattle.device.specs.Answers.{brokenAnswer}
 use Rattle.rules.specs.Calls.{Result, Sent, Tried, Ended, Further, eventFound}
-use Rattle.rules.specs.Device.{Rest, withRegisters, withEvent, pageOf, signalledIf, oneTaken}
-use Rattle.rules.specs.Numbers.{eventQueue}
+use Rattle.device.specs.Device.{Rest, withRegisters, withEvent, pageOf, signalledIf, oneTaken}
+use Rattle.device.specs.Numbers.{eventQueue}
 use Rattle.event_queue.specs.declared.Attempt.{Attempt}
 use Rattle.event_queue.specs.declared.Room.{Room}
 

@@ -8,10 +8,10 @@ use lib.ListN.{take, drop, replicate}
 use Rattle.card.specs.Card.{runningState}
 use Rattle.card.specs.declared.Stream.{Stream}
 use Rattle.rules.specs.Calls.{Request, WriteRegister, Control, Play}
-use Rattle.rules.specs.Claim.{account}
-use Rattle.rules.specs.Device.{Device, Form, wellFormed, refused, Taking, finished, released, illFormed}
-use Rattle.rules.specs.Histories.{Entry, Note, Loss, History, blank}
-use Rattle.rules.specs.Numbers.{sOk, sIoErr}
+use Rattle.device.specs.Claim.{account}
+use Rattle.device.specs.Device.{Device, Form, wellFormed, refused, Taking, finished, released, illFormed}
+use Rattle.device.specs.Histories.{Entry, Note, Loss, History, blank}
+use Rattle.device.specs.Numbers.{sOk, sIoErr}
 use Rattle.examples.proofs.Examples.{Ran, block, memory, words, message, table, available, range, device, stream, runs}
 
 -- the control ring at page 1 with STOP and RELEASE of stream 0, the play ring at page 2 with heads 0, 1 and 3: payloads 11 12 13, none,

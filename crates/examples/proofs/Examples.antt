@@ -28,21 +28,23 @@ use Rattle.registers.specs.Answers.{plain}
 use Rattle.ring.specs.declared.Cause.{Cause}
 use Rattle.ring.specs.declared.Stop.{Stop}
 use Rattle.rules.specs.Calls.{Request, ReadRegister, WriteRegister, Control, Play, Capture, Event, Call, Told, toldAll, step}
-use Rattle.rules.specs.Calls.{Order as Decided, Done, ReleaseFirst, readMessage, Emptied, eventRoom, replied, orderOf, emptied, releasedOf}
-use Rattle.rules.specs.Calls.{transferred, eventAllowed, recorded, eventPosted, tried, eventRun, eventOf, readStep, writeStep, releaseStep}
-use Rattle.rules.specs.Calls.{transferStep, remembering}
-use Rattle.rules.specs.Claim.{card, toldBy}
+use Rattle.rules.specs.Calls.{Order as Decided, Done, ReleaseFirst, readMessage, eventRoom, replied, orderOf, releasedOf, transferred}
+use Rattle.rules.specs.Calls.{eventAllowed, recorded, eventPosted, tried, eventRun, eventOf, readStep, writeStep, releaseStep, transferStep}
+use Rattle.rules.specs.Calls.{remembering}
+use Rattle.device.specs.Transfer.{Emptied, emptied, Ops, Run, formOf, takingOf, payloadOf, completed, moved, entered, next, transferRun}
+use Rattle.device.specs.Transfer.{releaseRun}
+use Rattle.rules.specs.Claim.{toldBy}
+use Rattle.device.specs.Claim.{card}
 use Rattle.rules.specs.Control.{Parts, Served, Reply, Release, joined, information, remap, judgedParams, setParams, commanded, decodedOf}
 use Rattle.rules.specs.Control.{served}
 use Rattle.rules.specs.Lifecycle.{transition}
-use Rattle.rules.specs.Counters.{countersOf}
-use Rattle.rules.specs.Device.{Virtqueue, Direction, output, input, Form, wellFormed, refused, silent, Taking, Queue, emptyQueue, Device}
-use Rattle.rules.specs.Device.{withRegisters, withJacks, withControl, withEvent, bytesOf}
-use Rattle.rules.specs.Loop.{loop}
-use Rattle.rules.specs.Numbers.{sOk, sBadMsg, sNotSupp}
-use Rattle.rules.specs.Histories as history
-use Rattle.rules.specs.Histories.{handedNow, waiting, took, noted}
-use Rattle.rules.specs.Transfer.{Ops, Run, formOf, takingOf, payloadOf, completed, moved, entered, next, transferRun, releaseRun}
+use Rattle.device.specs.Counters.{countersOf}
+use Rattle.device.specs.Device.{Virtqueue, Direction, output, input, Form, wellFormed, refused, silent, Taking, Queue, emptyQueue, Device}
+use Rattle.device.specs.Device.{withRegisters, withJacks, withControl, withEvent, bytesOf}
+use Rattle.device.specs.Loop.{loop}
+use Rattle.device.specs.Numbers.{sOk, sBadMsg, sNotSupp}
+use Rattle.device.specs.Histories as history
+use Rattle.device.specs.Histories.{handedNow, waiting, took, noted}
 
 -- ---- memory in blocks
 

@@ -14,10 +14,10 @@ use Rattle.ranges.proofs.Laws.{length-places, take-min}
 use Rattle.card.specs.Fit.{FitMessage}
 use Rattle.card.specs.declared.Message.{Message}
 use Rattle.card.proofs.Keeps.{no-message-fit}
-use Rattle.rules.specs.Counters.{countersOf, isNone}
-use Rattle.rules.specs.Device as rules
-use Rattle.rules.specs.Transfer.{Run, worked, moved, payloadOf, takingOf, statusOf, completed, settled, entered, next, givenUp, isNil}
-use Rattle.rules.specs.Transfer.{isWell}
+use Rattle.device.specs.Counters.{countersOf, isNone}
+use Rattle.device.specs.Device as rules
+use Rattle.device.specs.Transfer.{Run, worked, moved, payloadOf, takingOf, statusOf, completed, settled, entered, next, givenUp, isNil}
+use Rattle.device.specs.Transfer.{isWell}
 use Rattle.meaning.specs.Card.{takingIn, messageOf}
 use Rattle.message.specs.Message as message
 use Rattle.message.specs.Message.{virtqueueAs, answeredOf, FitTaken}

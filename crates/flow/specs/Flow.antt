@@ -14,9 +14,9 @@ use Rattle.card.specs.declared.Counters.{Counters}
 use Rattle.card.specs.declared.Message.{Message}
 use Rattle.meaning.specs.Card.{queueOf}
 use Rattle.message.specs.declared.Taken.{Taken}
-use Rattle.rules.specs.Device as rules
-use Rattle.rules.specs.Transfer.{Run, completed, taking, moved, worked, givenUp}
-use Rattle.rules.specs.Counters.{countersOf}
+use Rattle.device.specs.Device as rules
+use Rattle.device.specs.Transfer.{Run, completed, taking, moved, worked, givenUp}
+use Rattle.device.specs.Counters.{countersOf}
 use Rattle.flow.specs.declared.Flow.{Flow}
 use Rattle.flow.specs.declared.Job.{Job}
 use Rattle.flow.specs.declared.Job.the-variants.{Transfer, Release}

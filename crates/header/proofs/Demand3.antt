@@ -21,7 +21,7 @@ use Rattle.meaning.proofs.Steps.{read-step, write-step}
 use Rattle.message.specs.declared.Direction.the-variants.{Output, Input}
 use Rattle.rules.specs.Calls.{ReadRegister, WriteRegister, Control, Play, Capture, Event, Step, toldAll, nothingRung}
 use Rattle.registers.specs.Answers.{plain}
-use Rattle.rules.specs.Device as rules
+use Rattle.device.specs.Device as rules
 use Rattle.pcm.specs.Entry.{TransfersOn}
 use Rattle.pcm.specs.declared.TransferAnswer.{TransferAnswer}
 use Rattle.entries.specs.Entries.{ControlsOn, EventsOn, answered}

@@ -7,21 +7,20 @@ use native.Mathlib.Nat.{zero-add, add-comm, suc-mul}
 use native.Mathlib.Omega.{arith}
 use lib.ListN.{length, getD, set, take, drop, replicate, length-take, length-map, length-append, length-replicate}
 use Rattle.description.specs.declared.MapInfo.{MapInfo}
-use lib.Seq.{take-all, take-at, drop-at, take-add, take-take, take-set-le, length-take-le, drop-append-le}
-use lib.Seq.{sets, sets-eq, length-sets, drop-cons, getD-take}
+use lib.Seq.{take-all, take-at, drop-at, take-add, take-take, take-set-le, length-take-le, drop-append-le, sets, sets-eq, length-sets}
+use lib.Seq.{drop-cons, getD-take}
 use Rattle.memory.specs.Bytes.{put}
 use Rattle.card.specs.Card.{noStream}
 use Rattle.card.specs.declared.Stream.{Stream}
 use Rattle.card.specs.Fit.{FitParts}
 use Rattle.card.specs.declared.Parts.{Parts}
-use Rattle.rules.specs.Control.{itemsOf, fitted}
+use Rattle.rules.specs.Control.{itemsOf, fitted, jackItem, noJack, pcmItem, pcmItems, mapItem, joined}
 use Rattle.ranges.specs.Ranges.{bytesAt, upFrom}
 use Rattle.ranges.proofs.Laws.{take-append, bytesAt-upFrom}
 use Rattle.meaning.specs.Card.{partsOf}
 use Rattle.rules.specs.declared.Listing.{Listing}
 use Rattle.rules.specs.declared.Listing.the-variants.{Jacks, Streams, Maps}
-use Rattle.rules.specs.Device.{bytesOf}
-use Rattle.rules.specs.Control.{jackItem, noJack, pcmItem, pcmItems, mapItem, joined}
+use Rattle.device.specs.Device.{bytesOf}
 use Rattle.information.specs.Items.{laid, fourOf, jackBytes, mapBytes, emptyMap, WholeMaps, Holds, row}
 
 -- ---- items

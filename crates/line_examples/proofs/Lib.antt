@@ -1,2 +1,3 @@
 -- Lines run on small cases.
 pub mod Lines
+pub mod Calls

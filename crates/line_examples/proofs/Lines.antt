@@ -14,17 +14,18 @@ use Rattle.registers.specs.Map.{sizeOf}
 use Rattle.ring.specs.Rules.{foundOf, headAt, postedAt, interrupts}
 use Rattle.ring.specs.declared.Cause.{Cause}
 use Rattle.ring.specs.declared.Stop.{Stop}
-use Rattle.rules.specs.Device.{output, Form, wellFormed, refused, Taking, Ending, finished, illFormed, bytesOf}
-use Rattle.rules.specs.Histories.{Entry, blank, handedNow, waiting, took, noted, withEntry}
-use Rattle.rules.specs.Numbers.{sOk, sIoErr}
-use Rattle.rules.specs.Transfer.{Run, payloadOf}
+use Rattle.device.specs.Device.{output, Form, wellFormed, refused, Taking, Ending, finished, illFormed, bytesOf}
+use Rattle.device.specs.Histories.{Entry, blank, handedNow, waiting, took, noted, withEntry}
+use Rattle.device.specs.Numbers.{sOk, sIoErr}
+use Rattle.device.specs.Transfer.{Run, payloadOf}
 use Rattle.examples.proofs.Account.{note}
 use Rattle.examples.proofs.Examples.{block, memory, words, message, table, available, element, range}
 use Rattle.queue_lines.specs.Chains.{Virtqueue, inLine, atOnce, arrivalOf, readingOf}
 use Rattle.queue_lines.specs.Claim.{card, account}
 use Rattle.queue_lines.specs.Counters.{Line, Queue, sumOf}
 use Rattle.queue_lines.specs.Histories.{Taken, History, joining, bounced, beginning, handing, completing}
-use Rattle.queue_lines.specs.Rules.{Ops, times, posted, next, completed, opened, moved, worked, transferStep, releaseStep, takingRun, transferRun, releaseRun, transferred, emptied}
+use Rattle.queue_lines.specs.Rules.{Ops, times, posted, next, completed, opened, moved, worked, transferStep, releaseStep, takingRun}
+use Rattle.queue_lines.specs.Rules.{transferRun, releaseRun, transferred, emptied}
 
 -- the play queue at page 1, of streams 0 and 1
 abbrev pub queue : ℕ → Virtqueue
@@ -46,7 +47,9 @@ lent a b c index =
 
 -- a play and a Release of a line, with this latency
 unfoldable pub plays : {Q : Type 0} → (Virtqueue → Ops Q) → ℕ → ℕ → Q → List ℕ → List ℕ → Run Q
-unfolding transferred transferRun takingRun times next posted completed opened moved worked transferStep arrivalOf readingOf payloadOf sumOf le put total places upFrom putAt allInside sizeOf foundOf headAt postedAt interrupts descriptorAt descriptors joinedOf enterOf inTable direct bytesOf joining bounced beginning handing completing handedNow waiting took noted withEntry
+unfolding transferred transferRun takingRun times next posted completed opened moved worked transferStep arrivalOf readingOf payloadOf
+    sumOf le put total places upFrom putAt allInside sizeOf foundOf headAt postedAt interrupts descriptorAt descriptors joinedOf enterOf
+    inTable direct bytesOf joining bounced beginning handing completing handedNow waiting took noted withEntry
 plays ops latency i q m host = transferred (ops (queue latency)) (queue latency) i q m host
 
 unfoldable pub releases : {Q : Type 0} → (Virtqueue → Ops Q) → ℕ → ℕ → Q → List ℕ → Run Q

@@ -20,8 +20,8 @@ use Rattle.card.specs.Rules.{poweredOf, readCard, writeCard, affected, resetCar
 use Rattle.card.specs.declared.Card.{Card}
 use Rattle.rules.specs.Calls.{ReadRegister, WriteRegister, toldAll, nothingRung, readStep, writeStep, affectedRest, clearsQueue}
 use Rattle.rules.specs.Claim.{start}
-use Rattle.rules.specs.Counters.{countersOf}
-use Rattle.rules.specs.Device as rules
+use Rattle.device.specs.Counters.{countersOf}
+use Rattle.device.specs.Device as rules
 use Rattle.meaning.specs.Card.{queueOf, countersAt, restOf, deviceOf, stepOf}
 
 -- ---- power-up

@@ -9,7 +9,7 @@ use Rattle.card.specs.declared.Card.{Card}
 use Rattle.card.specs.declared.Parts.{Parts}
 use Rattle.meaning.specs.Card.{partsOf, restOf}
 use Rattle.rules.specs.Control as control
-use Rattle.rules.specs.Device.{streamAt}
+use Rattle.device.specs.Device.{streamAt}
 
 module _ (p : Parts) (i : ℕ) where
   pub stream-at : i < p .«stream_count» → control.streamIn (partsOf p) i ≡ getD (p .streams) i noStream

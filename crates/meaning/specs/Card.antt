@@ -14,8 +14,8 @@ use Rattle.card.specs.declared.Message.{Message}
 use Rattle.card.specs.declared.Parts.{Parts}
 use Rattle.rules.specs.Calls.{Request, Step, step, toldAll, nothingRung}
 use Rattle.rules.specs.Control as control
-use Rattle.rules.specs.Counters.{countersOf}
-use Rattle.rules.specs.Device as rules
+use Rattle.device.specs.Counters.{countersOf}
+use Rattle.device.specs.Device as rules
 
 -- the message in work as it was taken, its ranges in the words of its chain
 abbrev pub takingIn : List ℕ → Message → rules.Taking

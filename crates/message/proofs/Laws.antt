@@ -13,7 +13,8 @@ use Rattle.chain.specs.declared.Fault.{Fault}
 use Rattle.counts.specs.declared.PageNumber.{PageNumber}
 use Rattle.registers.specs.Map.{sizeOf}
 use Rattle.ring.specs.Rules.{baseOf, postOf}
-use Rattle.ranges.proofs.Laws.{putAt-take, rangesOf-none, sound-none, rangesIn-more, upFrom-add, drop-upFrom, total-append, places-append, length-places}
+use Rattle.ranges.proofs.Laws.{putAt-take, rangesOf-none, sound-none, rangesIn-more, upFrom-add, drop-upFrom, total-append, places-append}
+use Rattle.ranges.proofs.Laws.{length-places}
 use Rattle.message.specs.Message.{answeredOf, answeredLength, FitTaken}
 use Rattle.message.specs.declared.Form.the-variants.{Unwalked}
 use Rattle.counts.specs.declared.DescriptorNumber.{DescriptorNumber}
@@ -21,8 +22,8 @@ use mathlib.Core.Option.{some}
 use Rattle.memory.specs.Bytes.{le, put}
 use Rattle.ranges.specs.Ranges.{allInside, total, places, noRanges, rangeIn, rangesIn, upFrom, bytesAt, putAt}
 use Rattle.ranges.specs.declared.Range.{Range}
-use Rattle.rules.specs.Device as rules
-use Rattle.rules.specs.Transfer.{formOf, idOf, sized, isWell, statusBytes, statusInReply, walkedTaking, takingOf}
+use Rattle.device.specs.Device as rules
+use Rattle.device.specs.Transfer.{formOf, idOf, sized, isWell, statusBytes, statusInReply, walkedTaking, takingOf}
 
 -- four bytes put at the start of four zeros, or fewer, read as they do by themselves
 pub le-of-four : (bs : List ℕ) → length bs ≤ 4 → le 4 (sets (replicate 4 0) 0 bs) 0 ≡ le 4 bs 0

@@ -9,8 +9,8 @@ use Rattle.ranges.specs.Ranges.{rangesOf, Sound, allInside}
 use Rattle.ranges.specs.declared.Range.{Range}
 use Rattle.ring.specs.Rules.{Completion, baseOf, nextOf, postedOf, interrupts}
 use Rattle.registers.specs.Map.{sizeOf}
-use Rattle.rules.specs.Device as rules
-use Rattle.rules.specs.Transfer.{statusInReply, usedLength}
+use Rattle.device.specs.Device as rules
+use Rattle.device.specs.Transfer.{statusInReply, usedLength}
 use Rattle.message.specs.declared.Direction.{Direction}
 use Rattle.message.specs.declared.Direction.the-variants.{Output, Input}
 use Rattle.message.specs.declared.Form.{Form}

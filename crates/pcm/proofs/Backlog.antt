@@ -21,7 +21,7 @@ use Rattle.meaning.specs.Card.{restOf, deviceOf, stepOf, leaves}
 use Rattle.meaning.proofs.Streams.{stream-at}
 use Rattle.rules.specs.Calls.{rememberedIf, remembering}
 use Rattle.rules.specs.Control.{withBacklog}
-use Rattle.rules.specs.Device as rules
+use Rattle.device.specs.Device as rules
 use Rattle.pcm.specs.Entry.{transferOf, movedBy, withBacklogAt, withBacklogs}
 
 module _ (id backlog : ℕ) (c : Card) where

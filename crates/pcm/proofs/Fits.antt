@@ -6,7 +6,7 @@ use Rattle.card.specs.Fit.{Fit}
 use Rattle.card.specs.declared.Card.{Card}
 use Rattle.message.specs.Message.{directionOf}
 use Rattle.message.specs.declared.Direction.{Direction}
-use Rattle.rules.specs.Device.{signalledIf}
+use Rattle.device.specs.Device.{signalledIf}
 use Rattle.stream.specs.Queue.{withRegisters}
 use Rattle.stream.proofs.Fits.{FitIn, signal-fit, broken-by-fit, with-flow-fit}
 use Rattle.flow.specs.declared.Flow.{Flow}

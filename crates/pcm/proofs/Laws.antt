@@ -16,10 +16,10 @@ use Rattle.card.specs.declared.Parts.{Parts}
 use Rattle.live.specs.Live.{partsNow, cardIn, Fits}
 use Rattle.live.specs.declared.Live.{Live}
 use Rattle.meaning.specs.Card.{restOf}
-use Rattle.rules.specs.Calls.{Transferred, transferred, transferFound, untouched, isRunning, virtqueueOf}
-use Rattle.rules.specs.Counters.{countersOf}
-use Rattle.rules.specs.Device as rules
-use Rattle.rules.specs.Transfer.{found}
+use Rattle.rules.specs.Calls.{transferred, transferFound, untouched, isRunning, virtqueueOf}
+use Rattle.device.specs.Transfer.{Transferred, found}
+use Rattle.device.specs.Counters.{countersOf}
+use Rattle.device.specs.Device as rules
 use Rattle.stream.proofs.Laws.{stream-there}
 use Rattle.pcm.specs.Entry.{refusalOf}
 

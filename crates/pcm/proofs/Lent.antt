@@ -18,15 +18,15 @@ use Rattle.meaning.specs.Card.{restOf}
 use Rattle.message.specs.Message.{directionOf}
 use Rattle.message.specs.declared.Direction.{Direction}
 use Rattle.message.specs.declared.Direction.the-variants.{Output, Input}
-use Rattle.rules.specs.Device as rules
+use Rattle.device.specs.Device as rules
 use Rattle.flow.specs.declared.Flow.{Flow}
 use Rattle.flow.specs.declared.Job.the-variants.{Transfer}
 use Rattle.stream.specs.Queue.{cardWith, FitsWith, FlowsOn}
 use Rattle.stream.proofs.Fits.{with-fit}
 use Rattle.stream.proofs.Lent.{flows-in, ram-in}
 use Rattle.pcm.specs.declared.TransferAnswer.{TransferAnswer}
-use Rattle.pcm.specs.Entry.{transferOf, bufferOf, refusalOf, RefusesOn, flowedCard, flowedLive, untouchedBy, flowAnswer}
-use Rattle.pcm.specs.Entry.{movedBy, withBacklogs, withBacklogAt, rememberedBy, LeavesOn, MovesOn, TransfersOn}
+use Rattle.pcm.specs.Entry.{transferOf, bufferOf, refusalOf, RefusesOn, flowedCard, flowedLive, untouchedBy, flowAnswer, movedBy}
+use Rattle.pcm.specs.Entry.{withBacklogs, withBacklogAt, rememberedBy, LeavesOn, MovesOn, TransfersOn}
 use Rattle.pcm.proofs.Backlog.{remembered-says, remembered-fit, noted-in}
 use Rattle.pcm.proofs.Outcomes.{transfer-refused, transfer-fit, transfer-flowed}
 

@@ -15,12 +15,12 @@ use Rattle.meaning.specs.Card.{queueOf, restOf, deviceOf, leaves}
 use Rattle.message.specs.Message.{directionOf}
 use Rattle.message.specs.declared.Direction.{Direction}
 use Rattle.message.specs.declared.Direction.the-variants.{Output, Input}
-use Rattle.rules.specs.Answers.{answerBy}
-use Rattle.rules.specs.Calls.{hostAfter, transferStep, transferFound, transferredBy, untouched, virtqueueOf}
-use Rattle.rules.specs.Counters.{countersOf}
-use Rattle.rules.specs.Device as rules
-use Rattle.rules.specs.Transfer.{Run, begun, found}
-use Rattle.rules.proofs.Host.{Past, begun-past, run-past}
+use Rattle.device.specs.Answers.{answerBy}
+use Rattle.rules.specs.Calls.{hostAfter, transferStep, transferFound, untouched, virtqueueOf}
+use Rattle.device.specs.Transfer.{transferredBy, Run, begun, found}
+use Rattle.device.specs.Counters.{countersOf}
+use Rattle.device.specs.Device as rules
+use Rattle.device.proofs.Host.{Past, begun-past, run-past}
 use Rattle.flow.specs.Flow.{runOf}
 use Rattle.flow.specs.declared.Flow.{Flow}
 use Rattle.flow.specs.declared.Job.the-variants.{Transfer}

@@ -17,11 +17,11 @@ use Rattle.live.specs.declared.Live.{Live}
 use Rattle.meaning.specs.Card.{restOf, deviceOf, stepOf, leaves}
 use Rattle.message.specs.Message.{directionOf}
 use Rattle.message.specs.declared.Direction.{Direction}
-use Rattle.rules.specs.Answers.{answerBy, brokenBy}
+use Rattle.device.specs.Answers.{answerBy, brokenBy}
 use Rattle.rules.specs.Calls.{Request, Play, Capture, Step, isRunning, admittedFor, transferred, transferStep}
 use Rattle.rules.specs.Control.{withBacklog}
-use Rattle.rules.specs.Counters.{countersOf}
-use Rattle.rules.specs.Device as rules
+use Rattle.device.specs.Counters.{countersOf}
+use Rattle.device.specs.Device as rules
 use Rattle.stream.specs.Queue.{withRegisters, withFlow, flowLive, cardWith, FitsWith}
 use Rattle.flow.specs.declared.Flow.{Flow}
 use Rattle.pcm.specs.declared.TransferAnswer.{TransferAnswer}

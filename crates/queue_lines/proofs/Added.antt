@@ -4,21 +4,23 @@ use mathlib.Core.Bool.{Bool}
 use mathlib.Core.List.{List, [], _∷_, _++_, append-nil}
 use mathlib.Core.Logic.{_⊎_, inl, inr}
 use Prim.Native.Nat.{ℕ, suc, _+_, _≤_, _<_}
-use native.Mathlib.Nat.{le-refl}
 use native.Mathlib.Omega.{arith}
-use lib.ListN.{length, drop, getD, set, length-append}
+use lib.ListN.{length, getD, set, length-append}
 use lib.Seq.{getD-set-same, getD-set-other}
-use Rattle.rules.specs.Account.{Each, Grows, InOrder, end, next}
-use Rattle.rules.specs.Device.{Direction, output, Taking, Ending, finished, released, illFormed, Message}
-use Rattle.rules.specs.Histories.{Note, History as Story, number, current, handedNow, waiting, notesOf, lossesOf, took, noted, withEntry}
-use Rattle.rules.specs.Transfer.{payloadOf, memoryMoved, bytesMoved}
-use Rattle.rules.proofs.Keeps.{none-left}
-use Rattle.rules.proofs.Written.{grows-none, grows-more, each-append, order-higher}
+use Rattle.device.specs.Account.{Each, Grows}
+use Rattle.device.specs.Device.{Direction, output, Taking, Ending, finished, released, illFormed, Message}
+use Rattle.device.specs.Histories.{History as Story, number, current, handedNow, waiting, notesOf, lossesOf, took, noted, withEntry}
+use Rattle.device.specs.Transfer.{payloadOf, memoryMoved, bytesMoved}
+use Rattle.device.proofs.Keeps.{none-left}
+use Rattle.device.proofs.Grown.{grows-none, grows-more, each-append, order-higher, order-append, order-notes}
+use Rattle.device.proofs.Runs.{released-not}
 use Rattle.queue_lines.specs.Chains.{Virtqueue, inLine, atOnce, readingOf}
 use Rattle.queue_lines.specs.Claim.{Beside}
-use Rattle.queue_lines.specs.Histories.{Taken, Answer, Line, History, blankLine, lineAt, entryOf, withJoined, withStory, taking, joining, bounced, beginning, handing, answerTo, completing}
-use Rattle.queue_lines.specs.Turn.{written, answerAtOnce, entriesWritten, Takes, start, joins, bounces, Acts, taken, reads, moves, ends, Answers, whole, cut, bad, Due, moved, ended, ill, Ordered, Further, Adds}
-use Rattle.queue_lines.proofs.Fronts.{released-not, is-now, working-inside, unread-inside}
+use Rattle.queue_lines.specs.Histories.{Taken, Answer, Line, History, blankLine, lineAt, entryOf, withJoined, withStory, taking}
+use Rattle.queue_lines.specs.Histories.{joining, bounced, beginning, handing, answerTo, completing}
+use Rattle.queue_lines.specs.Turn.{written, answerAtOnce, entriesWritten, Takes, start, joins, bounces, Acts, taken, reads, moves}
+use Rattle.queue_lines.specs.Turn.{ends, Answers, whole, cut, bad, Due, moved, ended, ill, Ordered, Further, Adds}
+use Rattle.queue_lines.proofs.Fronts.{is-now, working-inside, unread-inside}
 use Rattle.queue_lines.proofs.Lists.{changed-keeps}
 use Rattle.queue_lines.proofs.Natural.{arrival-fits}
 
@@ -136,19 +138,6 @@ due-none d call w e (ended f) c = absurd (released-not c)
 due-none d call w e (ill f q) c = rw f (omega arith)
 
 -- ---- notes in order
-
-order-lower : (a c b : ℕ) (xs : List Note) → a ≤ c → InOrder c b xs → InOrder a b xs
-order-lower a c b _ l end = end
-order-lower a c b _ l (next {x = x} k u o) = let k′ : a ≤ x .of = omega arith in next k′ u o
-
--- notes of the message in work go behind all others
-order-append : (a c : ℕ) (xs ys : List Note) → a ≤ c → InOrder a (suc c) xs → InOrder c (suc c) ys → InOrder a (suc c) (xs ++ ys)
-order-append a c _ ys l end o = order-lower a c (suc c) ys l o
-order-append a c _ ys l (next {x = x} {xs = xs} k u p) o = next k u (order-append (x .of) c xs ys (omega arith) p o)
-
-order-notes : (t p : ℕ) (bytes xs : List ℕ) → InOrder t (suc t) (notesOf t p bytes xs)
-order-notes t p bytes [] = end
-order-notes t p bytes (x ∷ xs) = next (le-refl t) (le-refl (suc t)) (order-notes t (p + 1) (drop 1 bytes) xs)
 
 module _ (d : Direction) (i : ℕ) (q : History) (p : Ordered (lineAt q i .story)) where
   abbrev InLine : Line → Type 0

@@ -5,34 +5,33 @@ use mathlib.Core.Bool.{Bool, true, false, cond, false≢true, true≢false}
 use mathlib.Core.List.{List, [], _∷_}
 use Prim.Native.Nat.{ℕ, zero, suc, _+_, _-_, _≤_, _<_}
 use native.Mathlib.Omega.{arith}
-use borrow.Author.Tests.{eqb-true, ltb-false}
-use lib.Dec.{eqb, ltb}
+use borrow.Author.Tests.{ltb-false}
+use lib.Dec.{ltb}
 use lib.ListN.{length, take, drop, length-append, length-take, length-drop}
 use lib.Seq.{getD-set-same}
 use Rattle.registers.proofs.Keeps.{by-cond}
-use Rattle.ring.specs.Layout.{endAt}
-use Rattle.ring.specs.Rules.{baseOf, headAt, indexOf, foundOf}
-use Rattle.ring.specs.declared.Cause.{Cause}
+use Rattle.ring.specs.Rules.{headAt, indexOf}
 use Rattle.ring.specs.declared.Check.{Check}
 use Rattle.ring.specs.declared.Head.{Head}
-use Rattle.rules.specs.Answers.{going}
-use Rattle.rules.specs.Device.{Taking, Ending, finished, released, illFormed, Message}
-use Rattle.rules.specs.Histories.{number, took, noted, withEntry}
-use Rattle.rules.specs.Transfer.{Run, begun, isNil, isWell, bytesMoved}
-use Rattle.rules.proofs.Drained.{new-reaches}
+use Rattle.device.specs.Answers.{going}
+use Rattle.device.specs.Device.{Taking, Ending, finished, released, illFormed, Message}
+use Rattle.device.specs.Histories.{number, took, noted, withEntry}
+use Rattle.device.specs.Transfer.{Run, begun, isNil, isWell, bytesMoved}
+use Rattle.device.proofs.Drained.{new-reaches, found-based}
+use Rattle.device.proofs.Runs.{some-of}
 use Rattle.queue_lines.specs.Chains.{Virtqueue, queueSize, Arrival, inLine, atOnce, arrivalOf, readingOf}
 use Rattle.queue_lines.specs.Claim.{account, Good, also, TakenAll, Drained}
-use Rattle.queue_lines.specs.Histories.{Line, History, blankLine, lineAt, standing, withStory, joining, bounced, beginning, handing, completing}
-use Rattle.queue_lines.specs.Rules.{Ops, Front, vacant, unread, working, times, withQueue, fresh, onward, posted, taken, met, next, completed, opened, onFront, leftOf, moved, worked, transferStep, releaseStep, lineRun, takingRun, transferRun, releaseRun, found, onFound, transferred, emptied}
+use Rattle.queue_lines.specs.Histories.{Line, History, blankLine, lineAt, standing, withStory, joining, bounced, beginning, handing}
+use Rattle.queue_lines.specs.Histories.{completing}
+use Rattle.queue_lines.specs.Rules.{Ops, Front, vacant, unread, working, times, withQueue, fresh, onward, posted, taken, met, next}
+use Rattle.queue_lines.specs.Rules.{completed, opened, onFront, leftOf, moved, worked, transferStep, releaseStep, lineRun, takingRun}
+use Rattle.queue_lines.specs.Rules.{transferRun, releaseRun, onFound, transferred, emptied}
 use Rattle.queue_lines.proofs.Fronts.{is-busy, working-inside, unread-inside, none-stands}
 use Rattle.queue_lines.proofs.Histories.{pair}
 use Rattle.queue_lines.proofs.Keeps.{some-standing}
 use Rattle.queue_lines.proofs.Lists.{times-fixed}
-use Rattle.queue_lines.proofs.Natural.{reading-head, Fine, Begun, taking-keeps, release-keeps, transfer-keeps, read-begun, moved-begun, begun-right, begun-fine, transferred-keeps}
-
-some-of : (l : List ℕ) → isNil l ≡ false → 0 < length l
-some-of [] e = absurd (true≢false e)
-some-of (x ∷ l) e = omega arith
+use Rattle.queue_lines.proofs.Natural.{reading-head, Fine, Begun, taking-keeps, release-keeps, transfer-keeps, read-begun}
+use Rattle.queue_lines.proofs.Natural.{moved-begun, begun-right, begun-fine, transferred-keeps}
 
 -- ---- all is taken
 
@@ -380,19 +379,6 @@ module _ (v : Virtqueue) where
   abbrev pub indexIn : List ℕ → ℕ
   indexIn m = indexOf m (v .page) (queueSize v)
 
-  found-based :
-      (P : Check → Type 0) (q : History) (m : List ℕ)
-      → (v .page .0 ≡ 0 → ⊥)
-      → ((c : Cause) → P (Check.Broken c))
-      → P (Check.New (ops .new q (indexIn m)))
-      → P (found ops v q m)
-  unfolding foundOf
-  found-based P q m based h k =
-      by-cond P (eqb (v .page .0) 0) (λ e. absurd (based (eqb-true (v .page .0) 0 e)))
-      (λ e.
-      by-cond P (ltb (length m) (baseOf (v .page) + endAt (queueSize v))) (λ e. h Cause.Region)
-      (λ e. by-cond P (ltb (queueSize v) (ops .new q (indexIn m) + ops .inWork q)) (λ e. h Cause.Entries) (λ e. k)))
-
   none-left : {A : Type 0} (l : List A) → length l ≡ 0 → l ≡ []
   none-left [] e = refl
   none-left (x ∷ l) e = absurd (omega arith)
@@ -411,7 +397,7 @@ module _ (v : Virtqueue) where
         found-based
         (λ (c : Check). going (onFound ops v (releaseRun ops v i) (begun q m []) c .stop) ≡ true
         → Drained (indexIn m) i (onFound ops v (releaseRun ops v i) (begun q m []) c .queue))
-        q m based (λ c e. absurd (false≢true e))
+        m (v .page) (queueSize v) (ops .new q (indexIn m)) (ops .inWork q) based (λ c e. absurd (false≢true e))
         (λ e.
         let r : Run History = releaseRun ops v i new (begun q m []) in
         let x =
@@ -430,7 +416,7 @@ module _ (v : Virtqueue) where
           (λ (c : Check).
           let r : Run History = onFound ops v (transferRun ops v i) (begun q m host) c in
           going (r .stop) ≡ true → TakenAll (indexIn m) (r .queue) × (0 < r .room → standing (lineAt (r .queue) i) ≡ []))
-          q m based (λ c e. absurd (false≢true e))
+          m (v .page) (queueSize v) (ops .new q (indexIn m)) (ops .inWork q) based (λ c e. absurd (false≢true e))
           (λ e.
           let r : Run History = transferRun ops v i new (begun q m host) in
           let x =

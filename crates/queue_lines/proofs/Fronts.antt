@@ -8,14 +8,16 @@ use native.Mathlib.Omega.{arith}
 use borrow.Author.Tests.{leb-true, ltb-true, ltb-false}
 use lib.Dec.{ltb}
 use lib.ListN.{length, take, drop, getD, length-take, length-drop, length-map, List·getD-eq-default}
-use Rattle.rules.specs.Claim.{workOf}
-use Rattle.rules.specs.Device.{finished, released, Message}
-use Rattle.rules.specs.Histories.{History as Story, number, current, handedNow}
-use Rattle.rules.proofs.Histories.{free}
+use Rattle.device.specs.Claim.{workOf}
+use Rattle.device.specs.Device.{Message, Direction, Taking, Ending}
+use Rattle.device.specs.Histories.{History as Story, number, current, handedNow, took, noted, withEntry}
+use Rattle.device.proofs.Cases.{none-some}
+use Rattle.device.proofs.Histories.{free}
 use Rattle.queue_lines.specs.Claim.{headsOf}
 use Rattle.queue_lines.specs.Counters.{frontOf}
-use Rattle.queue_lines.specs.Histories.{Taken, History, lineAt, blankLine, unreadIn}
+use Rattle.queue_lines.specs.Histories.{Taken, History, lineAt, blankLine, unreadIn, Line, withStory, beginning, handing, completing}
 use Rattle.queue_lines.specs.Rules.{Front, vacant, unread, working}
+use lib.Seq.{getD-set-same}
 
 -- ---- a front
 
@@ -50,9 +52,6 @@ module _ (o : Option Message) (heads : List ℕ) where
 
 -- ---- the message in work
 
-pub none-some : (m : Message) → _≡_ {A = Option Message} none (some m) → ⊥
-none-some m e = let z : _≡_ {A = ℕ} 0 1 = cc in omega arith
-
 abbrev nowOf : Story → Message
 nowOf s = record { taking = current s; done = handedNow s }
 
@@ -69,10 +68,6 @@ work-busy s m e = go (free s) e
     go : (b : Bool) → cond b none (some (nowOf s)) ≡ some m → (b ≡ false) × (nowOf s ≡ m)
     go true e = absurd (none-some m e)
     go false e = (refl, cc)
-
--- a Release is no transfer
-pub released-not : released ≡ finished → ⊥
-released-not e = let z : _≡_ {A = ℕ} 0 1 = cc in omega arith
 
 -- ---- the first that was not read
 
@@ -134,3 +129,22 @@ module _ (h : History) (i : ℕ) where
         leb-true (length (lineAt h i .story .takings)) (number (lineAt h i .story)) (work-free (lineAt h i .story) none′),
         simp (length-take, length-map, length-drop) at (ap length z),
       )
+
+-- ---- the line whose front is read, moved or completed
+
+module _ (d : Direction) (i : ℕ) (h : History) where
+  abbrev own : Line
+  own = lineAt h i
+
+  pub own-read : (t : Taking) (head : ℕ) → frontAt h i ≡ unread head → lineAt (beginning d i t h) i ≡ withStory (took d t) own
+  unfolding beginning
+  own-read t head e = getD-set-same (h .lines) i (withStory (took d t) own) blankLine (unread-inside h i head e)
+
+  module _ (w : Message) (e : frontAt h i ≡ working w) where
+    pub own-moved : (bytes xs : List ℕ) → lineAt (handing d i bytes xs h) i ≡ withStory (noted d bytes xs) own
+    unfolding handing
+    own-moved bytes xs = getD-set-same (h .lines) i (withStory (noted d bytes xs) own) blankLine (working-inside h i w e)
+
+    pub own-ended : (x : Ending) (latency : ℕ) → lineAt (completing d i x latency h) i ≡ withStory (withEntry d x latency) own
+    unfolding completing
+    own-ended x latency = getD-set-same (h .lines) i (withStory (withEntry d x latency) own) blankLine (working-inside h i w e)

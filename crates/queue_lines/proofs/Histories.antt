@@ -3,37 +3,29 @@ use mathlib.Core.Path.{_≡_, refl, sym, ap}
 use mathlib.Core.Bool.{Bool, true, false, cond}
 use mathlib.Core.List.{List, [], _∷_, _++_, map, map-append}
 use mathlib.Core.Option.{Option, none, some}
-use Prim.Native.Nat.{ℕ, zero, suc, _+_, _-_, _%_, _≤_}
+use Prim.Native.Nat.{ℕ, zero, suc, _+_, _-_, _≤_}
 use native.Mathlib.Omega.{arith}
 use borrow.Author.Tests.{leb-true, leb-false}
 use lib.ListN.{length, drop, getD, length-append, length-drop, length-map, List·getD-map}
 use lib.Seq.{drop-append-le, drop-drop, getD-set-same}
-use Rattle.registers.specs.Map.{sizeOf}
-use Rattle.ring.proofs.Laws.{place-over-the-wrap}
-use Rattle.rules.specs.Claim.{workOf, Good as GoodStory}
-use Rattle.rules.specs.Counters.{further}
-use Rattle.rules.specs.Device.{Direction, output, input, queueNumber, Taking, Ending, Message, Queue as OneQueue}
-use Rattle.rules.specs.Histories.{History as Story, number, current, handedNow, took, noted, withEntry}
-use Rattle.rules.proofs.Histories as rules
-use Rattle.rules.proofs.Histories.{free}
+use Rattle.device.specs.Claim.{workOf, Good as GoodStory}
+use Rattle.device.specs.Counters.{further}
+use Rattle.device.specs.Device.{Direction, Taking, Ending, Message, Queue as OneQueue}
+use Rattle.device.specs.Histories.{History as Story, number, current, handedNow, took, noted, withEntry}
+use Rattle.device.proofs.Histories as story
+use Rattle.device.proofs.Histories.{free, place-wrap, next-wrap}
 use Rattle.queue_lines.specs.Chains.{Virtqueue, inLine}
 use Rattle.queue_lines.specs.Claim.{shownLine, queueOf, card, account, GoodLine, Good}
 use Rattle.queue_lines.specs.Counters as counters
 use Rattle.queue_lines.specs.Counters.{Queue, noLine, ifBegun, lengthOf, changed, countersOf}
-use Rattle.queue_lines.specs.Histories.{Taken, Line, History, blankLine, lineAt, standing, unreadIn, withJoined, withStory, taking, joining, bounced, beginning, handing, completing, historiesOf}
+use Rattle.queue_lines.specs.Histories.{Taken, Line, History, blankLine, lineAt, standing, unreadIn, withJoined, withStory, taking}
+use Rattle.queue_lines.specs.Histories.{joining, bounced, beginning, handing, completing, historiesOf}
 use Rattle.queue_lines.specs.Rules.{unread, working, fresh, onward}
 use Rattle.queue_lines.proofs.Fronts.{frontAt, working-inside, is-work, is-busy, unread-inside, is-free}
-use Rattle.queue_lines.proofs.Keeps.{few-read, empty-good, joining-good, bounced-good, beginning-good, handing-good, completing-good, also-none}
+use Rattle.queue_lines.proofs.Keeps.{few-read, empty-good, joining-good, bounced-good, beginning-good, handing-good, completing-good}
+use Rattle.queue_lines.proofs.Keeps.{also-none}
 use Rattle.queue_lines.proofs.Lists.{map-set, map-replicate, sumOf-map}
 use Rattle.queue_lines.proofs.Natural.{Alike, Pair}
-
-place-wrap : (d : Direction) (n : ℕ) → n % 65536 % sizeOf (queueNumber d) ≡ n % sizeOf (queueNumber d)
-unfolding sizeOf
-place-wrap output n = place-over-the-wrap 256 256 n refl
-place-wrap input n = place-over-the-wrap 64 1024 n refl
-
-next-wrap : (n : ℕ) → (n % 65536 + 1) % 65536 ≡ (n + 1) % 65536
-next-wrap n = omega arith
 
 map-drop : {A B : Type 0} (f : A → B) (k : ℕ) (l : List A) → map f (drop k l) ≡ drop k (map f l)
 map-drop f zero l = refl
@@ -63,13 +55,13 @@ module _ (d : Direction) where
 
   module _ (w : List ℕ) (s : Story) (g : GoodStory d w s) where
     took-work : (t : Taking) → free s ≡ true → some (fresh t) ≡ workOf (took d t s)
-    took-work t e = ap (λ (q : OneQueue). q .work) (rules.alike d .take-same w s t g e)
+    took-work t e = ap (λ (q : OneQueue). q .work) (story.alike d .take-same w s t g e)
 
     pub entered-work : (e : Ending) (latency : ℕ) → free s ≡ false → none ≡ workOf (withEntry d e latency s)
-    entered-work e latency busy = ap (λ (q : OneQueue). q .work) (rules.alike d .complete-same w s e latency g busy)
+    entered-work e latency busy = ap (λ (q : OneQueue). q .work) (story.alike d .complete-same w s e latency g busy)
 
   noted-work : (s : Story) (bytes xs : List ℕ) → free s ≡ false → further (length xs) (workOf s) ≡ workOf (noted d bytes xs s)
-  noted-work s bytes xs busy = ap (λ (q : OneQueue). q .work) (rules.alike d .hand-same s bytes xs busy)
+  noted-work s bytes xs busy = ap (λ (q : OneQueue). q .work) (story.alike d .hand-same s bytes xs busy)
 
   -- ---- how many stand in a line
 

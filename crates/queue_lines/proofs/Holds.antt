@@ -6,16 +6,17 @@ use Prim.Native.Nat.{ℕ, _≤_}
 use native.Mathlib.Omega.{arith}
 use lib.ListN.{length}
 use Rattle.registers.specs.Map.{sizeOf}
-use Rattle.rules.specs.Account.{end}
-use Rattle.rules.specs.Device.{Direction, queueNumber}
-use Rattle.rules.specs.Transfer.{Run}
+use Rattle.device.specs.Account.{end}
+use Rattle.device.specs.Device.{Direction, queueNumber}
+use Rattle.device.specs.Transfer.{Run}
 use Rattle.queue_lines.specs.Claim.{shownRun, queueOf, Good, also}
 use Rattle.queue_lines.specs.Counters.{Queue}
 use Rattle.queue_lines.specs.Histories.{Line, History, blankLine, standing}
-use Rattle.queue_lines.specs.Parts.{Part, clears, transfers, releases, lies, partOf, toldBy, after, saidBy, heard, cards, accounts, TurnOf, Turns, unsaid, Holds}
+use Rattle.queue_lines.specs.Parts.{Part, clears, transfers, releases, lies, partOf, toldBy, after, saidBy, heard, cards, accounts}
+use Rattle.queue_lines.specs.Parts.{TurnOf, Turns, unsaid, Holds}
 use Rattle.queue_lines.specs.Rules.{Ops}
 use Rattle.queue_lines.specs.Turn.{Book}
-use Rattle.queue_lines.proofs.Fronts.{none-some}
+use Rattle.device.proofs.Cases.{none-some}
 use Rattle.queue_lines.proofs.Histories.{alike, pair}
 use Rattle.queue_lines.proofs.Lists.{getD-replicate-same, sumOf-none}
 use Rattle.queue_lines.proofs.Natural.{emptied-keeps}
@@ -24,12 +25,12 @@ use Rattle.queue_lines.proofs.Within.{transfer-within, release-within}
 
 module _ (d : Direction) (first n : ℕ) where
   -- a history that any calls may have left
-  record Kept (said : ℕ → List ℕ) (h : History) : Type 0 where
-    good : Good d n said h
-    book : Book d h
-    within : accounts d first n .inWork h ≤ sizeOf (queueNumber d)
+  pub record Kept (said : ℕ → List ℕ) (h : History) : Type 0 where
+    pub good : Good d n said h
+    pub book : Book d h
+    pub within : accounts d first n .inWork h ≤ sizeOf (queueNumber d)
 
-  empty-kept : Kept (unsaid d first n) (accounts d first n .empty)
+  pub empty-kept : Kept (unsaid d first n) (accounts d first n .empty)
   empty-kept =
       record {
         good = alike d n .empty-keeps;
@@ -45,18 +46,19 @@ module _ (d : Direction) (first n : ℕ) where
   -- ---- one part
 
   module _ (said : ℕ → List ℕ) (h : History) (k : Kept said h) where
-    part-turn : (p : Part) → TurnOf d first n said p h
+    pub part-turn : (p : Part) → TurnOf d first n said p h
     part-turn clears = tt
     part-turn (transfers lay i m host) = transfer-turn (lies d first n lay) i said h m (k .good) (k .book) host
     part-turn (releases lay i m) = release-turn (lies d first n lay) i said h m (k .good) (k .book)
 
-    part-same : (p : Part) → partOf d first n (cards d first n) p (queueOf h) ≡ shownRun queueOf (partOf d first n (accounts d first n) p h)
+    pub part-same : (p : Part)
+        → partOf d first n (cards d first n) p (queueOf h) ≡ shownRun queueOf (partOf d first n (accounts d first n) p h)
     unfolding partOf shownRun
     part-same clears = rw (alike d n .empty-same)
     part-same (transfers lay i m host) = part-turn (transfers lay i m host) .same
     part-same (releases lay i m) = part-turn (releases lay i m) .same
 
-    part-keeps : (p : Part) → Kept (saidBy d first n (accounts d first n) said p h) (partOf d first n (accounts d first n) p h .queue)
+    pub part-keeps : (p : Part) → Kept (saidBy d first n (accounts d first n) said p h) (partOf d first n (accounts d first n) p h .queue)
     unfolding partOf
     part-keeps clears = empty-kept
     part-keeps (transfers lay i m host) =

@@ -7,9 +7,9 @@ use native.Mathlib.Omega.{arith}
 use lib.ListN.{length, take, drop, length-append, length-take, length-drop}
 use lib.Seq.{drop-drop}
 use Rattle.ring.specs.declared.Cause.{Cause}
-use Rattle.rules.specs.Device.{Message, Ending}
-use Rattle.rules.specs.Transfer.{Run, begun, bytesMoved}
-use Rattle.rules.proofs.Host.{moved-long}
+use Rattle.device.specs.Device.{Message, Ending}
+use Rattle.device.specs.Transfer.{Run, begun, bytesMoved}
+use Rattle.device.proofs.Host.{moved-long}
 use Rattle.queue_lines.specs.Chains.{Virtqueue}
 use Rattle.queue_lines.specs.Rules.{Ops, withQueue, stopped, posted, moved}
 

@@ -14,16 +14,17 @@ use lib.ListN.{length, take, drop, getD, set, length-append, length-take, length
 use lib.Seq.{take-suc, take-append-le, drop-append-le, drop-cons, getD-set-same, getD-set-other}
 use Rattle.ranges.specs.Ranges.{upFrom}
 use Rattle.ranges.proofs.Laws.{upFrom-add}
-use Rattle.rules.specs.Device.{Direction, Taking, nobody, Ending, released, illFormed, Message}
-use Rattle.rules.specs.Histories.{number, current, handedNow, waiting, took, noted, withEntry}
-use Rattle.rules.specs.Transfer.{payloadOf}
-use Rattle.rules.proofs.Cases.{cond-same}
-use Rattle.rules.proofs.Histories.{free, nothing-left}
-use Rattle.rules.proofs.Keeps.{blank-good, took-good, noted-good, with-entry-good}
+use Rattle.device.specs.Device.{Direction, Taking, nobody, Ending, released, illFormed, Message}
+use Rattle.device.specs.Histories.{number, current, handedNow, waiting, took, noted, withEntry}
+use Rattle.device.specs.Transfer.{payloadOf}
+use Rattle.device.proofs.Cases.{cond-same}
+use Rattle.device.proofs.Histories.{free, nothing-left}
+use Rattle.device.proofs.Keeps.{blank-good, took-good, noted-good, with-entry-good}
 use Rattle.queue_lines.specs.Chains.{Arrival, inLine, atOnce}
 use Rattle.queue_lines.specs.Claim.{headsOf, those, joins, answersOf, GoodLine, Good, also}
 use Rattle.queue_lines.specs.Counters.{sumOf}
-use Rattle.queue_lines.specs.Histories.{Taken, untaken, Answer, Line, History, blankLine, lineAt, standing, entryOf, withJoined, withStory, taking, joining, bounced, beginning, handing, answerTo, completing, historiesOf}
+use Rattle.queue_lines.specs.Histories.{Taken, untaken, Answer, Line, History, blankLine, lineAt, standing, entryOf, withJoined}
+use Rattle.queue_lines.specs.Histories.{withStory, taking, joining, bounced, beginning, handing, answerTo, completing, historiesOf}
 use Rattle.queue_lines.specs.Rules.{unread, working}
 use Rattle.queue_lines.proofs.Fronts.{frontAt, working-inside, is-busy, is-now, unread-inside, is-free, is-next}
 use Rattle.queue_lines.proofs.Lists.{getD-replicate-same, sumOf-append, sumOf-set, sumOf-none, those-more, those-same, those-pass}

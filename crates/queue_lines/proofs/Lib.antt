@@ -13,6 +13,7 @@ pub mod Traced
 pub mod Added
 pub mod Shown
 pub mod Read
+pub mod Writes
 pub mod Theorem
 pub mod Drained
 pub mod Within

@@ -6,7 +6,7 @@ use Prim.Native.Nat.{ℕ, zero, suc, _+_, _<_}
 use native.Mathlib.Numerals.{add-one}
 use native.Mathlib.Omega.{arith}
 use lib.ListN.{length, take, drop, getD, set, replicate}
-use Rattle.rules.proofs.Cases.{map-cond}
+use Rattle.device.proofs.Cases.{map-cond}
 use Rattle.queue_lines.specs.Claim.{those}
 use Rattle.queue_lines.specs.Counters.{sumOf, changed}
 use Rattle.queue_lines.specs.Rules.{times}

@@ -13,14 +13,18 @@ use Rattle.ranges.specs.Ranges.{total, allInside}
 use Rattle.ring.specs.Rules.{headAt, indexOf}
 use Rattle.ring.specs.declared.Check.{Check}
 use Rattle.ring.specs.declared.Head.{Head}
-use Rattle.rules.specs.Answers.{going}
-use Rattle.rules.specs.Device.{Direction, Taking, Form, wellFormed, Ending, finished, released, illFormed, Message}
-use Rattle.rules.specs.Transfer.{Run, begun, isNil, isWell, payloadOf, idOf, bytesMoved}
-use Rattle.rules.proofs.Cases.{map-cond}
-use Rattle.rules.proofs.Lists.{nil-true}
-use Rattle.queue_lines.specs.Chains.{Virtqueue, queueSize, walked, isOn, Arrival, inLine, atOnce, arrival, arrivalOf, reading, readingOf}
+use Rattle.device.specs.Answers.{going}
+use Rattle.device.specs.Device.{Direction, Taking, Form, wellFormed, Ending, finished, released, illFormed, Message}
+use Rattle.device.specs.Transfer.{Run, begun, isNil, isWell, payloadOf, idOf, bytesMoved}
+use Rattle.device.proofs.Cases.{map-cond}
+use Rattle.device.proofs.Lists.{nil-true}
+use Rattle.device.proofs.Natural.{ill-formed-none}
+use Rattle.queue_lines.specs.Chains.{Virtqueue, queueSize, walked, isOn, Arrival, inLine, atOnce, arrival, arrivalOf, reading}
+use Rattle.queue_lines.specs.Chains.{readingOf}
 use Rattle.queue_lines.specs.Claim.{shownRun, also}
-use Rattle.queue_lines.specs.Rules.{Ops, Front, vacant, unread, working, withQueue, fresh, onward, posted, taken, met, next, completed, opened, onFront, leftOf, moved, worked, transferStep, releaseStep, lineRun, takingRun, transferRun, releaseRun, found, onFound, transferred, emptied}
+use Rattle.queue_lines.specs.Rules.{Ops, Front, vacant, unread, working, withQueue, fresh, onward, posted, taken, met, next}
+use Rattle.queue_lines.specs.Rules.{completed, opened, onFront, leftOf, moved, worked, transferStep, releaseStep, lineRun, takingRun}
+use Rattle.queue_lines.specs.Rules.{transferRun, releaseRun, found, onFound, transferred, emptied}
 use Rattle.queue_lines.proofs.Host.{Past, begun-past, queue-past, stopped-past, posted-past, all-bytes, moved-past}
 use Rattle.queue_lines.proofs.Lists.{times-keeps, times-alike, drop-taken}
 
@@ -56,11 +60,6 @@ reading-head v i m head = go (walked v m head)
     go : (o : Outcome) → reading v i m head o .head ≡ head
     go (faulted f) = refl
     go (whole request reply) = refl
-
--- an ill-formed message has no payload
-pub ill-formed-none : (d : Direction) (t : Taking) → isWell (t .form) ≡ false → drop 0 (payloadOf d t) ≡ []
-unfolding payloadOf
-ill-formed-none d t e = rw e
 
 -- ---- two ways of keeping a queue that are alike
 

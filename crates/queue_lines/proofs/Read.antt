@@ -8,27 +8,24 @@ use native.Mathlib.Decide.{ℕ-discrete}
 use native.Mathlib.Omega.{arith}
 use borrow.Author.Tests.{leb-true, leb-false}
 use lib.ListN.{length, drop, getD, length-append, List·getD-append}
-use lib.Seq.{take-length, drop-length, take-append-le, drop-append-le, drop-append-seam, getD-append-seam, getD-set-same}
+use lib.Seq.{take-length, drop-length, take-append-le, drop-append-le, drop-append-seam, getD-append-seam}
 use Rattle.ranges.specs.Ranges.{bytesAt}
-use Rattle.rules.specs.Account.{Each}
-use Rattle.rules.specs.Device.{Direction, output, Taking, nobody, Ending, released, Message}
-use Rattle.rules.specs.Histories.{Note, number, handedNow, notesOf, took, noted, withEntry}
-use Rattle.rules.specs.Transfer.{memoryMoved, bytesMoved}
-use Rattle.rules.proofs.Written.{grows-length, each-append}
+use Rattle.device.specs.Account.{Each}
+use Rattle.device.specs.Device.{Direction, output, Taking, nobody, Ending, released, Message}
+use Rattle.device.specs.Histories.{Note, number, handedNow, notesOf, took, noted, withEntry}
+use Rattle.device.specs.Transfer.{memoryMoved, bytesMoved}
+use Rattle.device.proofs.Grown.{grows-length, each-append, each-map}
 use Rattle.queue_lines.specs.Chains.{Virtqueue, inLine, readingOf}
 use Rattle.queue_lines.specs.Claim.{account}
-use Rattle.queue_lines.specs.Histories.{Answer, Line, History, blankLine, lineAt, withJoined, withStory, taking, joining, bounced, beginning, handing, answerTo, completing}
+use Rattle.queue_lines.specs.Histories.{Answer, Line, History, blankLine, lineAt, withJoined, withStory, taking, joining, bounced}
+use Rattle.queue_lines.specs.Histories.{beginning, handing, answerTo, completing}
 use Rattle.queue_lines.specs.Rules.{unread, working}
 use Rattle.queue_lines.specs.Shown.{answeredBelow, workMemory, Read, Held}
 use Rattle.queue_lines.specs.Turn.{entriesWritten, Takes, start, joins, bounces, Acts, taken, reads, moves, ends}
 use Rattle.queue_lines.proofs.Added.{moved-same, acts-add}
-use Rattle.queue_lines.proofs.Fronts.{is-busy, is-free, is-next, working-inside, unread-inside}
+use Rattle.queue_lines.proofs.Fronts.{is-busy, is-free, is-next, own-read, own-moved, own-ended}
 use Rattle.queue_lines.proofs.Lists.{changed-keeps}
 use Rattle.queue_lines.proofs.Shown.{since-entries, since-takings, takes-now}
-
-each-map : {A : Type 0} (P Q : A → Type 0) (xs : List A) → ((x : A) → P x → Q x) → Each P xs → Each Q xs
-each-map P Q [] f p = tt
-each-map P Q (x ∷ xs) f p = (f x (p .0), each-map P Q xs f (p .1))
 
 -- notes of message t, of the bytes that memory `w t` holds
 notes-held :
@@ -43,7 +40,7 @@ module _ (v : Virtqueue) (m₀ : List ℕ) (h₀ : History) (i : ℕ) where
   from = number (lineAt h₀ i .story)
 
   -- taking leaves the line's story alone
-  takes-story : {m : List ℕ} {h : History} {signal : Bool} → Takes v m₀ h₀ m h signal → lineAt h i .story ≡ lineAt h₀ i .story
+  pub takes-story : {m : List ℕ} {h : History} {signal : Bool} → Takes v m₀ h₀ m h signal → lineAt h i .story ≡ lineAt h₀ i .story
   unfolding joining bounced
   takes-story start = refl
   takes-story (joins {h = h} {head = head} {line = line} s e q) =
@@ -137,9 +134,8 @@ module _ (v : Virtqueue) (m₀ : List ℕ) (h₀ : History) (i : ℕ) where
         abbrev n : History
         n = beginning d i t h
 
-        own-read : lineAt n i ≡ withStory (took d t) own
-        unfolding beginning
-        own-read = getD-set-same (h .lines) i (withStory (took d t) own) blankLine (unread-inside h i head e)
+        own-begun : lineAt n i ≡ withStory (took d t) own
+        own-begun = own-read d i h t head e
 
         all-answered : length (own .story .takings) ≡ number (own .story)
         all-answered = omega (arith, p .few, leb-true (length (own .story .takings)) (number (own .story)) (is-free h i head e))
@@ -150,7 +146,7 @@ module _ (v : Virtqueue) (m₀ : List ℕ) (h₀ : History) (i : ℕ) where
             record {
               is =
                   rw (
-                    own-read,
+                    own-begun,
                     getD-append-seam (own .story .takings) t [] nobody,
                     work-now m h p (length (own .story .takings))
                         all-answered,
@@ -161,7 +157,7 @@ module _ (v : Virtqueue) (m₀ : List ℕ) (h₀ : History) (i : ℕ) where
         read-old : (k : ℕ) → length (lineAt h₀ i .story .takings) ≤ k → k < length (own .story .takings) → Read v m₀ h₀ i k n
         unfolding beginning took
         read-old k a b =
-            record { is = rw (own-read, List·getD-append (own .story .takings) (t ∷ []) nobody k b) (p .read k a b .is) }
+            record { is = rw (own-begun, List·getD-append (own .story .takings) (t ∷ []) nobody k b) (p .read k a b .is) }
 
         read-all : (k : ℕ) → length (lineAt h₀ i .story .takings) ≤ k → k < length (own .story .takings) + 1 → Read v m₀ h₀ i k n
         read-all k a b = go (ℕ-discrete k (length (own .story .takings)))
@@ -174,27 +170,23 @@ module _ (v : Virtqueue) (m₀ : List ℕ) (h₀ : History) (i : ℕ) where
         unfolding beginning took
         read-along =
             record {
-              few = rw (own-read, length-append) (omega (arith, p .few));
-              one = rw (own-read, length-append) (omega (arith, all-answered));
-              grew = rw own-read (p .grew);
+              few = rw (own-begun, length-append) (omega (arith, p .few));
+              one = rw (own-begun, length-append) (omega (arith, all-answered));
+              grew = rw own-begun (p .grew);
               based = p .based;
-              count = rw own-read (p .count);
+              count = rw own-begun (p .count);
               memory = p .memory;
-              read = λ k a b. read-all k a (rw (own-read, length-append) at b);
-              noted-from = rw own-read (p .noted-from);
-              held = λ o. rw own-read (p .held o);
+              read = λ k a b. read-all k a (rw (own-begun, length-append) at b);
+              noted-from = rw own-begun (p .noted-from);
+              held = λ o. rw own-begun (p .held o);
             }
 
       -- bytes of the message in work are moved
       module _ (w : Message) (e : account v .front i h ≡ working w) where
-        own-moved : (bytes xs : List ℕ) → lineAt (handing d i bytes xs h) i ≡ withStory (noted d bytes xs) own
-        unfolding handing
-        own-moved bytes xs = getD-set-same (h .lines) i (withStory (noted d bytes xs) own) blankLine (working-inside h i w e)
-
         moved-along : (bytes xs m′ : List ℕ) → m′ ≡ m → (v .direction ≡ output → bytes ≡ bytesAt m xs) → Along m′ (handing d i bytes xs h)
         unfolding handing noted
         moved-along bytes xs m′ q read-at =
-            let o = own-moved bytes xs in
+            let o = own-moved d i h w e bytes xs in
             record {
               few = rw o (p .few);
               one = rw o (p .one);
@@ -223,9 +215,8 @@ module _ (v : Virtqueue) (m₀ : List ℕ) (h₀ : History) (i : ℕ) where
           abbrev ended : History
           ended = completing d i x (v .latency) h
 
-          own-ended : lineAt ended i ≡ withStory (withEntry d x (v .latency)) own
-          unfolding completing
-          own-ended = getD-set-same (h .lines) i (withStory (withEntry d x (v .latency)) own) blankLine (working-inside h i w e)
+          own-after : lineAt ended i ≡ withStory (withEntry d x (v .latency)) own
+          own-after = own-ended d i h w e x (v .latency)
 
           busy : number (own .story) < length (own .story .takings)
           busy = leb-false (length (own .story .takings)) (number (own .story)) (is-busy h i w e)
@@ -235,17 +226,17 @@ module _ (v : Virtqueue) (m₀ : List ℕ) (h₀ : History) (i : ℕ) where
           ended-along q =
               let a : Answer = answerTo d x (v .latency) own in
               record {
-                few = rw (own-ended, length-append) (omega (arith, busy));
-                one = rw (own-ended, length-append) (omega (arith, p .one));
-                grew = rw (own-ended, length-append) (omega (arith, p .grew));
+                few = rw (own-after, length-append) (omega (arith, busy));
+                one = rw (own-after, length-append) (omega (arith, p .one));
+                grew = rw (own-after, length-append) (omega (arith, p .grew));
                 based = rw length-append (omega (arith, p .based));
                 count =
-                    rw (own-ended, length-append, drop-append-le (length (h₀ .entries)) (h .entries) (a ∷ []) (p .based), length-append)
+                    rw (own-after, length-append, drop-append-le (length (h₀ .entries)) (h .entries) (a ∷ []) (p .based), length-append)
                     (omega (arith, p .count, p .grew));
                 memory = q;
-                noted-from = rw own-ended (p .noted-from);
+                noted-from = rw own-after (p .noted-from);
                 held = λ o.
-                    rw own-ended
+                    rw own-after
                     (each-map (Right (number (own .story)) h) (Right (length (own .story .entries ++ a .entry ∷ [])) ended)
                     (drop (length (lineAt h₀ i .story .notes)) (own .story .notes))
                     (λ y r. (rw length-append (omega (arith, r .0)), rw (work-same m h ended p (a ∷ []) refl refl (y .of) (r .0)) (r .1)))
@@ -253,8 +244,8 @@ module _ (v : Virtqueue) (m₀ : List ℕ) (h₀ : History) (i : ℕ) where
                 read = λ k c b.
                     record {
                       is =
-                          rw (own-ended, work-same m h ended p (a ∷ []) refl refl k (omega (arith, p .one, rw own-ended at b)))
-                          (p .read k c (rw own-ended at b) .is);
+                          rw (own-after, work-same m h ended p (a ∷ []) refl refl k (omega (arith, p .one, rw own-after at b)))
+                          (p .read k c (rw own-after at b) .is);
                     };
               }
 

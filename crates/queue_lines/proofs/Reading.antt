@@ -1,25 +1,23 @@
 -- What is good of a history with lines, in a reader's words: each taking is answered once or stands in line, once; the counters' difference
 -- is the number in line; the entries of a line name its heads in order; a message not read waits as a whole.
 use mathlib.Core.Path.{_≡_, refl, sym, ap, _∙_}
-use mathlib.Core.Bool.{cond}
 use mathlib.Core.List.{List, [], _∷_, _++_, map, map-append}
 use Prim.Native.Nat.{ℕ, _+_, _≤_, _<_}
 use native.Mathlib.Omega.{arith}
 use native.Mathlib.Decide.{ℕ-discrete}
 use borrow.Author.Tests.{eq-eqb, ne-eqb}
-use lib.Dec.{eqb}
 use lib.ListN.{length, take, drop, getD, length-map, take-append-drop, List·getD-eq-default}
 use lib.Seq.{take-take, drop-append-le}
 use Rattle.ranges.specs.Ranges.{upFrom}
 use Rattle.ring.specs.Rules.{newOf}
-use Rattle.rules.specs.Claim.{waitingOf}
-use Rattle.rules.specs.Device.{Direction, nobody, Ending}
-use Rattle.rules.specs.Histories.{Entry, handedOf, lostOf, number}
-use Rattle.rules.specs.Transfer.{Run}
-use Rattle.rules.proofs.Keeps.{nobody-none}
-use Rattle.rules.proofs.Lists.{nil-left}
+use Rattle.device.specs.Claim.{waitingOf}
+use Rattle.device.specs.Device.{Direction, nobody, Ending}
+use Rattle.device.specs.Histories.{Entry, handedOf, lostOf, number}
+use Rattle.device.specs.Transfer.{Run}
+use Rattle.device.proofs.Keeps.{nobody-none}
+use Rattle.device.proofs.Lists.{nil-left}
 use Rattle.queue_lines.specs.Chains.{Virtqueue}
-use Rattle.queue_lines.specs.Claim.{headsOf, shownLine, queueOf, shownRun, joinedTo, answersOf, Good, Beside, Untouched}
+use Rattle.queue_lines.specs.Claim.{headsOf, shownLine, queueOf, shownRun, joinedTo, answersOf, Good, Beside, Untouched, isTaking}
 use Rattle.queue_lines.specs.Counters.{Queue, sumOf, lineIn, countersOf}
 use Rattle.queue_lines.specs.Histories.{Taken, Answer, Line, History, lineAt, standing, historiesOf}
 use Rattle.queue_lines.specs.Turn.{Turn}
@@ -28,9 +26,6 @@ use Rattle.queue_lines.proofs.Keeps.{few-read}
 use Rattle.queue_lines.proofs.Lists.{sumOf-ones, sumOf-same}
 
 -- ---- how often taking t stands among takings
-
-abbrev pub isTaking : ℕ → Taken → ℕ
-isTaking t x = cond (eqb (x .of) t) 1 0
 
 numbers-above : (t a : ℕ) (l : List Taken) → map (λ (x : Taken). x .of) l ≡ upFrom a (length l) → t < a → sumOf (isTaking t) l ≡ 0
 unfolding sumOf upFrom
@@ -111,19 +106,17 @@ module _ (d : Direction) (n : ℕ) (w : ℕ → List ℕ) (h : History) (g : Goo
 
 -- ---- of a call
 
-module _
-    (v : Virtqueue) (i : ℕ) (call : Ending) (said : ℕ → List ℕ) (m host : List ℕ) (h : History) (c : Run Queue) (r : Run History)
-    (good : Good (v .direction) (v .streams) said h) (t : Turn v i call said m host h c r) (j : ℕ) (other : j ≡ i → ⊥) where
+-- a line that is left alone is shown so
+module _ (d : Direction) (n : ℕ) (said : ℕ → List ℕ) (h : History) (good : Good d n said h) (a : History) (j : ℕ) where
   abbrev before : Line
   before = lineAt h j
 
   abbrev after : Line
-  after = lineAt (r .queue) j
+  after = lineAt a j
 
-  -- a line that is left alone is shown so
-  beside-untouched : Beside before after → Untouched (shownLine before) (shownLine after)
+  line-untouched : Beside before after → Untouched (shownLine before) (shownLine after)
   unfolding shownLine
-  beside-untouched b =
+  line-untouched b =
       record {
         begun = rw (b .story);
         heads =
@@ -134,13 +127,21 @@ module _
                     b .story,
                     b .joined .is,
                     drop-append-le (length (before .story .takings)) (before .joined) (b .joined .added)
-                        (few-read (v .direction) (said j) j before (h .takings) (h .entries) (good .line j)),
+                        (few-read d (said j) j before (h .takings) (h .entries) (good .line j)),
                     map-append,
                   );
             };
       }
 
+  pub beside-untouched : Beside before after → Untouched (lineIn j (queueOf h)) (lineIn j (queueOf a))
+  unfolding queueOf
+  beside-untouched b = rw (shown-at (h .lines) j, shown-at (a .lines) j) (line-untouched b)
+
+module _
+    (v : Virtqueue) (i : ℕ) (call : Ending) (said : ℕ → List ℕ) (m host : List ℕ) (h : History) (c : Run Queue) (r : Run History)
+    (good : Good (v .direction) (v .streams) said h) (t : Turn v i call said m host h c r) (j : ℕ) (other : j ≡ i → ⊥) where
   -- "A play or capture works, and a Release ends, its own stream's line only": of the card
   pub card-others : Untouched (lineIn j (queueOf h)) (lineIn j (c .queue))
-  unfolding queueOf shownRun
-  card-others = rw (t .same, shown-at (h .lines) j, shown-at (r .queue .lines) j) (beside-untouched (t .adds .others j other))
+  unfolding shownRun
+  card-others =
+      rw (t .same) (beside-untouched (v .direction) (v .streams) said h good (r .queue) j (t .adds .others j other))

@@ -14,13 +14,14 @@ use Rattle.chain.specs.Walk.{Outcome, whole, faulted}
 use Rattle.ranges.specs.Ranges.{total, allInside}
 use Rattle.ring.specs.Rules.{headAt}
 use Rattle.ring.specs.declared.Head.{Head}
-use Rattle.rules.specs.Account.{Grows}
-use Rattle.rules.specs.Device.{Ending}
-use Rattle.rules.specs.Transfer.{idOf}
-use Rattle.rules.proofs.Written.{grows-none, grows-more, grows-length}
+use Rattle.device.specs.Account.{Grows}
+use Rattle.device.specs.Device.{Ending}
+use Rattle.device.specs.Transfer.{idOf}
+use Rattle.device.proofs.Grown.{grows-none, grows-more, grows-length}
 use Rattle.queue_lines.specs.Chains.{Virtqueue, queueSize, walked, isOn, Arrival, inLine, atOnce, arrival, arrivalOf}
 use Rattle.queue_lines.specs.Claim.{those}
-use Rattle.queue_lines.specs.Histories.{Taken, untaken, Answer, History, lineAt, taking, joining, bounced, beginning, handing, answerTo, completing}
+use Rattle.queue_lines.specs.Histories.{Taken, untaken, Answer, History, lineAt, taking, joining, bounced, beginning, handing}
+use Rattle.queue_lines.specs.Histories.{answerTo, completing}
 use Rattle.queue_lines.specs.Shown.{isAtOnce, answeredBelow, memoryAt, Took}
 use Rattle.queue_lines.specs.Turn.{entriesWritten, answerAtOnce, Takes, start, joins, bounces, Acts, taken, reads, moves, ends}
 use Rattle.queue_lines.proofs.Added.{entry-written}

@@ -16,8 +16,8 @@ use Rattle.registers.specs.Map.{sizeOf}
 use Rattle.ring.specs.Layout.{endAt}
 use Rattle.ring.specs.Rules.{baseOf, foundOf, newOf, entriesOf}
 use Rattle.ring.specs.declared.Cause.{Cause}
-use Rattle.rules.specs.Device.{output, wellFormed, refused, silent, unwalked}
-use Rattle.rules.specs.Transfer.{Run, begun, idOf, sized}
+use Rattle.device.specs.Device.{output, wellFormed, refused, silent, unwalked}
+use Rattle.device.specs.Transfer.{Run, begun, idOf, sized}
 use Rattle.queue_lines.specs.Chains.{Virtqueue, queueSize, walked, isOn, inLine, atOnce, arrivalOf, readingOf}
 use Rattle.queue_lines.specs.Claim.{card}
 use Rattle.queue_lines.specs.Counters.{Queue, sumOf}

@@ -7,11 +7,11 @@ use native.Mathlib.Decide.{ℕ-discrete}
 use borrow.Author.Tests.{eq-eqb}
 use lib.ListN.{drop}
 use Rattle.ring.specs.declared.Check.{Check}
-use Rattle.rules.specs.Account.{Grows}
-use Rattle.rules.specs.Claim.{workOf}
-use Rattle.rules.specs.Device.{Direction, Ending, finished, released, Message}
-use Rattle.rules.specs.Histories.{Note}
-use Rattle.rules.specs.Transfer.{Run, begun}
+use Rattle.device.specs.Account.{Grows}
+use Rattle.device.specs.Claim.{workOf}
+use Rattle.device.specs.Device.{Direction, Ending, finished, released, Message}
+use Rattle.device.specs.Histories.{Note}
+use Rattle.device.specs.Transfer.{Run, begun}
 use Rattle.queue_lines.specs.Chains.{Virtqueue}
 use Rattle.queue_lines.specs.Claim.{account, card, queueOf, Good, also}
 use Rattle.queue_lines.specs.Histories.{History, lineAt}

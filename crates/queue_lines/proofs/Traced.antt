@@ -1,6 +1,6 @@
 -- A call on a stream queue over histories is its acts, one after the other, each as memory then shows it.
 use mathlib.Core.Path.{_≡_, refl, sym, ap, _∙_, subst}
-use mathlib.Core.Bool.{Bool, true, false, _||_, true≢false}
+use mathlib.Core.Bool.{Bool, false, _||_, true≢false}
 use mathlib.Core.List.{List, []}
 use mathlib.Core.Option.{Option, some}
 use Prim.Native.Nat.{ℕ, _-_, _≤_, _<_}
@@ -13,30 +13,32 @@ use Rattle.registers.proofs.Keeps.{by-cond}
 use Rattle.counts.specs.declared.DescriptorNumber.{DescriptorNumber}
 use Rattle.ring.specs.declared.Cause.{Cause}
 use Rattle.ring.specs.declared.Head.{Head}
-use Rattle.rules.specs.Answers.{going}
-use Rattle.rules.specs.Claim.{workOf}
-use Rattle.rules.specs.Device.{Direction, Form, wellFormed, refused, silent, unwalked, Taking, Ending, finished, released, illFormed, Message}
-use Rattle.rules.specs.Histories.{withEntry}
-use Rattle.rules.specs.Transfer.{Run, isNil, isWell, payloadOf}
-use Rattle.rules.proofs.Keeps.{done-le}
+use Rattle.device.specs.Answers.{going}
+use Rattle.device.specs.Claim.{workOf}
+use Rattle.device.specs.Device.{Direction, wellFormed, Taking, Ending, finished, released, illFormed, Message}
+use Rattle.device.specs.Histories.{withEntry}
+use Rattle.device.specs.Transfer.{Run, isNil, isWell, payloadOf}
+use Rattle.device.proofs.Cases.{none-some}
+use Rattle.device.proofs.Keeps.{done-le}
+use Rattle.device.proofs.Natural.{ill-formed-none}
+use Rattle.device.proofs.Runs.{well-of, released-not}
 use Rattle.queue_lines.specs.Chains.{Virtqueue, Arrival, inLine, atOnce, arrivalOf, readingOf}
 use Rattle.queue_lines.specs.Claim.{account, also}
-use Rattle.queue_lines.specs.Histories.{Line, History, blankLine, lineAt, withJoined, withStory, taking, joining, bounced, answerTo, completing}
-use Rattle.queue_lines.specs.Rules.{Ops, Front, vacant, unread, working, times, withQueue, stopped, fresh, onward, posted, met, next, completed, opened, onFront, leftOf, moved, worked, transferStep, releaseStep, lineRun, takingRun, transferRun, releaseRun}
-use Rattle.queue_lines.specs.Turn.{written, wanted, Waits, Due, ill, ended, Takes, joins, bounces, Acts, Roomy, taken, reads, moves, ends, nextHead}
+use Rattle.queue_lines.specs.Histories.{Line, History, blankLine, lineAt, withJoined, withStory, taking, joining, bounced, answerTo}
+use Rattle.queue_lines.specs.Histories.{completing}
+use Rattle.queue_lines.specs.Rules.{Ops, Front, vacant, unread, working, times, withQueue, stopped, fresh, onward, posted, met, next}
+use Rattle.queue_lines.specs.Rules.{completed, opened, onFront, leftOf, moved, worked, transferStep, releaseStep, lineRun, takingRun}
+use Rattle.queue_lines.specs.Rules.{transferRun, releaseRun}
+use Rattle.queue_lines.specs.Turn.{written, wanted, Waits, Due, ill, ended, Takes, joins, bounces, Acts, Roomy, taken, reads, moves}
+use Rattle.queue_lines.specs.Turn.{ends, nextHead}
 use Rattle.queue_lines.specs.Rules as rules
 use Rattle.queue_lines.specs.Turn as turn
-use Rattle.queue_lines.proofs.Fronts.{none-some, released-not, is-work, is-busy, is-now, working-inside}
+use Rattle.queue_lines.proofs.Fronts.{is-work, is-busy, is-now, working-inside}
 use Rattle.queue_lines.proofs.Histories.{entered-work, pair}
 use Rattle.queue_lines.proofs.Host.{stopped-past}
 use Rattle.queue_lines.proofs.Lists.{times-keeps, changed-keeps, drop-taken}
-use Rattle.queue_lines.proofs.Natural.{arrival-fits, reading-head, ill-formed-none, Fine, Begun, taken-keeps, completed-keeps, read-begun, moved-begun, nothing-left}
-
-well-of : (f : Form) → isWell f ≡ true → f ≡ wellFormed
-well-of wellFormed e = refl
-well-of refused e = absurd (true≢false (sym e))
-well-of silent e = absurd (true≢false (sym e))
-well-of (unwalked fault) e = absurd (true≢false (sym e))
+use Rattle.queue_lines.proofs.Natural.{arrival-fits, reading-head, Fine, Begun, taken-keeps, completed-keeps, read-begun}
+use Rattle.queue_lines.proofs.Natural.{moved-begun, nothing-left}
 
 some-same : (x y : Message) → _≡_ {A = Option Message} (some x) (some y) → x ≡ y
 some-same x y e = cc

@@ -9,9 +9,9 @@ use Rattle.registers.proofs.Keeps.{by-cond}
 use Rattle.ring.specs.Layout.{endAt}
 use Rattle.ring.specs.Rules.{baseOf, indexOf, foundOf}
 use Rattle.ring.specs.declared.Check.{Check}
-use Rattle.rules.specs.Device.{Ending, finished, released}
-use Rattle.rules.specs.Transfer.{Run, begun}
-use Rattle.rules.proofs.Written.{grows-length}
+use Rattle.device.specs.Device.{Ending, finished, released}
+use Rattle.device.specs.Transfer.{Run, begun}
+use Rattle.device.proofs.Grown.{grows-length}
 use Rattle.queue_lines.specs.Chains.{Virtqueue, queueSize}
 use Rattle.queue_lines.specs.Claim.{account, card, queueOf, Good, also}
 use Rattle.queue_lines.specs.Counters.{Queue}

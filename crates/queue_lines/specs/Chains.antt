@@ -11,8 +11,8 @@ use Rattle.ranges.specs.declared.Range.{Range}
 use Rattle.chain.specs.Walk.{Outcome, whole, faulted, walkOf}
 use Rattle.registers.specs.Map.{sizeOf}
 use Rattle.ring.specs.Rules.{baseOf}
-use Rattle.rules.specs.Device.{Direction, queueNumber, Form, wellFormed, refused, silent, unwalked, Taking}
-use Rattle.rules.specs.Transfer.{idOf, sized}
+use Rattle.device.specs.Device.{Direction, queueNumber, Form, wellFormed, refused, silent, unwalked, Taking}
+use Rattle.device.specs.Transfer.{idOf, sized}
 
 -- a stream queue in a call: its direction; its page, and whether indirect tables are negotiated, as the guest laid it out; the latency
 -- that the statuses completed in the call carry; the number of its first stream and how many it has ("outputs numbered first"). Line i

@@ -7,11 +7,11 @@ use Prim.Native.Nat.{ℕ, _+_, _%_}
 use lib.Dec.{eqb}
 use lib.ListN.{length, take}
 use Rattle.ranges.specs.Ranges.{upFrom}
-use Rattle.rules.specs.Account.{Grows}
-use Rattle.rules.specs.Claim.{workOf, Good as GoodStory}
-use Rattle.rules.specs.Device.{Direction, Taking}
-use Rattle.rules.specs.Histories.{number}
-use Rattle.rules.specs.Transfer.{Run}
+use Rattle.device.specs.Account.{Grows}
+use Rattle.device.specs.Claim.{workOf, Good as GoodStory}
+use Rattle.device.specs.Device.{Direction, Taking}
+use Rattle.device.specs.Histories.{number}
+use Rattle.device.specs.Transfer.{Run}
 use Rattle.queue_lines.specs.Chains.{Virtqueue, Arrival, inLine, atOnce}
 use Rattle.queue_lines.specs.Counters as counters
 use Rattle.queue_lines.specs.Counters.{Queue, sumOf, countersOf}
@@ -76,6 +76,10 @@ pub record GoodLine (d : Direction) (said : List ℕ) (i : ℕ) (l : Line) (ts :
   -- name the heads in order, only the one in work lacks an entry, each payload position is handed on, given up by a Release or
   -- waiting, once and in order, and the bytes handed on are those said
   pub story : GoodStory d said (l .story)
+
+-- whether a taking is number t, as a count
+abbrev pub isTaking : ℕ → Taken → ℕ
+isTaking t x = cond (eqb (x .of) t) 1 0
 
 -- a queue of n lines; `said` of each line
 pub record Good (d : Direction) (n : ℕ) (said : ℕ → List ℕ) (h : History) : Type 0 where

@@ -5,8 +5,8 @@ use Prim.Native.Nat.{ℕ, _+_, _%_}
 use lib.ListN.{length, drop, getD, set, replicate}
 use Rattle.registers.specs.Map.{sizeOf}
 use Rattle.ring.specs.Rules.{newOf}
-use Rattle.rules.specs.Counters.{further}
-use Rattle.rules.specs.Device.{Direction, queueNumber, Message}
+use Rattle.device.specs.Counters.{further}
+use Rattle.device.specs.Device.{Direction, queueNumber, Message}
 use Rattle.queue_lines.specs.Rules.{Ops, Front, vacant, unread, working, fresh}
 
 -- a line: the front, if it is begun, and the heads of those behind it, or of all

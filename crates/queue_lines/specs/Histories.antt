@@ -1,15 +1,15 @@
 -- "01's account runs by these rules": a stream queue as histories without bound. Takings and used entries are lists, oldest first, of the
 -- whole queue. Each line has its own: all that joined it, and, of those whose chain was read, in order, the readings, used entries,
--- handed bytes and positions given up, kept as 01's account keeps those of a queue (rules/specs/Histories).
+-- handed bytes and positions given up, kept as 01's account keeps those of a queue (device/specs/Histories).
 use mathlib.Core.List.{List, [], _∷_, _++_, map}
 use Prim.Native.Nat.{ℕ, _+_, _%_}
 use lib.ListN.{length, drop, getD, replicate}
 use Rattle.registers.specs.Map.{sizeOf}
 use Rattle.ring.specs.Rules.{newOf}
-use Rattle.rules.specs.Claim.{workOf}
-use Rattle.rules.specs.Device.{Direction, queueNumber, Taking, nobody, Ending, illFormed}
-use Rattle.rules.specs.Histories.{Entry, History as Story, blank, number, current, handedNow, took, noted, withEntry}
-use Rattle.rules.specs.Transfer.{statusOf, usedLength}
+use Rattle.device.specs.Claim.{workOf}
+use Rattle.device.specs.Device.{Direction, queueNumber, Taking, nobody, Ending, illFormed}
+use Rattle.device.specs.Histories.{Entry, History as Story, blank, number, current, handedNow, took, noted, withEntry}
+use Rattle.device.specs.Transfer.{statusOf, usedLength}
 use Rattle.queue_lines.specs.Chains.{Arrival, inLine, atOnce}
 use Rattle.queue_lines.specs.Counters.{sumOf, changed, frontOf}
 use Rattle.queue_lines.specs.Rules.{Ops}

@@ -7,6 +7,7 @@ pub mod Counters
 pub mod Histories
 pub mod Claim
 pub mod Turn
+pub mod Writes
 pub mod Shown
 pub mod Parts
 pub mod Table

@@ -6,8 +6,8 @@ use mathlib.Core.List.{List, [], _∷_}
 use Prim.Native.Nat.{ℕ, _≤_}
 use Rattle.counts.specs.declared.PageNumber.{PageNumber}
 use Rattle.registers.specs.Map.{sizeOf}
-use Rattle.rules.specs.Device.{Direction, queueNumber, finished, released}
-use Rattle.rules.specs.Transfer.{Run, begun}
+use Rattle.device.specs.Device.{Direction, queueNumber, finished, released}
+use Rattle.device.specs.Transfer.{Run, begun}
 use Rattle.queue_lines.specs.Chains.{Virtqueue}
 use Rattle.queue_lines.specs.Claim.{shownRun, queueOf, Good, also}
 use Rattle.queue_lines.specs.Counters.{Queue, countersOf}

@@ -11,9 +11,9 @@ use Rattle.ring.specs.declared.Cause.{Cause}
 use Rattle.ring.specs.declared.Check.{Check}
 use Rattle.ring.specs.declared.Head.{Head}
 use Rattle.ring.specs.declared.Stop.{Stop}
-use Rattle.rules.specs.Answers.{going}
-use Rattle.rules.specs.Device.{Taking, Ending, finished, released, illFormed, Message}
-use Rattle.rules.specs.Transfer.{Run, begun, isNil, isWell, payloadOf, statusOf, statusInReply, usedLength, memoryMoved, bytesMoved}
+use Rattle.device.specs.Answers.{going}
+use Rattle.device.specs.Device.{Taking, Ending, finished, released, illFormed, Message}
+use Rattle.device.specs.Transfer.{Run, begun, isNil, isWell, payloadOf, statusOf, statusInReply, usedLength, memoryMoved, bytesMoved}
 use Rattle.queue_lines.specs.Chains.{Virtqueue, queueSize, Arrival, inLine, atOnce, arrivalOf, readingOf}
 
 -- the one loop: a step, so many times

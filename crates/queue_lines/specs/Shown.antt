@@ -7,8 +7,8 @@ use Prim.Native.Nat.{ℕ, _+_, _-_, _%_}
 use lib.ListN.{length, take, drop, getD}
 use Rattle.ring.specs.Rules.{headAt}
 use Rattle.ring.specs.declared.Head.{Head}
-use Rattle.rules.specs.Device.{nobody}
-use Rattle.rules.specs.Histories.{Note, number}
+use Rattle.device.specs.Device.{nobody}
+use Rattle.device.specs.Histories.{Note, number}
 use Rattle.queue_lines.specs.Chains.{Virtqueue, queueSize, Arrival, inLine, atOnce, arrivalOf, readingOf}
 use Rattle.queue_lines.specs.Claim.{headsOf, those}
 use Rattle.queue_lines.specs.Histories.{Taken, untaken, History, lineAt}

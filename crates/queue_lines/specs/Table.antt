@@ -14,10 +14,9 @@ use Rattle.ring.specs.Layout.{endAt}
 use Rattle.ring.specs.Rules.{baseOf, postedOf}
 use Rattle.ring.specs.declared.Cause.{Cause}
 use Rattle.ring.specs.declared.Check.{Check}
-use Rattle.rules.specs.Device.{output, Form, wellFormed, refused, silent, unwalked, Taking}
-use Rattle.rules.specs.Numbers.{sIoErr}
-use Rattle.rules.specs.Table.{Shows}
-use Rattle.rules.specs.Transfer.{Run, begun, idOf, statusBytes}
+use Rattle.device.specs.Device.{output, Form, wellFormed, refused, silent, unwalked, Taking}
+use Rattle.device.specs.Numbers.{sIoErr}
+use Rattle.device.specs.Transfer.{Shows, Run, begun, idOf, statusBytes}
 use Rattle.queue_lines.specs.Chains.{Virtqueue, queueSize, walked, inLine, atOnce, arrivalOf, readingOf}
 use Rattle.queue_lines.specs.Counters.{Line, Queue, lengthOf, countersOf}
 use Rattle.queue_lines.specs.Claim.{card}

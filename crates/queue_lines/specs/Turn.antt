@@ -10,16 +10,17 @@ use lib.ListN.{length, take, drop}
 use Rattle.counts.specs.declared.DescriptorNumber.{DescriptorNumber}
 use Rattle.ring.specs.Rules.{baseOf, headAt, postedAt, interrupts}
 use Rattle.ring.specs.declared.Head.{Head}
-use Rattle.rules.specs.Account.{Each, Grows, InOrder}
-use Rattle.rules.specs.Answers.{going}
-use Rattle.rules.specs.Claim.{workOf}
-use Rattle.rules.specs.Device.{Direction, output, wellFormed, Taking, Ending, finished, released, illFormed, Message}
-use Rattle.rules.specs.Histories.{Entry, Note, History as Story, number}
-use Rattle.rules.specs.Transfer.{Run, isNil, isWell, payloadOf, statusInReply, memoryMoved, bytesMoved}
+use Rattle.device.specs.Account.{Each, Grows, InOrder}
+use Rattle.device.specs.Answers.{going}
+use Rattle.device.specs.Claim.{workOf}
+use Rattle.device.specs.Device.{Direction, output, wellFormed, Taking, Ending, finished, released, illFormed, Message}
+use Rattle.device.specs.Histories.{Entry, Note, History as Story, number}
+use Rattle.device.specs.Transfer.{Run, isNil, isWell, payloadOf, statusInReply, memoryMoved, bytesMoved}
 use Rattle.queue_lines.specs.Chains.{Virtqueue, queueSize, inLine, atOnce, arrivalOf, readingOf}
 use Rattle.queue_lines.specs.Claim.{shownRun, queueOf, account, Good, also, Beside}
 use Rattle.queue_lines.specs.Counters.{Queue}
-use Rattle.queue_lines.specs.Histories.{Answer, History, lineAt, entryOf, taking, joining, bounced, beginning, handing, answerTo, completing}
+use Rattle.queue_lines.specs.Histories.{Answer, History, lineAt, entryOf, taking, joining, bounced, beginning, handing, answerTo}
+use Rattle.queue_lines.specs.Histories.{completing}
 use Rattle.queue_lines.specs.Rules.{unread, working}
 
 -- ---- memory

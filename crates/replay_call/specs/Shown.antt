@@ -11,7 +11,7 @@ use Rattle.replay_text.specs.Adler.{adler}
 use Rattle.replay_text.specs.Text.{registerText, callText, playText}
 use Rattle.replay_text.specs.declared.Text.{Text}
 use Rattle.rules.specs.Calls.{Request, ReadRegister, WriteRegister, Control, Play, Capture, Event, Told, Step}
-use Rattle.rules.specs.Device.{Device, Queue}
+use Rattle.device.specs.Device.{Device, Queue}
 use Rattle.replay_call.specs.declared.Shown.{Shown}
 
 -- "IRQ 1 while the interrupt line is raised after the call, else 0"

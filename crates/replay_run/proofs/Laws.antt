@@ -24,7 +24,7 @@ use Rattle.replay_memory.specs.Lent.{filled, touchedLength, touchedRam}
 use Rattle.replay_text.specs.Text.{answerBytes, kept}
 use Rattle.replay_text.proofs.Laws.{kept-call, kept-play, kept-register}
 use Rattle.rules.specs.Calls.{Request, ReadRegister, WriteRegister, Control, Play, Capture, Event, Step}
-use Rattle.rules.specs.Device.{Device, Queue}
+use Rattle.device.specs.Device.{Device, Queue}
 use Rattle.replay_run.specs.Calls.{printed}
 use Rattle.replay_run.specs.Session.{
   World,

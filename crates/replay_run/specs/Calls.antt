@@ -5,8 +5,8 @@ use Rattle.replay_call.specs.Shown.{irqIn}
 use Rattle.replay_text.specs.Adler.{adler}
 use Rattle.replay_text.specs.Text.{registerBytes, callBytes, playBytes}
 use Rattle.rules.specs.Calls.{Request, ReadRegister, WriteRegister, Control, Play, Capture, Event, Step, step}
-use Rattle.rules.specs.Counters.{countersOf}
-use Rattle.rules.specs.Device.{Device, Queue}
+use Rattle.device.specs.Counters.{countersOf}
+use Rattle.device.specs.Device.{Device, Queue}
 
 -- the rules' step for a call on this device, with this memory lent
 abbrev pub stepIn : Device Queue → Request → List ℕ → Step (Device Queue)

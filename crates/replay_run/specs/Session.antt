@@ -23,7 +23,7 @@ use Rattle.replay_line.specs.declared.Line.{Line}
 use Rattle.replay_line.specs.declared.Line.the-variants.{Skipped, Unreadable, Described, Power, Called, Lent}
 use Rattle.replay_memory.specs.Lent.{filled, touchedLength, touchedRam, touchedText}
 use Rattle.replay_text.specs.Text.{answerBytes}
-use Rattle.rules.specs.Device as rules
+use Rattle.device.specs.Device as rules
 use Rattle.replay_run.specs.Calls.{stepIn, printed}
 use Rattle.replay_run.specs.declared.State.{State}
 use Rattle.replay_run.specs.declared.Turn.{Turn}

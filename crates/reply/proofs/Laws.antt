@@ -21,7 +21,7 @@ use Rattle.card.proofs.Setters.{fit-with-jack, fit-with-stream}
 use Rattle.meaning.specs.Card.{partsOf}
 pub use Rattle.meaning.proofs.Streams.{stream-at}
 use Rattle.rules.specs.Control as rules
-use Rattle.rules.specs.Device.{bytesOf}
+use Rattle.device.specs.Device.{bytesOf}
 use Rattle.reply.specs.Reply.{Outcome, outcome, completedWith, postedBy, partsWith, Serves}
 use Rattle.reply.specs.declared.Kind.the-variants as kinds
 use Rattle.reply.specs.declared.Pending.{Pending}

@@ -13,7 +13,7 @@ use Rattle.card.specs.Fit.{FitParts}
 use Rattle.card.specs.declared.Parts.{Parts}
 use Rattle.meaning.specs.Card.{partsOf}
 use Rattle.rules.specs.Control as rules
-use Rattle.rules.specs.Numbers.{controlQueue}
+use Rattle.device.specs.Numbers.{controlQueue}
 use Rattle.reply.specs.declared.Kind.the-variants as kinds
 use Rattle.reply.specs.declared.Pending.{Pending}
 use Rattle.reply.specs.declared.Served.{Served}

@@ -13,7 +13,7 @@ use Rattle.card.specs.declared.Parts.{Parts}
 use Rattle.meaning.specs.Card.{partsOf}
 use Rattle.reply.proofs.Laws.{jack-total, jack-at}
 use Rattle.rules.specs.Control as rules
-use Rattle.rules.specs.Numbers.{sBadMsg, sNotSupp}
+use Rattle.device.specs.Numbers.{sBadMsg, sNotSupp}
 use Rattle.requests.specs.Requests.{checked, partFound}
 use Rattle.requests.specs.declared.Found.the-variants.{There, Absent}
 use Rattle.requests.specs.declared.Check.the-variants.{Passed, Failed}

@@ -4,7 +4,7 @@ use mathlib.Core.Path.{_≡_, refl, sym, _∙_}
 use mathlib.Core.Bool.{Bool, true, false, cond, _&&_, _||_, not}
 use Prim.Native.Nat.{ℕ, _+_, _-_, _^_}
 use native.Mathlib.Decide.{ℕ-discrete}
-use borrow.Author.Tests.{ne-eqb}
+use borrow.Author.Tests.{ne-eqb, eq-eqb}
 use lib.Dec.{eqb, leb, ltb}
 use Rattle.registers.specs.Map.{registerAt, configAt}
 use Rattle.registers.specs.Rules.{writeOf, writeRegister, wroteFeatures, wrotePage, wroteSelector, wroteNotify, wroteStatus, driverOk}
@@ -15,10 +15,10 @@ use Rattle.registers.specs.declared.Written.{Written}
 use Rattle.register_map.specs.declared.Register.{Register}
 use Rattle.register_map.specs.declared.Register.the-variants.{GuestFeatures, QueuePfn, QueueSel, QueueNotify, Status, DeviceConfig, Absent}
 use Rattle.registers.proofs.Keeps.{by-cond}
-use Rattle.rules.specs.Account.{startsAnew}
+use Rattle.rules.specs.Account.{startsAnew, writesAnew}
 use Rattle.rules.specs.Calls.{Request, ReadRegister, WriteRegister, Control, Play, Capture, Event, clearsQueue}
 use Rattle.rules.specs.Claim.{clears}
-use Rattle.rules.specs.Device.{output, Rest}
+use Rattle.device.specs.Device.{output, Rest, Direction, input, queueNumber}
 
 -- an effect that no write has but one of STATUS or QUEUE_PFN
 module _ (F : Effect → Bool) (nothing : F Effect.Nothing ≡ false) (rung : (q : ℕ) → F (Effect.Rung q) ≡ false) (r : Registers) (v : ℕ) where
@@ -65,66 +65,73 @@ module _ (F : Effect → Bool) (nothing : F Effect.Nothing ≡ false) (rung : (q
       by-cond Other (eqb offset 19) (λ e. by-cond Other (eqb width 1) (λ e. nothing) (λ e. nothing))
       (λ e. config-other offset width)))))))
 
--- a write leaves the play queue's histories alone
-abbrev Keeps : Written → Type 0
-Keeps w = clearsQueue output (w .effect) ≡ false
+module _ (d : Direction) where
+  -- a write leaves the queue's histories alone
+  abbrev Keeps : Written → Type 0
+  Keeps w = clearsQueue d (w .effect) ≡ false
 
-module _ (r : Registers) (v : ℕ) where
-  -- STATUS: a write of 0
-  status-clears : Dec (v ≡ 0) → clearsQueue output (writeRegister r v Status .effect) ≡ eqb v 0
-  unfolding wroteStatus
-  status-clears (yes e) = rw e
-  status-clears (no n) = rw (ne-eqb v 0 n) (by-cond Keeps (ltb v (256 ^ 1)) (λ e. refl) (λ e. refl))
+  module _ (r : Registers) (v : ℕ) where
+    -- STATUS: a write of 0
+    status-clears : Dec (v ≡ 0) → clearsQueue d (writeRegister r v Status .effect) ≡ eqb v 0
+    unfolding wroteStatus
+    status-clears (yes e) = rw e
+    status-clears (no n) = rw (ne-eqb v 0 n) (by-cond Keeps (ltb v (256 ^ 1)) (λ e. refl) (λ e. refl))
 
-  -- QUEUE_PFN: the selected queue, where the write is not dropped
-  selected : (ok : Bool) → Dec (r .selector ≡ 2)
-      → clearsQueue output
-      (cond (ltb (r .selector) 4 && ok) (wrote (withPage r (r .selector) v) (Effect.Based (r .selector))) (wrote r Effect.Nothing) .effect)
-      ≡ (eqb (r .selector) 2 && ok)
-  selected true (yes e) = rw e
-  selected false (yes e) = rw e
-  selected ok (no n) = rw (ne-eqb (r .selector) 2 n) (by-cond Keeps (ltb (r .selector) 4 && ok) (λ k. ne-eqb (r .selector) 2 n) (λ k. refl))
+    one-of-four : (d : Direction) → ltb (queueNumber d) 4 ≡ true
+    one-of-four output = refl
+    one-of-four input = refl
 
-  page-clears : (b : Bool) → ltb v (256 ^ 4) ≡ b
-      → clearsQueue output (writeRegister r v QueuePfn .effect) ≡ (ltb v (2 ^ 32) && eqb (r .selector) 2 && not (driverOk r))
-  unfolding wrotePage
-  page-clears true e = rw e (selected (not (driverOk r)) (ℕ-discrete (r .selector) 2))
-  page-clears false e = rw e
+    -- QUEUE_PFN: the selected queue, where the write is not dropped
+    selected : (ok : Bool) → Dec (r .selector ≡ queueNumber d)
+        → clearsQueue d
+        (cond (ltb (r .selector) 4 && ok) (wrote (withPage r (r .selector) v) (Effect.Based (r .selector))) (wrote r Effect.Nothing)
+        .effect)
+        ≡ (eqb (r .selector) (queueNumber d) && ok)
+    selected true (yes e) = rw (e, one-of-four d, eq-eqb (queueNumber d) (queueNumber d) refl)
+    selected false (yes e) = rw (e, one-of-four d, eq-eqb (queueNumber d) (queueNumber d) refl)
+    selected ok (no n) =
+        rw (ne-eqb (r .selector) (queueNumber d) n)
+        (by-cond Keeps (ltb (r .selector) 4 && ok) (λ k. ne-eqb (r .selector) (queueNumber d) n) (λ k. refl))
 
-  or-false : (b : Bool) → (b || false) ≡ b
-  or-false true = refl
-  or-false false = refl
+    page-clears : (b : Bool) → ltb v (256 ^ 4) ≡ b
+        → clearsQueue d (writeRegister r v QueuePfn .effect) ≡ (ltb v (2 ^ 32) && eqb (r .selector) (queueNumber d) && not (driverOk r))
+    unfolding wrotePage
+    page-clears true e = rw e (selected (not (driverOk r)) (ℕ-discrete (r .selector) (queueNumber d)))
+    page-clears false e = rw e
 
-  -- the write by its offset
-  write-clears : (offset width : ℕ) → Dec (offset ≡ 18) → Dec (offset ≡ 8)
-      → clearsQueue output (writeOf r offset width v .effect)
-      ≡ ((eqb offset 18 && eqb width 1 && eqb v 0)
-      || (eqb offset 8 && eqb width 4 && ltb v (2 ^ 32) && eqb (r .selector) 2 && not (driverOk r)))
-  unfolding writeOf registerAt
-  write-clears offset width (yes e) d = rw e (go (eqb width 1))
-    where
-      go : (b : Bool) → clearsQueue output (writeRegister r v (cond b Status Absent) .effect) ≡ ((b && eqb v 0) || false)
-      go true = status-clears (ℕ-discrete v 0) ∙ sym (or-false (eqb v 0))
-      go false = refl
-  write-clears offset width (no n) (yes e) = rw e (go (eqb width 4))
-    where
-      go : (b : Bool) → clearsQueue output (writeRegister r v (cond b QueuePfn Absent) .effect)
-          ≡ (b && ltb v (2 ^ 32) && eqb (r .selector) 2 && not (driverOk r))
-      go true = page-clears (ltb v (256 ^ 4)) refl
-      go false = refl
-  write-clears offset width (no n) (no k) = register-other (clearsQueue output) refl (λ q. refl) r v offset width k n ∙ sym none
-    where
-      none :
-          ((eqb offset 18 && eqb width 1 && eqb v 0)
-          || (eqb offset 8 && eqb width 4 && ltb v (2 ^ 32) && eqb (r .selector) 2 && not (driverOk r)))
-          ≡ false
-      none = rw (ne-eqb offset 18 n, ne-eqb offset 8 k)
+    or-false : (b : Bool) → (b || false) ≡ b
+    or-false true = refl
+    or-false false = refl
+
+    -- the write by its offset
+    write-clears : (offset width : ℕ) → Dec (offset ≡ 18) → Dec (offset ≡ 8)
+        → clearsQueue d (writeOf r offset width v .effect) ≡ writesAnew (queueNumber d) offset width v r
+    unfolding writeOf registerAt
+    write-clears offset width (yes e) k = rw e (go (eqb width 1))
+      where
+        go : (b : Bool) → clearsQueue d (writeRegister r v (cond b Status Absent) .effect) ≡ ((b && eqb v 0) || false)
+        go true = status-clears (ℕ-discrete v 0) ∙ sym (or-false (eqb v 0))
+        go false = refl
+    write-clears offset width (no n) (yes e) = rw e (go (eqb width 4))
+      where
+        go : (b : Bool) → clearsQueue d (writeRegister r v (cond b QueuePfn Absent) .effect)
+            ≡ (b && ltb v (2 ^ 32) && eqb (r .selector) (queueNumber d) && not (driverOk r))
+        go true = page-clears (ltb v (256 ^ 4)) refl
+        go false = refl
+    write-clears offset width (no n) (no k) = register-other (clearsQueue d) refl (λ q. refl) r v offset width k n ∙ sym none
+      where
+        none : writesAnew (queueNumber d) offset width v r ≡ false
+        none = rw (ne-eqb offset 18 n, ne-eqb offset 8 k)
 
 -- the rule's clearing is the one stated
+pub clears-by : (d : Direction) (r : Registers) (v offset width : ℕ)
+    → clearsQueue d (writeOf r offset width v .effect) ≡ writesAnew (queueNumber d) offset width v r
+clears-by d r v offset width = write-clears d r v offset width (ℕ-discrete offset 18) (ℕ-discrete offset 8)
+
 pub anew-clears : (q : Request) (r : Rest) → clears output q r ≡ startsAnew q r
 unfolding clears startsAnew
 anew-clears (ReadRegister offset width) r = refl
-anew-clears (WriteRegister offset width v) r = write-clears (r .registers) v offset width (ℕ-discrete offset 18) (ℕ-discrete offset 8)
+anew-clears (WriteRegister offset width v) r = clears-by output (r .registers) v offset width
 anew-clears Control r = refl
 anew-clears (Play host backlog) r = refl
 anew-clears (Capture host backlog) r = refl

@@ -13,7 +13,7 @@ use lib.Seq.{getD-set-same, getD-set-other}
 use Rattle.description.specs.declared.Description.{Description}
 use Rattle.description.specs.declared.StreamInfo.{StreamInfo}
 use Rattle.registers.proofs.Keeps.{by-cond}
-use Rattle.registers.specs.Answers.{done}
+use Rattle.registers.specs.Answers.{done, plain}
 use Rattle.registers.specs.Map.{registerAt}
 use Rattle.registers.specs.Rules.{writeOf, writeRegister, wroteStatus, wrotePage, driverOk, wrote, withPage, live}
 use Rattle.registers.specs.declared.Effect.{Effect}
@@ -25,18 +25,19 @@ use Rattle.card.specs.Card.{freshStream, noStream, runningState}
 use Rattle.card.specs.Rules.{streamReset}
 use Rattle.card.specs.declared.Jack.{Jack}
 use Rattle.card.specs.declared.Stream.{Stream}
-use Rattle.rules.specs.Backlog.{backlogAfter, lastBacklog, Remembers}
-use Rattle.rules.specs.Calls.{Request, ReadRegister, WriteRegister, Control, Play, Capture, Event, Call, affectedRest, isRunning}
-use Rattle.rules.specs.Calls.{Transferred, transferred, transferStep, readStep, writeStep, rememberedIf, remembering, transferBy}
-use Rattle.rules.specs.Calls.{asked, step}
+use Rattle.rules.specs.Backlog.{writtenBacklog, movedBacklog, backlogAfter, lastBacklog, Remembers}
+use Rattle.rules.specs.Calls.{Request, ReadRegister, WriteRegister, Control, Play, Capture, Event, Call, affectedRest}
+use Rattle.rules.specs.Calls.{isRunning, virtqueueOf, untouched, admittedIf, transferFound, transferred, transferStep, readStep}
+use Rattle.rules.specs.Calls.{writeStep, rememberedIf, remembering, transferBy, asked, step}
+use Rattle.device.specs.Transfer.{Transferred, Ops, found}
 use Rattle.rules.specs.Claim.{start, after, toldBy}
 use Rattle.rules.specs.Control.{withBacklog}
-use Rattle.rules.specs.Device.{Direction, output, input, streamNumber, Rest, Device, withRegisters, streamAt}
-use Rattle.rules.specs.Transfer.{Ops}
+use Rattle.device.specs.Device.{Direction, output, input, streamNumber, Rest, Device, queueFor, withRegisters, streamAt}
 use Rattle.rules.proofs.Anew.{register-other}
 use Rattle.rules.proofs.Closed.{Closed, control-kept, sent-kept}
+use Rattle.rules.proofs.Along.{last-word}
 
-abbrev word : Stream → ℕ
+abbrev pub word : Stream → ℕ
 word s = s .backlog
 
 -- ---- control messages and events
@@ -46,7 +47,7 @@ set-same [] i s e = refl
 set-same (x ∷ xs) zero s e = rw e
 set-same (x ∷ xs) (suc i) s e = rw (set-same xs i s e)
 
-closed-words : (ws : List ℕ) → Closed (λ (ss : List Stream) (js : List Jack). map word ss ≡ ws)
+pub closed-words : (ws : List ℕ) → Closed (λ (ss : List Stream) (js : List Jack). map word ss ≡ ws)
 closed-words ws =
     record {
       remapped = λ ss js id a s f h i k. k;
@@ -56,13 +57,13 @@ closed-words ws =
     }
 
 -- streams with the same words
-same-word : (a b : List Stream) (id : ℕ) → map word a ≡ map word b → word (getD a id noStream) ≡ word (getD b id noStream)
+pub same-word : (a b : List Stream) (id : ℕ) → map word a ≡ map word b → word (getD a id noStream) ≡ word (getD b id noStream)
 same-word a b id e =
     sym (List·getD-map word a id noStream) ∙ ap (λ (ws : List ℕ). getD ws id 0) e ∙ List·getD-map word b id noStream
 
 -- ---- a reset
 
-abbrev resets : Effect → Bool
+abbrev pub resets : Effect → Bool
 resets Nothing = false
 resets Reset = true
 resets (Based q) = false
@@ -86,7 +87,7 @@ module _ (r : Registers) (v : ℕ) where
       {y = wrote r Nothing}
       (λ e. refl) (λ e. refl)) (λ e. refl)
 
-  write-resets : (offset width : ℕ) → Dec (offset ≡ 18) → Dec (offset ≡ 8)
+  pub write-resets : (offset width : ℕ) → Dec (offset ≡ 18) → Dec (offset ≡ 8)
       → resets (writeOf r offset width v .effect) ≡ (eqb offset 18 && eqb width 1 && eqb v 0)
   unfolding writeOf registerAt
   write-resets offset width (yes e) d = rw e (go (eqb width 1))
@@ -104,7 +105,7 @@ module _ (r : Registers) (v : ℕ) where
       none : (eqb offset 18 && eqb width 1 && eqb v 0) ≡ false
       none = rw (ne-eqb offset 18 n)
 
-affected-word : (e : Effect) (r : Rest) (id : ℕ)
+pub affected-word : (e : Effect) (r : Rest) (id : ℕ)
     → streamAt (affectedRest e r) id .backlog ≡ cond (resets e) 0 (streamAt r id .backlog)
 affected-word Nothing r id = refl
 affected-word Reset r id = ap word (List·getD-map streamReset (r .streams) id noStream)
@@ -113,7 +114,7 @@ affected-word (Rung q) r id = refl
 
 -- ---- a transfer
 
-both : (a b : Bool) → (a && b) ≡ true → a ≡ true
+pub both : (a b : Bool) → (a && b) ≡ true → a ≡ true
 both true b e = refl
 both false b e = e
 
@@ -121,22 +122,19 @@ and-false : (b : Bool) → (b && false) ≡ false
 and-false true = refl
 and-false false = refl
 
-module _ {Q : Type 0} (ops : Ops Q) (d : Direction) (backlog : ℕ) (r : Rest) (q : Q) (m host : List ℕ) where
-  abbrev There : Transferred Q → Type 0
-  There t = t .answer .number ≡ done → streamNumber d < length (r .streams)
+pub running-there : (r : Rest) (id : ℕ) → isRunning r id ≡ true → id < length (r .streams)
+running-there r id e = ltb-true _ _ (both (ltb id (length (r .streams))) (eqb (streamAt r id .state) runningState) e)
 
-  -- answer 0 is given for a stream that is there
-  done-there : There (transferred ops d backlog r q m host)
-  unfolding transferred
-  done-there =
-      by-cond There (eqb (length m) (r .ram))
+module _ {Q : Type 0} (runs : Bool) (r : Rest) (q : Q) (m : List ℕ) (go : Transferred Q) where
+  -- answer 0 is given past the checks alone
+  pub done-admitted : (P : Transferred Q → Type 0) → (runs ≡ true → go .answer .number ≡ done → P go)
+      → let t : Transferred Q = admittedIf runs r m (λ (number : ℕ). untouched (plain number) (r .registers) q m) go in
+      t .answer .number ≡ done → P t
+  done-admitted P h =
+      let Goes : Transferred Q → Type 0 = λ t. t .answer .number ≡ done → P t in
+      by-cond Goes (eqb (length m) (r .ram))
       (λ e.
-      by-cond There (live (r .registers))
-      (λ e.
-      by-cond There (isRunning r (streamNumber d))
-      (λ e a. ltb-true _ _ (both (ltb (streamNumber d) (length (r .streams))) (eqb (streamAt r (streamNumber d) .state) runningState) e))
-      (λ e a. absurd (omega arith)))
-      (λ e a. absurd (omega arith)))
+      by-cond Goes (live (r .registers)) (λ e. by-cond Goes runs h (λ e a. absurd (omega arith))) (λ e a. absurd (omega arith)))
       (λ e a. absurd (omega arith))
 
 set-word : (r : Rest) (i backlog id : ℕ) → i < length (r .streams) → (b : Bool) → eqb id i ≡ b
@@ -157,7 +155,7 @@ remembered-word r i backlog id false h = rw (and-false (eqb id i))
 
 -- ---- power-up
 
-fresh-word : (n : ℕ) (l : List StreamInfo) (id : ℕ) → word (getD (take n (map freshStream l)) id noStream) ≡ 0
+pub fresh-word : (n : ℕ) (l : List StreamInfo) (id : ℕ) → word (getD (take n (map freshStream l)) id noStream) ≡ 0
 fresh-word zero l id = refl
 fresh-word (suc n) [] id = refl
 fresh-word (suc n) (i ∷ is) zero = refl
@@ -165,35 +163,50 @@ fresh-word (suc n) (i ∷ is) (suc id) = fresh-word n is id
 
 -- ---- any call
 
+-- a transfer of this stream
+pub moved-word : {Q : Type 0} (d : Direction) (stream : ℕ) (host : List ℕ) (backlog : ℕ) (b : Device Q) (t : Transferred Q) (id : ℕ)
+    → (t .answer .number ≡ done → stream < length (b .rest .streams))
+    → let s = remembering stream backlog (transferStep d host b t) in
+    streamAt (s .state .rest) id .backlog ≡ movedBacklog id stream backlog (s .told) (streamAt (b .rest) id .backlog)
+unfolding transferStep remembering
+moved-word output stream host backlog b t id there =
+    remembered-word (withRegisters (t .registers) (b .rest)) stream backlog id (eqb (t .answer .number) done) (λ e. there (eqb-true _ _ e))
+moved-word input stream host backlog b t id there =
+    remembered-word (withRegisters (t .registers) (b .rest)) stream backlog id (eqb (t .answer .number) done) (λ e. there (eqb-true _ _ e))
+
+pub written-word : (r : Rest) (offset width v id : ℕ)
+    → let w = writeOf (r .registers) offset width v in
+    streamAt (affectedRest (w .effect) (withRegisters (w .registers) r)) id .backlog
+    ≡ writtenBacklog offset width v (streamAt r id .backlog)
+written-word r offset width v id =
+    let w = writeOf (r .registers) offset width v in
+    affected-word (w .effect) (withRegisters (w .registers) r) id
+    ∙ ap (λ (x : Bool). cond x 0 (streamAt r id .backlog))
+    (write-resets (r .registers) v offset width (ℕ-discrete offset 18) (ℕ-discrete offset 8))
+
 module _ {Q : Type 0} (ops : Direction → Ops Q) where
-  moved-word : (d : Direction) (host : List ℕ) (backlog : ℕ) (b : Device Q) (m : List ℕ) (id : ℕ)
-      → let s = transferBy ops d host backlog b m in
-      streamAt (s .state .rest) id .backlog
-      ≡ cond (eqb id (streamNumber d) && eqb (s .told .answer .number) done) backlog (streamAt (b .rest) id .backlog)
-  unfolding transferStep remembering
-  moved-word output host backlog b m id =
-      let t = transferred (ops output) output backlog (b .rest) (b .play) m host in
-      remembered-word (withRegisters (t .registers) (b .rest)) 0 backlog id (eqb (t .answer .number) done)
-      (λ e. done-there (ops output) output backlog (b .rest) (b .play) m host (eqb-true _ _ e))
-  moved-word input host backlog b m id =
-      let t = transferred (ops input) input backlog (b .rest) (b .capture) m host in
-      remembered-word (withRegisters (t .registers) (b .rest)) 1 backlog id (eqb (t .answer .number) done)
-      (λ e. done-there (ops input) input backlog (b .rest) (b .capture) m host (eqb-true _ _ e))
+  transferBy-word : (d : Direction) (host : List ℕ) (backlog : ℕ) (b : Device Q) (m : List ℕ) (id : ℕ)
+      → streamAt (transferBy ops d host backlog b m .state .rest) id .backlog
+      ≡ movedBacklog id (streamNumber d) backlog (transferBy ops d host backlog b m .told) (streamAt (b .rest) id .backlog)
+  unfolding transferred
+  transferBy-word d host backlog b m id =
+      let v = virtqueueOf (b .rest) d backlog in
+      let q = queueFor d b in
+      moved-word d (streamNumber d) host backlog b (transferred (ops d) d backlog (b .rest) q m host) id
+      (done-admitted (isRunning (b .rest) (streamNumber d)) (b .rest) q m
+      (transferFound (ops d) d backlog (b .rest) q m host (found (ops d) v q m))
+      (λ t. streamNumber d < length (b .rest .streams)) (λ e a. running-there (b .rest) (streamNumber d) e))
 
   asked-word : (q : Request) (b : Device Q) (m : List ℕ) (id : ℕ)
       → streamAt (asked ops q b m .state .rest) id .backlog ≡ backlogAfter id q (asked ops q b m .told) (streamAt (b .rest) id .backlog)
   unfolding backlogAfter readStep writeStep
   asked-word (ReadRegister offset width) b m id = refl
-  asked-word (WriteRegister offset width v) b m id =
-      let w = writeOf (b .rest .registers) offset width v in
-      affected-word (w .effect) (withRegisters (w .registers) (b .rest)) id
-      ∙ ap (λ (x : Bool). cond x 0 (streamAt (b .rest) id .backlog))
-      (write-resets (b .rest .registers) v offset width (ℕ-discrete offset 18) (ℕ-discrete offset 8))
+  asked-word (WriteRegister offset width v) b m id = written-word (b .rest) offset width v id
   asked-word Control b m id =
       same-word (asked ops Control b m .state .rest .streams) (b .rest .streams) id
       (control-kept _ (closed-words (map word (b .rest .streams))) ops b m refl)
-  asked-word (Play host backlog) b m id = moved-word output host backlog b m id
-  asked-word (Capture host backlog) b m id = moved-word input host backlog b m id
+  asked-word (Play host backlog) b m id = transferBy-word output host backlog b m id
+  asked-word (Capture host backlog) b m id = transferBy-word input host backlog b m id
   asked-word (Event code data′) b m id =
       same-word (asked ops (Event code data′) b m .state .rest .streams) (b .rest .streams) id
       (sent-kept _ (closed-words (map word (b .rest .streams))) ops code data′ b m refl)
@@ -201,10 +214,9 @@ module _ {Q : Type 0} (ops : Direction → Ops Q) where
   pub after-word : (b : Device Q) (n id : ℕ) (cs : List Call) → streamAt (b .rest) id .backlog ≡ n
       → streamAt (after ops b cs .rest) id .backlog ≡ lastBacklog id n cs (toldBy ops b cs)
   unfolding after toldBy lastBacklog
-  after-word b n id [] e = e
-  after-word b n id (c ∷ cs) e =
-      after-word (step ops b c .state) (backlogAfter id (c .asked) (step ops b c .told) n) id cs
-      (asked-word (c .asked) b (c .lent) id ∙ ap (backlogAfter id (c .asked) (step ops b c .told)) e)
+  after-word b n id cs e =
+      last-word (step ops) (λ (b : Device Q). streamAt (b .rest) id .backlog) (λ (c : Call). backlogAfter id (c .asked))
+      (λ b c. asked-word (c .asked) b (c .lent) id) b n cs e
 
   pub remembers : (d : Description) (len : ℕ) → Remembers ops d len
   remembers d len cs id = after-word (start ops d len) 0 id cs (fresh-word (d .«output_count» + d .«input_count») (d .streams) id)

@@ -13,16 +13,16 @@ use Rattle.registers.specs.declared.answers.Answer.{Answer}
 use Rattle.registers.proofs.Keeps.{by-cond}
 use Rattle.ring.specs.declared.Check.{Check}
 use Rattle.rules.specs.Calls.{Request, ReadRegister, WriteRegister, Control, Play, Capture, Event, Step, Result, Order, Done}
-use Rattle.rules.specs.Calls.{ReleaseFirst, Pending, Emptied, emptied, virtqueueOf, releaseQueue, clearsQueue, orderOf, releasedOf}
-use Rattle.rules.specs.Calls.{Transferred, untouched, isRunning, transferFound, transferred, eventOf, ended, readStep, writeStep}
-use Rattle.rules.specs.Calls.{releaseStep, ordered, remembering, transferStep, transferBy, asked}
+use Rattle.rules.specs.Calls.{ReleaseFirst, Pending, virtqueueOf, releaseQueue, clearsQueue, orderOf, releasedOf, untouched}
+use Rattle.rules.specs.Calls.{isRunning, transferFound, transferred, eventOf, ended, readStep, writeStep, releaseStep, ordered}
+use Rattle.rules.specs.Calls.{remembering, transferStep, transferBy, asked, endedOn, writeBy}
+use Rattle.device.specs.Transfer.{Emptied, emptied, Transferred, Ops, found}
 use Rattle.rules.specs.Claim.{clears, bytesFor, shownAs}
-use Rattle.rules.specs.Device.{Direction, output, input, streamNumber, queueNumber, directionOf, Virtqueue, Rest, Device, queueFor}
-use Rattle.rules.specs.Device.{withQueue, withRegisters}
-use Rattle.rules.specs.Transfer.{Ops, found}
-use Rattle.rules.proofs.Cases.{map-cond, by-cond₂}
-use Rattle.rules.proofs.Natural.{Alike, lowEmptied, lowTransferred, found-same, transferredBy-same, transfer-keeps, emptied-same}
-use Rattle.rules.proofs.Natural.{emptied-keeps}
+use Rattle.device.specs.Device.{Direction, output, input, streamNumber, queueNumber, directionOf, Virtqueue, Rest, Device, queueFor}
+use Rattle.device.specs.Device.{withQueue, withRegisters}
+use Rattle.device.proofs.Cases.{map-cond, by-cond₂}
+use Rattle.device.proofs.Natural.{Alike, lowEmptied, lowTransferred, found-same, transferredBy-same, transfer-keeps, emptied-same}
+use Rattle.device.proofs.Natural.{emptied-keeps}
 
 -- ---- a transfer, past its checks or refused by one
 
@@ -94,6 +94,43 @@ module _
 unfoldable pub low : {H Q : Type 0} → (H → Q) → Step (Device H) → Step (Device Q)
 low f s = record { state = shownAs f (s .state); told = s .told }
 
+module _ {H Q : Type 0} (f : H → Q) (b : Device H) where
+  -- the queue of a direction, shown
+  pub shown-queue : (d : Direction) → queueFor d (shownAs f b) ≡ f (queueFor d b)
+  shown-queue output = refl
+  shown-queue input = refl
+
+  shown-with : (d : Direction) (r : Rest) (q : H) → withQueue d r (f q) (shownAs f b) ≡ shownAs f (withQueue d r q b)
+  shown-with output r q = refl
+  shown-with input r q = refl
+
+  pub endedOn-same : (d : Direction) (o : Result) (q : H) → endedOn d o (f q) (shownAs f b) ≡ low f (endedOn d o q b)
+  unfolding low
+  endedOn-same d o q = rw (shown-with d (o .rest) q)
+
+  pub transferStep-same :
+      (d : Direction) (host : List ℕ) (t : Transferred H)
+      → transferStep d host (shownAs f b) (lowTransferred f t) ≡ low f (transferStep d host b t)
+  unfolding transferStep lowTransferred low
+  transferStep-same d host t = rw (shown-with d (withRegisters (t .registers) (b .rest)) (t .queue))
+
+  -- a cleared queue, or the queue as it was
+  module _ (one : Direction → H) (other : Direction → Q) (alike : (d : Direction) → other d ≡ f (one d)) where
+    cleared-same : (d : Direction) (x : Bool) (q : H) → cond x (other d) (f q) ≡ f (cond x (one d) q)
+    cleared-same d x q = map-cond f x {x = one d} {y = q} (λ e. alike d) (λ e. refl)
+
+    pub writeBy-same : (offset width v : ℕ) (m : List ℕ)
+        → writeBy other offset width v (shownAs f b) m ≡ low f (writeBy one offset width v b m)
+    unfolding low
+    writeBy-same offset width v m =
+        let e = writeOf (b .rest .registers) offset width v .effect in
+        rw (cleared-same output (clearsQueue output e) (b .play), cleared-same input (clearsQueue input e) (b .capture))
+
+pub remembering-same : {H Q : Type 0} (f : H → Q) (id backlog : ℕ) (s : Step (Device H))
+    → remembering id backlog (low f s) ≡ low f (remembering id backlog s)
+unfolding remembering low
+remembering-same f id backlog s = refl
+
 module _
     {H Q : Type 0}
     (A : Direction → Ops H)
@@ -105,19 +142,9 @@ module _
     (b : Device H)
     (m : List ℕ)
     (i : (d : Direction) → I d (w d) (queueFor d b)) where
-  -- the queue of a direction, shown
-  shown-queue : (d : Direction) → queueFor d (shownAs f b) ≡ f (queueFor d b)
-  shown-queue output = refl
-  shown-queue input = refl
-
-  shown-with : (d : Direction) (r : Rest) (q : H) → withQueue d r (f q) (shownAs f b) ≡ shownAs f (withQueue d r q b)
-  shown-with output r q = refl
-  shown-with input r q = refl
-
   releaseStep-same : (id : ℕ) (p : Pending) (e : Emptied H) → releaseStep id p (shownAs f b) (lowEmptied f e) ≡ low f (releaseStep id p b e)
-  unfolding releaseStep lowEmptied low
-  releaseStep-same id p e =
-      rw (shown-with (directionOf id) (releasedOf id p (e .mem) (e .stop) (e .signal) .rest) (e .queue))
+  unfolding releaseStep lowEmptied
+  releaseStep-same id p e = endedOn-same f b (directionOf id) (releasedOf id p (e .mem) (e .stop) (e .signal)) (e .queue)
 
   ordered-same : (o : Order) → ordered D o (shownAs f b) m ≡ low f (ordered A o b m)
   unfolding low
@@ -125,35 +152,20 @@ module _
   ordered-same (ReleaseFirst id p) =
       let d : Direction = directionOf id in
       let v : Virtqueue = releaseQueue id (p .rest) in
-      rw (shown-queue d, emptied-same (A d) (D d) v f (I d) (L d) (w d) (queueFor d b) m (i d))
+      rw (shown-queue f b d, emptied-same (A d) (D d) v f (I d) (L d) (w d) (queueFor d b) m (i d))
       (releaseStep-same id p (emptied (A d) v (queueFor d b) m))
-
-  transferStep-same :
-      (d : Direction) (host : List ℕ) (t : Transferred H)
-      → transferStep d host (shownAs f b) (lowTransferred f t) ≡ low f (transferStep d host b t)
-  unfolding transferStep lowTransferred low
-  transferStep-same d host t = rw (shown-with d (withRegisters (t .registers) (b .rest)) (t .queue))
-
-  remembering-same : (id backlog : ℕ) (s : Step (Device H)) → remembering id backlog (low f s) ≡ low f (remembering id backlog s)
-  unfolding remembering low
-  remembering-same id backlog s = refl
 
   transferBy-same : (d : Direction) (host : List ℕ) (backlog : ℕ) → transferBy D d host backlog (shownAs f b) m
       ≡ low f (transferBy A d host backlog b m)
   transferBy-same d host backlog =
-      rw (shown-queue d, transferred-same (A d) (D d) d f (I d) (L d) (w d) (b .rest) (queueFor d b) m host backlog (i d))
-      (rw (transferStep-same d host (transferred (A d) d backlog (b .rest) (queueFor d b) m host))
-      (remembering-same (streamNumber d) backlog (transferStep d host b (transferred (A d) d backlog (b .rest) (queueFor d b) m host))))
-
-  -- a cleared queue, or the queue as it was
-  cleared-same : (d : Direction) (x : Bool) (q : H) → cond x (D d .empty) (f q) ≡ f (cond x (A d .empty) q)
-  cleared-same d x q = map-cond f x {x = A d .empty} {y = q} (λ e. L d .empty-same) (λ e. refl)
+      rw (shown-queue f b d, transferred-same (A d) (D d) d f (I d) (L d) (w d) (b .rest) (queueFor d b) m host backlog (i d))
+      (rw (transferStep-same f b d host (transferred (A d) d backlog (b .rest) (queueFor d b) m host))
+      (remembering-same f (streamNumber d) backlog (transferStep d host b (transferred (A d) d backlog (b .rest) (queueFor d b) m host))))
 
   writeStep-same : (offset width v : ℕ) → writeStep D offset width v (shownAs f b) m ≡ low f (writeStep A offset width v b m)
-  unfolding writeStep low
+  unfolding writeStep
   writeStep-same offset width v =
-      let e = writeOf (b .rest .registers) offset width v .effect in
-      rw (cleared-same output (clearsQueue output e) (b .play), cleared-same input (clearsQueue input e) (b .capture))
+      writeBy-same f b (λ (d : Direction). A d .empty) (λ (d : Direction). D d .empty) (λ d. L d .empty-same) offset width v m
 
   pub asked-same : (c : Request) → asked D c (shownAs f b) m ≡ low f (asked A c b m)
   unfolding readStep low

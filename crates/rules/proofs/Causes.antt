@@ -32,19 +32,19 @@ use Rattle.ring.specs.declared.Cause.{Cause}
 use Rattle.ring.specs.declared.Check.{Check}
 use Rattle.ring.specs.declared.Head.{Head}
 use Rattle.ring.specs.declared.Stop.{Stop}
-use Rattle.rules.specs.Answers.{numberOf, brokenAnswer, answerBy, brokenBy}
+use Rattle.device.specs.Answers.{numberOf, brokenAnswer, answerBy, brokenBy}
 use Rattle.rules.specs.Calls.{Request, ReadRegister, WriteRegister, Control, Play, Capture, Event, Call, Step, Result, Order, Pending}
-use Rattle.rules.specs.Calls.{replied, acted, readMessage, controlHead, controlFound, orderOf, Emptied, virtqueueOf, indirect}
-use Rattle.rules.specs.Calls.{releasedOf, Transferred, isRunning, transferFound, transferred, eventAllowed, recorded, eventPosted}
-use Rattle.rules.specs.Calls.{eventRoom, Tried, Ended, Further, Sent, eventChain, eventHead, tried, onward, eventRun, eventFound}
-use Rattle.rules.specs.Calls.{eventOf, affectedRest, readStep, writeStep, releaseStep, transferStep, remembering, ordered, transferBy}
-use Rattle.rules.specs.Calls.{asked, step, configOf}
-use Rattle.rules.specs.Causes.{saysBroken, orderQueue, queueMet, Split, Unchanged}
-use Rattle.rules.specs.Control.{Served, Reply, Release, served, partsIn, status}
-use Rattle.rules.specs.Device.{Direction, output, input, streamNumber, queueNumber, directionOf, Rest, Device, queueFor, withQueue}
-use Rattle.rules.specs.Device.{withControl, oneTaken, pageOf, signalledIf}
-use Rattle.rules.specs.Numbers.{controlQueue, eventQueue, jackConnected, jackDisconnected, sBadMsg}
-use Rattle.rules.specs.Transfer.{Ops, begun, transferRun, found}
+use Rattle.rules.specs.Calls.{replied, acted, orderOf, virtqueueOf, indirect, releasedOf, isRunning, transferFound, transferred}
+use Rattle.rules.specs.Calls.{eventAllowed, recorded, eventPosted, eventRoom, Tried, Ended, Further, Sent, eventChain, eventHead}
+use Rattle.rules.specs.Calls.{tried, onward, eventRun, eventFound, eventOf, affectedRest, readStep, writeStep, releaseStep}
+use Rattle.rules.specs.Calls.{transferStep, remembering, asked, step, configOf, admittedIf, untouched, releasedOn, endedOn, orderedBy}
+use Rattle.rules.specs.Calls.{readMessageBy, controlHeadBy, controlFoundBy, orderBy, writeBy, releaseBy, releaseQueue}
+use Rattle.device.specs.Transfer.{Transferred, Ops, begun, transferRun, found, Run, emptied, transferredBy}
+use Rattle.rules.specs.Causes.{saysBroken, queueMet, Split, Unchanged, orderQueueBy}
+use Rattle.rules.specs.Control.{Served, Reply, Release, served, partsIn, status, Parts}
+use Rattle.device.specs.Device.{Direction, output, input, streamNumber, queueNumber, directionOf, Rest, Device, queueFor, withQueue}
+use Rattle.device.specs.Device.{withControl, oneTaken, pageOf, signalledIf}
+use Rattle.device.specs.Numbers.{controlQueue, eventQueue, jackConnected, jackDisconnected, sBadMsg}
 
 -- ---- what a broken queue leaves, and what all else leaves
 
@@ -244,7 +244,7 @@ recorded-registers r code data′ =
     by-cond (λ (x : Rest). x .registers ≡ r .registers) (eqb code jackConnected) (λ e. refl)
     (λ e. by-cond (λ (x : Rest). x .registers ≡ r .registers) (eqb code jackDisconnected) (λ e. refl) (λ e. refl))
 
-event-split :
+pub event-split :
     (r : Rest) (code data′ : ℕ) (m : List ℕ)
     → Split (r .registers) (eventOf r code data′ m .rest .registers) eventQueue (eventOf r code data′ m .answer)
 unfolding eventOf
@@ -265,42 +265,51 @@ event-split r code data′ m =
 
 -- ---- play and capture
 
-module _ {Q : Type 0} (ops : Ops Q) (d : Direction) (backlog : ℕ) (r : Rest) (q : Q) (m host : List ℕ) where
-  abbrev Moves : Transferred Q → Type 0
+-- a transfer that is refused, or goes on
+module _ {Q : Type 0} (d : Direction) (runs : Bool) (r : Rest) (q : Q) (m : List ℕ) (go : Transferred Q) where
+  abbrev pub Moves : Transferred Q → Type 0
   Moves t = Split (r .registers) (t .registers) (queueNumber d) (t .answer)
 
-  found-moves : (c : Check) → live (r .registers) ≡ true → Moves (transferFound ops d backlog r q m host c)
-  found-moves Check.Idle l = kept (r .registers) (r .registers) (queueNumber d) 0 refl refl
-  found-moves (Check.Broken cause) l = loud (r .registers) (r .registers) (queueNumber d) cause l
-  found-moves (Check.New n) l =
-      let run = transferRun ops (virtqueueOf r d backlog) n (begun q m host) in
-      by-stop (r .registers) (run .stop) (signalledIf (run .signal) (r .registers)) (queueNumber d) l
-      (signalled-status (run .signal) (r .registers))
-
-  transferred-split : Moves (transferred ops d backlog r q m host)
-  unfolding transferred
-  transferred-split =
+  pub admitted-split : (live (r .registers) ≡ true → Moves go)
+      → Moves (admittedIf runs r m (λ (number : ℕ). untouched (plain number) (r .registers) q m) go)
+  admitted-split moves =
       by-cond Moves (eqb (length m) (r .ram))
       (λ e.
       by-cond Moves (live (r .registers))
-      (λ l.
-      by-cond Moves (isRunning r (streamNumber d)) (λ e. found-moves (found ops (virtqueueOf r d backlog) q m) l)
-      (λ e. kept (r .registers) (r .registers) (queueNumber d) 6 refl refl))
+      (λ l. by-cond Moves runs (λ e. moves l) (λ e. kept (r .registers) (r .registers) (queueNumber d) 6 refl refl))
       (λ e. kept (r .registers) (r .registers) (queueNumber d) 5 refl refl))
       (λ e. kept (r .registers) (r .registers) (queueNumber d) 1 refl refl)
 
+-- by the run on its queue
+pub run-split : {Q : Type 0} (d : Direction) (g : Registers) (run : Run Q) → live g ≡ true
+    → Split g (transferredBy (queueNumber d) g run .registers) (queueNumber d) (transferredBy (queueNumber d) g run .answer)
+run-split d g run l = by-stop g (run .stop) (signalledIf (run .signal) g) (queueNumber d) l (signalled-status (run .signal) g)
+
+module _ {Q : Type 0} (ops : Ops Q) (d : Direction) (backlog : ℕ) (r : Rest) (q : Q) (m host : List ℕ) where
+  found-moves : (c : Check) → live (r .registers) ≡ true
+      → Split (r .registers) (transferFound ops d backlog r q m host c .registers) (queueNumber d)
+      (transferFound ops d backlog r q m host c .answer)
+  found-moves Check.Idle l = kept (r .registers) (r .registers) (queueNumber d) 0 refl refl
+  found-moves (Check.Broken cause) l = loud (r .registers) (r .registers) (queueNumber d) cause l
+  found-moves (Check.New n) l = run-split d (r .registers) (transferRun ops (virtqueueOf r d backlog) n (begun q m host)) l
+
+  transferred-split :
+      Split (r .registers) (transferred ops d backlog r q m host .registers) (queueNumber d) (transferred ops d backlog r q m host .answer)
+  unfolding transferred
+  transferred-split =
+      admitted-split d (isRunning r (streamNumber d)) r q m
+      (transferFound ops d backlog r q m host (found ops (virtqueueOf r d backlog) q m))
+      (found-moves (found ops (virtqueueOf r d backlog) q m))
+
 -- ---- control, and with it a Release
 
-module _ {Q : Type 0} (ops : Direction → Ops Q) (b : Device Q) (m : List ℕ) where
+module _ {Q : Type 0} (b : Device Q) where
   abbrev g : Registers
   g = b .rest .registers
 
   with-rest : (d : Direction) (r : Rest) (q : Q) → withQueue d r q b .rest ≡ r
   with-rest output r q = refl
   with-rest input r q = refl
-
-  abbrev Orders : Order → Type 0
-  Orders o = Split g (ordered ops o b m .state .rest .registers) (orderQueue o) (ordered ops o b m .told .answer)
 
   replied-split :
       (p : Pending) (bytes x : List ℕ) (met : ℕ) → p .rest .registers .status ≡ g .status
@@ -311,61 +320,65 @@ module _ {Q : Type 0} (ops : Direction → Ops Q) (b : Device Q) (m : List ℕ) 
       kept g (replied p bytes x .rest .registers) met 0 refl
       (signalled-status (interrupts after (baseOf (pageOf (p .rest) controlQueue)) (sizeOf controlQueue)) (p .rest .registers) ∙ e)
 
-  module _ (l : live g ≡ true) where
-    released-split :
-        (id : ℕ) (p : Pending) (x : List ℕ) (stop : Stop) (signal : Bool) (met : ℕ)
-        → met ≡ queueNumber (directionOf id)
-        → p .rest .registers .status ≡ g .status
-        → Split g (releasedOf id p x stop signal .rest .registers) met (releasedOf id p x stop signal .answer)
-    unfolding releasedOf
-    released-split id p x Stop.Going signal met i e = replied-split _ _ x met (signalled-status signal (p .rest .registers) ∙ e)
-    released-split id p x (Stop.Broke cause) signal met i e = rw i (loud g _ (queueNumber (directionOf id)) cause l)
+  module _ (l : live g ≡ true) (d : Direction) (id : ℕ) (p : Pending) (h : p .rest .registers .status ≡ g .status) where
+    released-split : (x : List ℕ) (stop : Stop) (signal : Bool)
+        → Split g (releasedOn d id p x stop signal .rest .registers) (queueNumber d) (releasedOn d id p x stop signal .answer)
+    released-split x Stop.Going signal = replied-split _ _ x (queueNumber d) (signalled-status signal (p .rest .registers) ∙ h)
+    released-split x (Stop.Broke cause) signal = loud g _ (queueNumber d) cause l
 
-    release-split :
-        (id : ℕ) (p : Pending) (e : Emptied Q) → p .rest .registers .status ≡ g .status
-        → Split g (releaseStep id p b e .state .rest .registers) (queueNumber (directionOf id)) (releaseStep id p b e .told .answer)
-    unfolding releaseStep
-    release-split id p e h =
-        rw (with-rest (directionOf id)) (released-split id p (e .mem) (e .stop) (e .signal) (queueNumber (directionOf id)) refl h)
+    -- a Release whose queue was emptied so
+    pub ended-split : (x : List ℕ) (stop : Stop) (signal : Bool) (q : Q)
+        → let s = endedOn d (releasedOn d id p x stop signal) q b in
+        Split g (s .state .rest .registers) (queueNumber d) (s .told .answer)
+    ended-split x stop signal q = rw (with-rest d) (released-split x stop signal)
 
-    acted-orders : (s : Served) (p : Pending) (x : List ℕ) → p .rest .registers .status ≡ g .status → Orders (acted s p x)
-    acted-orders (Reply parts bytes) p x h = replied-split _ bytes x controlQueue h
-    acted-orders (Release id) p x h = release-split id p _ h
+  -- by what a request comes to, the direction of a stream and what a Release does
+  module _
+      (serve : Parts → List ℕ → ℕ → Served) (direction : ℕ → Direction) (release : ℕ → Pending → Device Q → List ℕ → Step (Device Q))
+      (m : List ℕ)
+      (releases : (id : ℕ) (p : Pending) → live g ≡ true → p .rest .registers .status ≡ g .status
+      → Split g (release id p b m .state .rest .registers) (queueNumber (direction id)) (release id p b m .told .answer)) where
+    abbrev Orders : Order → Type 0
+    Orders o = Split g (orderedBy release o b m .state .rest .registers) (orderQueueBy direction o) (orderedBy release o b m .told .answer)
 
-    message-orders : (r : Rest) (head : ℕ) (o : Outcome) → r .registers .status ≡ g .status → Orders (readMessage r m head o)
-    message-orders r head (faulted f) h = replied-split _ [] m controlQueue h
-    message-orders r head (whole request reply) h =
-        let p : Pending = record { rest = r; head = head; reply = reply } in
-        by-cond Orders (allInside (length m) reply && leb 4 (total reply))
+    module _ (l : live g ≡ true) where
+      acted-orders : (s : Served) (p : Pending) (x : List ℕ) → p .rest .registers .status ≡ g .status → Orders (acted s p x)
+      acted-orders (Reply parts bytes) p x h = replied-split _ bytes x controlQueue h
+      acted-orders (Release id) p x h = releases id p l h
+
+      message-orders : (r : Rest) (head : ℕ) (o : Outcome) → r .registers .status ≡ g .status → Orders (readMessageBy serve r m head o)
+      message-orders r head (faulted f) h = replied-split _ [] m controlQueue h
+      message-orders r head (whole request reply) h =
+          let p : Pending = record { rest = r; head = head; reply = reply } in
+          by-cond Orders (allInside (length m) reply && leb 4 (total reply))
+          (λ e.
+          by-cond Orders (allInside (length m) request && leb 4 (total request))
+          (λ e. acted-orders (serve (partsIn r) (bytesAt m (places request)) (total reply)) p m h)
+          (λ e. replied-split p (status sBadMsg) m controlQueue h))
+          (λ e. replied-split p [] m controlQueue h)
+
+      head-orders : (h : Head) → Orders (controlHeadBy serve (b .rest) m h)
+      head-orders (Head.At n) =
+          let r : Rest = b .rest in
+          message-orders (withControl (oneTaken (r .control)) r) (n .0)
+          (walkOf m (baseOf (pageOf r controlQueue)) (sizeOf controlQueue) (n .0) (indirect r)) refl
+      head-orders (Head.Broken cause) = loud g g controlQueue cause l
+
+      found-orders : (c : Check) → Orders (controlFoundBy serve (b .rest) m c)
+      found-orders Check.Idle = kept g g controlQueue 0 refl refl
+      found-orders (Check.Broken cause) = loud g g controlQueue cause l
+      found-orders (Check.New zero) = kept g g controlQueue 0 refl refl
+      found-orders (Check.New (suc n)) =
+          head-orders (headOf m (pageOf (b .rest) controlQueue) (sizeOf controlQueue) (b .rest .control .taken))
+
+    pub control-split : Orders (orderBy serve (b .rest) m)
+    control-split =
+        by-cond Orders (eqb (length m) (b .rest .ram))
         (λ e.
-        by-cond Orders (allInside (length m) request && leb 4 (total request))
-        (λ e. acted-orders (served (partsIn r) (bytesAt m (places request)) (total reply)) p m h)
-        (λ e. replied-split p (status sBadMsg) m controlQueue h))
-        (λ e. replied-split p [] m controlQueue h)
-
-    head-orders : (h : Head) → Orders (controlHead (b .rest) m h)
-    head-orders (Head.At n) =
-        let r : Rest = b .rest in
-        message-orders (withControl (oneTaken (r .control)) r) (n .0)
-        (walkOf m (baseOf (pageOf r controlQueue)) (sizeOf controlQueue) (n .0) (indirect r)) refl
-    head-orders (Head.Broken cause) = loud g g controlQueue cause l
-
-    found-orders : (c : Check) → Orders (controlFound (b .rest) m c)
-    found-orders Check.Idle = kept g g controlQueue 0 refl refl
-    found-orders (Check.Broken cause) = loud g g controlQueue cause l
-    found-orders (Check.New zero) = kept g g controlQueue 0 refl refl
-    found-orders (Check.New (suc n)) =
-        head-orders (headOf m (pageOf (b .rest) controlQueue) (sizeOf controlQueue) (b .rest .control .taken))
-
-  control-split : Orders (orderOf (b .rest) m)
-  unfolding orderOf
-  control-split =
-      by-cond Orders (eqb (length m) (b .rest .ram))
-      (λ e.
-      by-cond Orders (live g)
-      (λ l. found-orders l (checkOf m (pageOf (b .rest) controlQueue) (sizeOf controlQueue) (b .rest .control .taken) 0))
-      (λ e. kept g g controlQueue 5 refl refl))
-      (λ e. kept g g controlQueue 1 refl refl)
+        by-cond Orders (live g)
+        (λ l. found-orders l (checkOf m (pageOf (b .rest) controlQueue) (sizeOf controlQueue) (b .rest .control .taken) 0))
+        (λ e. kept g g controlQueue 5 refl refl))
+        (λ e. kept g g controlQueue 1 refl refl)
 
   -- a transfer remembers its backlog beside the registers
   remembered-split :
@@ -375,28 +388,50 @@ module _ {Q : Type 0} (ops : Direction → Ops Q) (b : Device Q) (m : List ℕ) 
   remembered-split id backlog s met h =
       by-cond (λ (r : Rest). Split g (r .registers) met (s .told .answer)) (eqb (s .told .answer .number) done) (λ e. h) (λ e. h)
 
-  moved-split :
-      (d : Direction) (host : List ℕ) (backlog : ℕ)
-      → Split g (transferBy ops d host backlog b m .state .rest .registers) (queueNumber d)
-      (transferBy ops d host backlog b m .told .answer)
+  pub moved-split :
+      (d : Direction) (id : ℕ) (host : List ℕ) (backlog : ℕ) (t : Transferred Q)
+      → Split g (t .registers) (queueNumber d) (t .answer)
+      → let s = remembering id backlog (transferStep d host b t) in
+      Split g (s .state .rest .registers) (queueNumber d) (s .told .answer)
   unfolding transferStep
-  moved-split d host backlog =
-      let t = transferred (ops d) d backlog (b .rest) (queueFor d b) m host in
-      remembered-split (streamNumber d) backlog (transferStep d host b t) (queueNumber d)
-      (rw (with-rest d) (transferred-split (ops d) d backlog (b .rest) (queueFor d b) m host))
+  moved-split d id host backlog t h =
+      remembered-split id backlog (transferStep d host b t) (queueNumber d) (rw (with-rest d) h)
 
-  -- ---- every call
+  -- ---- registers, as calls
+
+  pub read-call : (offset width : ℕ) (m : List ℕ)
+      → Split g (readStep offset width b m .state .rest .registers) noQueue (readStep offset width b m .told .answer)
+  unfolding readStep readOf
+  read-call offset width m = read-split g (configOf (b .rest)) width (registerAt offset width)
+
+  pub write-call : (empty : Direction → Q) (offset width v : ℕ) (m : List ℕ)
+      → let s = writeBy empty offset width v b m in
+      Split g (s .state .rest .registers) noQueue (s .told .answer)
+  unfolding writeOf
+  write-call empty offset width v m = rw (affected-registers _ _) (write-split g v (registerAt offset width))
+
+-- ---- every call
+
+module _ {Q : Type 0} (ops : Direction → Ops Q) (b : Device Q) (m : List ℕ) where
+  release-split : (id : ℕ) (p : Pending) → live (g b) ≡ true → p .rest .registers .status ≡ g b .status
+      → Split (g b) (releaseBy ops id p b m .state .rest .registers) (queueNumber (directionOf id)) (releaseBy ops id p b m .told .answer)
+  unfolding releaseStep releasedOf
+  release-split id p l h =
+      let d = directionOf id in
+      let e = emptied (ops d) (releaseQueue id (p .rest)) (queueFor d b) m in
+      ended-split b l d id p h (e .mem) (e .stop) (e .signal) (e .queue)
 
   pub asked-split :
       (q : Request)
-      → Split g (asked ops q b m .state .rest .registers) (queueMet q (b .rest) m) (asked ops q b m .told .answer)
-  unfolding readStep writeStep readOf writeOf
-  asked-split (ReadRegister offset width) = read-split g (configOf (b .rest)) width (registerAt offset width)
-  asked-split (WriteRegister offset width v) =
-      rw (affected-registers _ _) (write-split g v (registerAt offset width))
-  asked-split Control = control-split
-  asked-split (Play host backlog) = moved-split output host backlog
-  asked-split (Capture host backlog) = moved-split input host backlog
+      → Split (g b) (asked ops q b m .state .rest .registers) (queueMet q (b .rest) m) (asked ops q b m .told .answer)
+  unfolding writeStep orderOf
+  asked-split (ReadRegister offset width) = read-call b offset width m
+  asked-split (WriteRegister offset width v) = write-call b (λ (d : Direction). ops d .empty) offset width v m
+  asked-split Control = control-split b served directionOf (releaseBy ops) m release-split
+  asked-split (Play host backlog) =
+      moved-split b output 0 host backlog _ (transferred-split (ops output) output backlog (b .rest) (b .play) m host)
+  asked-split (Capture host backlog) =
+      moved-split b input 1 host backlog _ (transferred-split (ops input) input backlog (b .rest) (b .capture) m host)
   asked-split (Event code data′) = event-split (b .rest) code data′ m
 
 -- an answer is 9, 11 or 12 exactly where the base answered 9

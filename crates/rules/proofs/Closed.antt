@@ -24,19 +24,19 @@ use Rattle.card.specs.declared.Jack.{Jack}
 use Rattle.card.specs.declared.Params.{Params}
 use Rattle.card.specs.declared.Stream.{Stream}
 use Rattle.rules.specs.Calls.{Control, Event, Order, Done, ReleaseFirst, Pending, Result, Tried, Ended, Further, Sent, replied, acted}
-use Rattle.rules.specs.Calls.{readMessage, controlHead, controlFound, orderOf, releasedOf, releaseStep, recorded, withConnected}
-use Rattle.rules.specs.Calls.{eventPosted, eventChain, eventHead, tried, onward, eventRun, eventFound, eventOf, ordered, asked}
-use Rattle.rules.specs.Calls.{emptied, indirect, eventRoom, eventAllowed, releaseQueue}
+use Rattle.rules.specs.Calls.{orderOf, releasedOf, releaseStep, endedOn, releaseBy, orderedBy, readMessageBy, controlHeadBy}
+use Rattle.rules.specs.Calls.{controlFoundBy, orderBy, releasedOn, Step, recorded, withConnected, eventPosted, eventChain, eventHead}
+use Rattle.rules.specs.Calls.{tried, onward, eventRun, eventFound, eventOf, asked, indirect, eventRoom, eventAllowed, releaseQueue}
+use Rattle.device.specs.Transfer.{emptied, Ops}
 use Rattle.rules.specs.Claim.{start}
 use Rattle.rules.specs.Control.{Parts, Served, Reply, Release, partsIn, passing, refusal, word, remappedTo, withDefconf, withState}
-use Rattle.rules.specs.Control.{withParams, jackIn, streamIn, noJack, information, remap, remapAt, spaced, listed, roomy, fourBits}
+use Rattle.rules.specs.Control.{withParams, jackIn, streamIn, noJack, information, remap, remapAt, spaced, listedIn, roomy, fourBits}
 use Rattle.rules.specs.Control.{layoutOf, status, judgedParams, setParams, paramsOf, setBy, moves, led, remappable, commanded}
-use Rattle.rules.specs.Control.{answerTo, answered, decodedOf, served}
-use Rattle.rules.specs.Device.{Direction, output, input, Rest, Device, queueFor, withQueue, withJacks, withControl, directionOf}
-use Rattle.rules.specs.Device.{pageOf, oneTaken, streamAt}
+use Rattle.rules.specs.Control.{decodedOf, served, informed, informBy, answerBy, answeredBy, servedBy, itemsOf}
+use Rattle.device.specs.Device.{Direction, output, input, Rest, Device, queueFor, withQueue, withJacks, withControl, directionOf, pageOf}
+use Rattle.device.specs.Device.{oneTaken, streamAt}
 use Rattle.rules.specs.Lifecycle.{transition}
-use Rattle.rules.specs.Numbers.{controlQueue, eventQueue, jackConnected, jackDisconnected, sOk, sBadMsg, sNotSupp}
-use Rattle.rules.specs.Transfer.{Ops}
+use Rattle.device.specs.Numbers.{controlQueue, eventQueue, jackConnected, jackDisconnected, sOk, sBadMsg, sNotSupp}
 use Rattle.rules.specs.declared.Asked.{Asked}
 use Rattle.rules.specs.declared.Asked.the-variants.{Information, Remap, Pcm}
 use Rattle.rules.specs.declared.Command.{Command}
@@ -44,7 +44,7 @@ use Rattle.rules.specs.declared.Command.the-variants as command
 use Rattle.rules.specs.declared.Decoded.{Decoded}
 use Rattle.rules.specs.declared.Decoded.the-variants.{Known, Unknown}
 use Rattle.rules.specs.declared.Listing.{Listing}
-use Rattle.rules.proofs.Lifecycle.{none-some}
+use Rattle.device.proofs.Cases.{none-some}
 
 -- a property of streams and jacks, kept by each change that a message or an event makes
 pub record Closed (P : List Stream → List Jack → Type 0) : Type 0 where
@@ -76,14 +76,14 @@ not-fresh c z (suc s) t h = ne-eqb (suc s) 0 (λ e. omega (arith, e))
 -- ---- a control request
 
 -- a predicate at x, shut: its arguments can be found from its type
-record Is {A : Type 0} (P : A → Type 0) (x : A) : Type 0 where
-  is : P x
+pub record Is {A : Type 0} (P : A → Type 0) (x : A) : Type 0 where
+  pub is : P x
 
 module _ (P : List Stream → List Jack → Type 0) (closed : Closed P) where
   abbrev PartsKept : Parts → Type 0
   PartsKept p = P (p .streams) (p .jacks)
 
-  abbrev RestKept : Rest → Type 0
+  abbrev pub RestKept : Rest → Type 0
   RestKept r = P (r .streams) (r .jacks)
 
   abbrev ServedKept : Parts → Served → Type 0
@@ -100,14 +100,13 @@ module _ (P : List Stream → List Jack → Type 0) (closed : Closed P) where
     pass : (ok : Bool) (code : ℕ) (go : Served) → (ok ≡ true → Kept go) → Kept (passing p ok code go)
     pass ok code go h = by-cond Kept ok {x = go} {y = refusal p code} h (λ e. refused-kept code)
 
-    information-kept : (l : Listing) (request : List ℕ) (room : ℕ) → Kept (information p l request room)
-    unfolding information
-    information-kept l request room =
+    informed-kept : (items : List (List ℕ)) (request : List ℕ) (room : ℕ) → Kept (informed p items request room)
+    informed-kept items request room =
         let start = word request 1 in
         let count = word request 2 in
         let size = word request 3 in
         pass (spaced count size) sBadMsg _
-        (λ e. pass (listed l p start count) sBadMsg _ (λ e. pass (roomy count size room) sBadMsg _ (λ e. record { is = k })))
+        (λ e. pass (listedIn items start count) sBadMsg _ (λ e. pass (roomy count size room) sBadMsg _ (λ e. record { is = k })))
 
     remap-at-kept : (id a s : ℕ) → remappable (jackIn p id) ≡ true → Kept (remapAt p id a s)
     remap-at-kept id a s f =
@@ -152,22 +151,22 @@ module _ (P : List Stream → List Jack → Type 0) (closed : Closed P) where
         let id = word request 1 in
         pass (ltb id (length (p .streams))) sBadMsg _ (λ e. led-kept c id request (transition c (streamIn p id .state)) refl)
 
-    answer-kept : (a : Asked) (request : List ℕ) (room : ℕ) → Kept (answerTo a p request room)
-    answer-kept (Information l) request room = information-kept l request room
-    answer-kept Remap request room = remap-kept request
-    answer-kept (Pcm c) request room = commanded-kept c request
+    module _ (items : Listing → Parts → List (List ℕ)) where
+      answer-kept : (a : Asked) (request : List ℕ) (room : ℕ) → Kept (answerBy (informBy items) a p request room)
+      answer-kept (Information l) request room = informed-kept (items l p) request room
+      answer-kept Remap request room = remap-kept request
+      answer-kept (Pcm c) request room = commanded-kept c request
 
-    answered-kept : (d : Decoded) (request : List ℕ) (room : ℕ) → Kept (answered d p request room)
-    answered-kept Unknown request room = refused-kept _
-    answered-kept (Known a) request room = pass (leb (layoutOf a) (length request)) sBadMsg _ (λ e. answer-kept a request room)
+      answered-kept : (d : Decoded) (request : List ℕ) (room : ℕ) → Kept (answeredBy (informBy items) d p request room)
+      answered-kept Unknown request room = refused-kept _
+      answered-kept (Known a) request room = pass (leb (layoutOf a) (length request)) sBadMsg _ (λ e. answer-kept a request room)
 
-    served-kept : (request : List ℕ) (room : ℕ) → Kept (served p request room)
-    unfolding served
-    served-kept request room = answered-kept (decodedOf (word request 0)) request room
+      served-kept : (request : List ℕ) (room : ℕ) → Kept (servedBy (informBy items) p request room)
+      served-kept request room = answered-kept (decodedOf (word request 0)) request room
 
   -- ---- the control call
 
-  abbrev OrderKept : Order → Type 0
+  abbrev pub OrderKept : Order → Type 0
   OrderKept (Done o) = RestKept (o .rest)
   OrderKept (ReleaseFirst id p) = RestKept (p .rest) × (eqb (streamAt (p .rest) id .state) freshState ≡ false)
 
@@ -181,43 +180,47 @@ module _ (P : List Stream → List Jack → Type 0) (closed : Closed P) where
   acted-kept (Reply parts bytes) p m k h = record { is = h .is }
   acted-kept (Release id) p m k h = record { is = (k, h .is) }
 
-  message-kept : (r : Rest) (m : List ℕ) (head : ℕ) (o : Outcome) → RestKept r → Is OrderKept (readMessage r m head o)
-  message-kept r m head (faulted f) k = replied-kept (record { rest = r; head = head; reply = [] }) [] m k
-  message-kept r m head (whole request reply) k =
-      let p : Pending = record { rest = r; head = head; reply = reply } in
-      let asked = bytesAt m (places request) in
-      by-cond (Is OrderKept) (allInside (length m) reply && leb 4 (total reply))
-      (λ e.
-      by-cond (Is OrderKept) (allInside (length m) request && leb 4 (total request))
-      (λ e. acted-kept (served (partsIn r) asked (total reply)) p m k (served-kept (partsIn r) k asked (total reply)))
-      (λ e. replied-kept p (status sBadMsg) m k)) (λ e. replied-kept p [] m k)
+  -- whatever the items of information requests
+  module _ (items : Listing → Parts → List (List ℕ)) where
+    abbrev serve : Parts → List ℕ → ℕ → Served
+    serve = servedBy (informBy items)
 
-  head-kept : (r : Rest) (m : List ℕ) (h : Head) → RestKept r → Is OrderKept (controlHead r m h)
-  head-kept r m (Head.At n) k =
-      message-kept (withControl (oneTaken (r .control)) r) m (n .0)
-      (walkOf m (baseOf (pageOf r controlQueue)) (sizeOf controlQueue) (n .0) (indirect r)) k
-  head-kept r m (Head.Broken cause) k = record { is = k }
+    message-kept : (r : Rest) (m : List ℕ) (head : ℕ) (o : Outcome) → RestKept r → Is OrderKept (readMessageBy serve r m head o)
+    message-kept r m head (faulted f) k = replied-kept (record { rest = r; head = head; reply = [] }) [] m k
+    message-kept r m head (whole request reply) k =
+        let p : Pending = record { rest = r; head = head; reply = reply } in
+        let asked = bytesAt m (places request) in
+        by-cond (Is OrderKept) (allInside (length m) reply && leb 4 (total reply))
+        (λ e.
+        by-cond (Is OrderKept) (allInside (length m) request && leb 4 (total request))
+        (λ e. acted-kept (serve (partsIn r) asked (total reply)) p m k (served-kept (partsIn r) k items asked (total reply)))
+        (λ e. replied-kept p (status sBadMsg) m k)) (λ e. replied-kept p [] m k)
 
-  found-kept : (r : Rest) (m : List ℕ) (c : Check) → RestKept r → Is OrderKept (controlFound r m c)
-  found-kept r m Check.Idle k = record { is = k }
-  found-kept r m (Check.Broken cause) k = record { is = k }
-  found-kept r m (Check.New zero) k = record { is = k }
-  found-kept r m (Check.New (suc n)) k = head-kept r m (headOf m (pageOf r controlQueue) (sizeOf controlQueue) (r .control .taken)) k
+    head-kept : (r : Rest) (m : List ℕ) (h : Head) → RestKept r → Is OrderKept (controlHeadBy serve r m h)
+    head-kept r m (Head.At n) k =
+        message-kept (withControl (oneTaken (r .control)) r) m (n .0)
+        (walkOf m (baseOf (pageOf r controlQueue)) (sizeOf controlQueue) (n .0) (indirect r)) k
+    head-kept r m (Head.Broken cause) k = record { is = k }
 
-  order-kept : (r : Rest) (m : List ℕ) → RestKept r → Is OrderKept (orderOf r m)
-  unfolding orderOf
-  order-kept r m k =
-      by-cond (Is OrderKept) (eqb (length m) (r .ram))
-      (λ e.
-      by-cond (Is OrderKept) (live (r .registers))
-      (λ e. found-kept r m (checkOf m (pageOf r controlQueue) (sizeOf controlQueue) (r .control .taken) 0) k) (λ e. record { is = k }))
-      (λ e. record { is = k })
+    found-kept : (r : Rest) (m : List ℕ) (c : Check) → RestKept r → Is OrderKept (controlFoundBy serve r m c)
+    found-kept r m Check.Idle k = record { is = k }
+    found-kept r m (Check.Broken cause) k = record { is = k }
+    found-kept r m (Check.New zero) k = record { is = k }
+    found-kept r m (Check.New (suc n)) k = head-kept r m (headOf m (pageOf r controlQueue) (sizeOf controlQueue) (r .control .taken)) k
 
-  released-kept : (id : ℕ) (p : Pending) (m : List ℕ) (s : Stop) (signal : Bool) → OrderKept (ReleaseFirst id p)
-      → RestKept (releasedOf id p m s signal .rest)
-  unfolding releasedOf replied
-  released-kept id p m Stop.Going signal k = closed .moved (p .rest .streams) (p .rest .jacks) id releasedState (k .1) (k .0)
-  released-kept id p m (Stop.Broke cause) signal k = k .0
+    pub order-kept : (r : Rest) (m : List ℕ) → RestKept r → Is OrderKept (orderBy serve r m)
+    order-kept r m k =
+        by-cond (Is OrderKept) (eqb (length m) (r .ram))
+        (λ e.
+        by-cond (Is OrderKept) (live (r .registers))
+        (λ e. found-kept r m (checkOf m (pageOf r controlQueue) (sizeOf controlQueue) (r .control .taken) 0) k) (λ e. record { is = k }))
+        (λ e. record { is = k })
+
+  released-kept : (d : Direction) (id : ℕ) (p : Pending) (m : List ℕ) (s : Stop) (signal : Bool) → OrderKept (ReleaseFirst id p)
+      → RestKept (releasedOn d id p m s signal .rest)
+  unfolding replied
+  released-kept d id p m Stop.Going signal k = closed .moved (p .rest .streams) (p .rest .jacks) id releasedState (k .1) (k .0)
+  released-kept d id p m (Stop.Broke cause) signal k = k .0
 
   -- ---- events
 
@@ -270,7 +273,7 @@ module _ (P : List Stream → List Jack → Type 0) (closed : Closed P) where
     event-found-kept r m (Check.Broken cause) k = record { is = k }
     event-found-kept r m (Check.New n) k = run-kept n r m k
 
-    event-kept : (r : Rest) (m : List ℕ) → RestKept r → Is ResultKept (eventOf r code data′ m)
+    pub event-kept : (r : Rest) (m : List ℕ) → RestKept r → Is ResultKept (eventOf r code data′ m)
     unfolding eventOf
     event-kept r m k =
         let found = checkOf m (pageOf r eventQueue) (sizeOf eventQueue) (r .event .taken) 0 in
@@ -284,22 +287,37 @@ module _ (P : List Stream → List Jack → Type 0) (closed : Closed P) where
 
   -- ---- whole calls
 
-  module _ {Q : Type 0} (ops : Direction → Ops Q) where
+  module _ {Q : Type 0} where
     queue-kept : (d : Direction) (r : Rest) (q : Q) (b : Device Q) → RestKept r → RestKept (withQueue d r q b .rest)
     queue-kept output r q b k = k
     queue-kept input r q b k = k
 
-    ordered-kept : (o : Order) (b : Device Q) (m : List ℕ) → Is OrderKept o → RestKept (ordered ops o b m .state .rest)
-    unfolding releaseStep
-    ordered-kept (Done o) b m k = k .is
-    ordered-kept (ReleaseFirst id p) b m k =
+    pub ended-kept : (d : Direction) (id : ℕ) (p : Pending) (m : List ℕ) (s : Stop) (signal : Bool) (q : Q) (b : Device Q)
+        → OrderKept (ReleaseFirst id p)
+        → RestKept (endedOn d (releasedOn d id p m s signal) q b .state .rest)
+    ended-kept d id p m s signal q b k = queue-kept d (releasedOn d id p m s signal .rest) q b (released-kept d id p m s signal k)
+
+    pub ordered-kept : (release : ℕ → Pending → Device Q → List ℕ → Step (Device Q)) (b : Device Q) (m : List ℕ)
+        → ((id : ℕ) (p : Pending) → OrderKept (ReleaseFirst id p) → RestKept (release id p b m .state .rest))
+        → (o : Order)
+        → Is OrderKept o
+        → RestKept (orderedBy release o b m .state .rest)
+    ordered-kept release b m h (Done o) k = k .is
+    ordered-kept release b m h (ReleaseFirst id p) k = h id p (k .is)
+
+  module _ {Q : Type 0} (ops : Direction → Ops Q) where
+    release-kept : (b : Device Q) (m : List ℕ) (id : ℕ) (p : Pending) → OrderKept (ReleaseFirst id p)
+        → RestKept (releaseBy ops id p b m .state .rest)
+    unfolding releaseStep releasedOf
+    release-kept b m id p k =
         let d = directionOf id in
         let e = emptied (ops d) (releaseQueue id (p .rest)) (queueFor d b) m in
-        queue-kept d (releasedOf id p (e .mem) (e .stop) (e .signal) .rest) (e .queue) b
-        (released-kept id p (e .mem) (e .stop) (e .signal) (k .is))
+        ended-kept d id p (e .mem) (e .stop) (e .signal) (e .queue) b k
 
     pub control-kept : (b : Device Q) (m : List ℕ) → RestKept (b .rest) → RestKept (asked ops Control b m .state .rest)
-    control-kept b m k = ordered-kept (orderOf (b .rest) m) b m (order-kept (b .rest) m k)
+    unfolding orderOf served information
+    control-kept b m k =
+        ordered-kept (releaseBy ops) b m (release-kept b m) (orderOf (b .rest) m) (order-kept itemsOf (b .rest) m k)
 
     pub sent-kept : (code data′ : ℕ) (b : Device Q) (m : List ℕ)
         → RestKept (b .rest)

@@ -1,12 +1,13 @@
 -- The lifecycle's table and the list of its twelve steps say the same: each place of the table is looked at, and each step of the list.
-use mathlib.Core.Path.{_≡_, refl, sym, _∙_, ap}
+use mathlib.Core.Path.{_≡_, refl, sym, ap}
 use mathlib.Core.List.{List, [], _∷_}
-use mathlib.Core.Logic.{_⊎_, inl, inr}
+use mathlib.Core.Logic.{inl, inr}
 use mathlib.Core.Option.{Option, none, some}
 use Prim.Native.Nat.{ℕ, zero, suc, _<_}
 use native.Mathlib.Omega.{arith}
 use lib.ListN.{length, getD}
 use Rattle.rules.specs.Lifecycle.{transition, Step, step, lawfulSteps, Among, Lifecycle}
+use Rattle.device.proofs.Cases.{none-some}
 use Rattle.rules.specs.declared.Command.{Command}
 use Rattle.rules.specs.declared.Command.the-variants.{SetParams, Prepare, Start, Stop, Release}
 
@@ -19,12 +20,6 @@ valueOr d (some v) = v
 some-same : (a b : ℕ) → some a ≡ some b → a ≡ b
 unfolding valueOr
 some-same a b h = ap (valueOr 0) h
-
-pub none-some : (t : ℕ) → none ≡ some t → ⊥
-unfolding valueOr
-none-some t h =
-    let z : suc t ≡ t = ap (valueOr (suc t)) h in
-    omega (arith, z)
 
 -- ---- lists
 

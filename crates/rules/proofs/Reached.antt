@@ -20,14 +20,16 @@ use Rattle.card.specs.declared.Params.{Params}
 use Rattle.card.specs.declared.Stream.{Stream}
 use Rattle.rules.specs.Calls.{Request, ReadRegister, WriteRegister, Control, Play, Capture, Event, Call, transferStep, readStep}
 use Rattle.rules.specs.Calls.{writeStep, affectedRest, withConnected, asked, step, rememberedIf, remembering, transferred}
-use Rattle.rules.specs.Claim.{start, after}
+use Rattle.rules.specs.Claim.{start, after, restAtPower}
 use Rattle.rules.specs.Control.{need, remappedTo, withDefconf, withBacklog, noJack, judgedParams, remappable}
-use Rattle.rules.specs.Device.{Direction, output, input, Rest, Device, withRegisters, streamAt}
-use Rattle.rules.specs.Numbers.{sOk, sBadMsg}
-use Rattle.rules.specs.Reached.{Each, Accepted, Described, Reached}
-use Rattle.rules.specs.Transfer.{Ops}
+use Rattle.device.specs.Device.{Direction, output, input, Rest, Device, withRegisters, streamAt}
+use Rattle.device.specs.Numbers.{sOk, sBadMsg}
+use Rattle.device.specs.Account.{Each}
+use Rattle.rules.specs.Reached.{Accepted, Described, Reached}
+use Rattle.device.specs.Transfer.{Ops}
 use Rattle.rules.specs.declared.Command.the-variants as command
 use Rattle.rules.proofs.Closed.{Closed, control-kept, sent-kept}
+use Rattle.rules.proofs.Along.{along-keeps}
 
 -- ---- lists
 
@@ -85,7 +87,7 @@ zero-padding i p padding e = past (eqb padding 0) _ e
 
 -- ---- control messages and events
 
-abbrev KeptAs : List Stream → List Jack → Type 0
+abbrev pub KeptAs : List Stream → List Jack → Type 0
 KeptAs ss js = Each Accepted ss × Each Described js
 
 stream-accepted : (ss : List Stream) (id : ℕ) → Each Accepted ss → Accepted (getD ss id noStream)
@@ -94,7 +96,7 @@ stream-accepted ss id k = each-get Accepted ss id noStream (fresh-accepted _) k
 jack-described : (js : List Jack) (id : ℕ) → Each Described js → Described (getD js id noJack)
 jack-described js id k = each-get Described js id noJack (power-described _) k
 
-closed-reached : Closed KeptAs
+pub closed-reached : Closed KeptAs
 closed-reached =
     record {
       remapped =
@@ -111,7 +113,7 @@ closed-reached =
 
 -- ---- the backlog
 
-remembered-kept : (x : Bool) (id backlog : ℕ) (r : Rest) → Reached r → Reached (rememberedIf x id backlog r)
+pub remembered-kept : (x : Bool) (id backlog : ℕ) (r : Rest) → Reached r → Reached (rememberedIf x id backlog r)
 remembered-kept true id backlog r k = (
   each-set Accepted (r .streams) id (withBacklog backlog (streamAt r id)) (stream-accepted (r .streams) id (k .0)) (k .0),
   k .1,
@@ -120,12 +122,19 @@ remembered-kept false id backlog r k = k
 
 -- ---- any call
 
-affected-kept : (e : Effect) (r : Rest) → Reached r → Reached (affectedRest e r)
+pub affected-kept : (e : Effect) (r : Rest) → Reached r → Reached (affectedRest e r)
 affected-kept Nothing r k = k
 affected-kept Reset r k =
     (each-map Accepted streamReset (λ s. fresh-accepted (s .info)) (r .streams), each-map Described jackReset reset-described (r .jacks))
 affected-kept (Based q) r k = k
 affected-kept (Rung q) r k = k
+
+pub power-reached : (d : Description) (len : ℕ) → Reached (restAtPower d len)
+power-reached d len = (
+  each-take Accepted (d .«output_count» + d .«input_count») (map freshStream (d .streams))
+      (each-map Accepted freshStream fresh-accepted (d .streams)),
+  each-take Described (d .«jack_count») (map jackAtPower (d .jacks)) (each-map Described jackAtPower power-described (d .jacks)),
+)
 
 module _ {Q : Type 0} (ops : Direction → Ops Q) where
   asked-kept : (q : Request) (b : Device Q) (m : List ℕ) → Reached (b .rest) → Reached (asked ops q b m .state .rest)
@@ -148,16 +157,8 @@ module _ {Q : Type 0} (ops : Direction → Ops Q) where
 
   pub after-reached : (b : Device Q) (cs : List Call) → Reached (b .rest) → Reached (after ops b cs .rest)
   unfolding after
-  after-reached b [] k = k
-  after-reached b (c ∷ cs) k = after-reached (step ops b c .state) cs (step-reached b c k)
-
-  pub start-reached : (d : Description) (len : ℕ) → Reached (start ops d len .rest)
-  start-reached d len = (
-    each-take Accepted (d .«output_count» + d .«input_count») (map freshStream (d .streams))
-        (each-map Accepted freshStream fresh-accepted (d .streams)),
-    each-take Described (d .«jack_count») (map jackAtPower (d .jacks)) (each-map Described jackAtPower power-described (d .jacks)),
-  )
+  after-reached b cs k = along-keeps (step ops) (λ (b : Device Q). Reached (b .rest)) step-reached b cs k
 
   -- of any list of calls from power-up
   pub reached : (d : Description) (len : ℕ) (cs : List Call) → Reached (after ops (start ops d len) cs .rest)
-  reached d len cs = after-reached (start ops d len) cs (start-reached d len)
+  reached d len cs = after-reached (start ops d len) cs (power-reached d len)

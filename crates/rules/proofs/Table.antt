@@ -15,14 +15,14 @@ use Rattle.ring.specs.Rules.{baseOf, newOf, entriesOf, foundOf, checkOf, headAt
 use Rattle.ring.specs.declared.Cause.{Cause}
 use Rattle.ring.specs.declared.Check.{Check}
 use Rattle.ring.specs.declared.Head.{Head}
-use Rattle.rules.specs.Calls.{Order, ReleaseFirst, Pending, controlHead, controlFound, orderOf, releaseQueue, emptiedFound, emptied}
-use Rattle.rules.specs.Calls.{releasedOf, releaseStep, ordered}
+use Rattle.rules.specs.Calls.{Order, ReleaseFirst, Pending, controlHead, controlFound, orderOf, releaseQueue, releasedOf, releaseStep}
+use Rattle.rules.specs.Calls.{ordered}
+use Rattle.device.specs.Transfer.{emptiedFound, emptied, found}
 use Rattle.rules.specs.Control.{served, decodedOf, information, remap, judgedParams}
-use Rattle.rules.specs.Counters.{isNone, countersOf}
-use Rattle.rules.specs.Device.{output, Virtqueue, Message, Queue, Device, pageOf, bytesOf}
-use Rattle.rules.specs.Numbers.{controlQueue, playQueue}
+use Rattle.device.specs.Counters.{isNone, countersOf}
+use Rattle.device.specs.Device.{output, Virtqueue, Message, Queue, Device, pageOf, bytesOf}
+use Rattle.device.specs.Numbers.{controlQueue, playQueue}
 use Rattle.rules.specs.Table.{Table, finds, Controls, controlled, named, endsAt, newFor, headFor}
-use Rattle.rules.specs.Transfer.{found}
 
 -- with its region inside memory, the number of entries decides what is found
 pub entries-decide : (index : ℕ) (work : Option Message) → finds index work (entriesOf 256 (newOf index 10) (cond (isNone work) 0 1))

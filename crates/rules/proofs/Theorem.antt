@@ -1,20 +1,20 @@
 -- For every list of calls the card's answers, counts, bytes, host buffers and memories are the account's, and what is
 -- claimed of the account's histories holds. The laws about runs start from any good state, so that they serve a resumed card too.
-use mathlib.Core.Path.{_≡_, refl, ap}
+use mathlib.Core.Path.{_≡_, refl}
 use mathlib.Core.Bool.{cond}
-use mathlib.Core.List.{List, [], _∷_, _++_}
+use mathlib.Core.List.{List, [], _++_}
 use Prim.Native.Nat.{ℕ, _+_}
-use lib.ListN.{length, length-append, length-map}
+use lib.ListN.{length, length-map}
 use Rattle.description.specs.declared.Description.{Description}
 use Rattle.rules.specs.Calls.{Request, ReadRegister, WriteRegister, Control, Play, Capture, Event, Call, transferStep, remembering}
 use Rattle.rules.specs.Calls.{asked, step}
-use Rattle.rules.specs.Claim.{start, toldBy, after, clears, bytesFor, countFor, heard, counted, Good, queueOf, shownAs, card, account}
-use Rattle.rules.specs.Claim.{Holds}
-use Rattle.rules.specs.Device.{Direction, output, input, Device, queueFor}
-use Rattle.rules.specs.Histories.{History}
+use Rattle.rules.specs.Claim.{start, toldBy, after, clears, bytesFor, countFor, heard, counted, shownAs, Holds}
+use Rattle.device.specs.Claim.{Good, queueOf, card, account}
+use Rattle.device.specs.Device.{Direction, output, input, Device, queueFor, Queue}
+use Rattle.device.specs.Histories.{History}
 use Rattle.rules.proofs.Calls.{low, asked-same, asked-keeps}
-use Rattle.rules.proofs.Cases.{by-cond₂}
-use Rattle.rules.proofs.Histories.{alike}
+use Rattle.device.proofs.Histories.{alike}
+use Rattle.rules.proofs.Along.{told-alike, after-alike, thenAlong, keeps-along, gathered-then, gathered-count}
 
 -- ---- one call
 
@@ -35,38 +35,38 @@ module _ (w : Direction → List ℕ) (b : Device History) (c : Call) (g : Goods
 
 -- ---- any list of calls, from any good state
 
-pub run-told :
-    (cs : List Call) (w : Direction → List ℕ) (b : Device History)
-    → Goods w b
-    → toldBy card (shownAs queueOf b) cs ≡ toldBy account b cs
-unfolding toldBy low
-run-told [] w b g = refl
-run-told (c ∷ cs) w b g =
-    rw (step-same w b c g)
-    (ap (λ r. step account b c .told ∷ r) (run-told cs (then w b c) (step account b c .state) (step-keeps w b c g)))
+shown-same : (w : Direction → List ℕ) (b : Device History) (c : Call) → Goods w b
+    → step card (shownAs queueOf b) c ≡ record { state = shownAs queueOf (step account b c .state); told = step account b c .told }
+unfolding low
+shown-same w b c g = step-same w b c g
 
-pub run-stands :
-    (cs : List Call) (w : Direction → List ℕ) (b : Device History)
-    → Goods w b
-    → after card (shownAs queueOf b) cs ≡ shownAs queueOf (after account b cs)
-unfolding after low
-run-stands [] w b g = refl
-run-stands (c ∷ cs) w b g = rw (step-same w b c g) (run-stands cs (then w b c) (step account b c .state) (step-keeps w b c g))
+module _ (cs : List Call) (w : Direction → List ℕ) (b : Device History) (g : Goods w b) where
+  pub run-told : toldBy card (shownAs queueOf b) cs ≡ toldBy account b cs
+  unfolding toldBy
+  run-told = told-alike (step account) (step card) (shownAs queueOf) Goods then shown-same step-keeps cs w b g
 
-pub run-good :
-    (cs : List Call) (w : Direction → List ℕ) (b : Device History)
-    → Goods w b
-    → (d : Direction)
-    → Good d (heard card d (w d) (shownAs queueOf b) cs) (queueFor d (after account b cs))
-unfolding after heard low
-run-good [] w b g d = g d
-run-good (c ∷ cs) w b g d = rw (step-same w b c g) (run-good cs (then w b c) (step account b c .state) (step-keeps w b c g) d)
+  pub run-stands : after card (shownAs queueOf b) cs ≡ shownAs queueOf (after account b cs)
+  unfolding after
+  run-stands = after-alike (step account) (step card) (shownAs queueOf) Goods then shown-same step-keeps cs w b g
+
+  module _ (d : Direction) where
+    said-heard : thenAlong (step account) (step card) (shownAs queueOf) Goods then shown-same step-keeps w b cs d
+        ≡ heard card d (w d) (shownAs queueOf b) cs
+    unfolding heard
+    said-heard =
+        gathered-then (step account) (step card) (shownAs queueOf) Goods then shown-same step-keeps (λ (w : Direction → List ℕ). w d) _ _ _
+        (λ w b c. refl) cs w b g
+
+    pub run-good : Good d (heard card d (w d) (shownAs queueOf b) cs) (queueFor d (after account b cs))
+    unfolding after
+    run-good =
+        rw (← said-heard) (keeps-along (step account) (step card) (shownAs queueOf) Goods then shown-same step-keeps cs w b g d)
 
 -- ---- counts: a transfer's count is the number of its bytes
 
 asked-counts :
-    (d : Direction) (q : Request) (b : Device History) (m : List ℕ)
-    → countFor d q (asked account q b m .told) ≡ length (bytesFor d q (asked account q b m .told))
+    (d : Direction) (q : Request) (b : Device Queue) (m : List ℕ)
+    → countFor d q (asked card q b m .told) ≡ length (bytesFor d q (asked card q b m .told))
 unfolding transferStep remembering
 asked-counts d (ReadRegister offset width) b m = refl
 asked-counts d (WriteRegister offset width v) b m = refl
@@ -82,13 +82,10 @@ pub run-count :
     → Goods w b
     → (d : Direction)
     → counted card d (length (w d)) (shownAs queueOf b) cs ≡ length (heard card d (w d) (shownAs queueOf b) cs)
-unfolding heard counted low
-run-count [] w b g d = refl
-run-count (c ∷ cs) w b g d =
-    let l : cond (clears d (c .asked) (b .rest)) 0 (length (w d) + countFor d (c .asked) (step account b c .told)) ≡ length (then w b c d) =
-    by-cond₂ (λ (n : ℕ) (l : List ℕ). n ≡ length l) (clears d (c .asked) (b .rest)) (λ e. refl)
-    (λ e. rw (asked-counts d (c .asked) b (c .lent), length-append)) in
-    rw (step-same w b c g, l) (run-count cs (then w b c) (step account b c .state) (step-keeps w b c g) d)
+unfolding heard counted
+run-count cs w b g d =
+    gathered-count (step card) (λ (b : Device Queue) (c : Call). clears d (c .asked) (b .rest)) (λ (c : Call). countFor d (c .asked))
+    (λ (c : Call). bytesFor d (c .asked)) (λ b c. asked-counts d (c .asked) b (c .lent)) cs (w d) (shownAs queueOf b)
 
 -- ---- THE THEOREM
 

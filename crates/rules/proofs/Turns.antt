@@ -18,24 +18,23 @@ use Rattle.registers.specs.declared.answers.Answer.{Answer}
 use Rattle.ring.specs.declared.Cause.{Cause}
 use Rattle.ring.specs.declared.Check.{Check}
 use Rattle.ring.specs.declared.Stop.{Stop}
-use Rattle.rules.specs.Account.{takingAt, entryAt, entriesWritten, Answered, AnsweredBy, Adds, ifNew, ordersRelease, addsBy}
-use Rattle.rules.specs.Account.{startsAnew, releaseReplied, Turn, Book, end}
+use Rattle.rules.specs.Account.{ifNew, ordersRelease, addsBy, startsAnew, releaseReplied, Turn}
+use Rattle.device.specs.Account.{takingAt, entryAt, entriesWritten, Answered, AnsweredBy, Adds, Book, end}
 use Rattle.rules.specs.Calls.{Request, ReadRegister, WriteRegister, Control, Play, Capture, Event, Call, Told, Order, Done}
-use Rattle.rules.specs.Calls.{ReleaseFirst, Pending, Emptied, emptiedFound, emptied, virtqueueOf, releaseQueue, clearsQueue, orderOf}
-use Rattle.rules.specs.Calls.{replied, releasedOf, Transferred, untouched, isRunning, transferFound, transferred, readStep, writeStep}
-use Rattle.rules.specs.Calls.{releaseStep, transferStep, remembering, ordered, asked}
-use Rattle.rules.specs.Claim.{Good, clears, account}
-use Rattle.rules.specs.Device.{output, Virtqueue, Taking, Ending, finished, released, Rest, Device, pageOf, bytesOf}
-use Rattle.rules.specs.Histories.{Entry, History, blank, number}
-use Rattle.rules.specs.Numbers.{playQueue}
-use Rattle.rules.specs.Transfer.{Run, found}
+use Rattle.rules.specs.Calls.{ReleaseFirst, Pending, virtqueueOf, releaseQueue, clearsQueue, orderOf, replied, releasedOf, untouched}
+use Rattle.rules.specs.Calls.{isRunning, transferFound, transferred, readStep, writeStep, releaseStep, transferStep, remembering}
+use Rattle.rules.specs.Calls.{ordered, asked, releasedOn}
+use Rattle.device.specs.Transfer.{Emptied, emptiedFound, emptied, Transferred, Run, found}
+use Rattle.rules.specs.Claim.{clears}
+use Rattle.device.specs.Claim.{Good, account}
+use Rattle.device.specs.Device.{output, Virtqueue, Taking, Ending, finished, released, Rest, Device, pageOf, bytesOf, Direction}
+use Rattle.device.specs.Histories.{Entry, History, blank, number}
+use Rattle.device.specs.Numbers.{playQueue}
 use Rattle.rules.proofs.Anew.{anew-clears}
-use Rattle.rules.proofs.Runs.{Well, Waits, Fair, play-fair, play-waits, release-fair, release-ends}
+use Rattle.device.proofs.Cases.{none-some}
+use Rattle.device.proofs.Runs.{Well, Waits, Fair, play-fair, play-waits, release-fair, release-ends}
 
 -- a call that adds nothing is none that adds, and a play is no Release
-none-some : (e : Ending) → _≡_ {A = Option Ending} none (some e) → ⊥
-none-some e p = let z : _≡_ {A = ℕ} 0 1 = cc in omega arith
-
 finished-released : _≡_ {A = Option Ending} (some finished) (some released) → ⊥
 finished-released p = let z : _≡_ {A = ℕ} 0 1 = cc in omega arith
 
@@ -167,15 +166,16 @@ module _ (w : List ℕ) (h : History) (g : Good output w h) (b : Book h) where
 -- ---- whole calls
 
 -- the memory that a Release leaves, by whether its queue broke
-release-memory :
-    (p : Pending) (m : List ℕ) (stop : Stop) (signal : Bool)
-    → releasedOf 0 p m stop signal .mem ≡ cond (eqb (releasedOf 0 p m stop signal .answer .number) done) (releaseReplied p m) m
-unfolding releasedOf replied bytesOf sizeOf signalled
-release-memory p m Stop.Going true = refl
-release-memory p m Stop.Going false = refl
-release-memory p m (Stop.Broke Cause.Region) signal = refl
-release-memory p m (Stop.Broke Cause.Entries) signal = refl
-release-memory p m (Stop.Broke Cause.Head) signal = refl
+pub release-memory :
+    (d : Direction) (id : ℕ) (p : Pending) (m : List ℕ) (stop : Stop) (signal : Bool)
+    → let o = releasedOn d id p m stop signal in
+    o .mem ≡ cond (eqb (o .answer .number) done) (releaseReplied p m) m
+unfolding replied bytesOf sizeOf signalled
+release-memory d id p m Stop.Going true = refl
+release-memory d id p m Stop.Going false = refl
+release-memory d id p m (Stop.Broke Cause.Region) signal = refl
+release-memory d id p m (Stop.Broke Cause.Entries) signal = refl
+release-memory d id p m (Stop.Broke Cause.Head) signal = refl
 
 play-no-release : (x : Bool) (c : Check) → cond x (ifNew finished c) none ≡ some released → ⊥
 play-no-release true c e = play-or-none c e
@@ -263,12 +263,12 @@ module _ (w : List ℕ) (b : Device History) (g : Good output w (b .play)) (k : 
       let x : List ℕ = entriesWritten (pageOf (p .rest) playQueue) h (s .state .play) m in
       Adds (releaseQueue 0 (p .rest)) released m h (s .state .play) []
       × (s .told .memory ≡ cond (eqb (s .told .answer .number) done) (releaseReplied p x) x)
-  unfolding releaseStep
+  unfolding releaseStep releasedOf
   released-turn p o e =
       let q = given w h g k p m in
       let a = q .adds (rw o at e) in
       let l = emptied (account output) (releaseQueue 0 (p .rest)) h m in
-      rw o (a .0, release-memory p (l .mem) (l .stop) (l .signal) ∙ rw (a .1))
+      rw o (a .0, release-memory output 0 p (l .mem) (l .stop) (l .signal) ∙ rw (a .1))
 
   write-anew : (offset width v : ℕ) → clearsQueue output (writeOf (b .rest .registers) offset width v .effect)
       ≡ startsAnew (WriteRegister offset width v) (b .rest)

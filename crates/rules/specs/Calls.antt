@@ -28,14 +28,14 @@ use Rattle.ring.specs.declared.Stop.{Stop}
 use Rattle.card.specs.Card.{noCounters, runningState, releasedState}
 use Rattle.card.specs.Rules.{jackReset, streamReset, rungOf}
 use Rattle.card.specs.declared.Jack.{Jack}
-use Rattle.rules.specs.Answers.{brokenAnswer, byStop, answerBy, brokenBy}
-use Rattle.rules.specs.Control.{Served, Reply, Release, served, partsIn, withParts, status, noJack, withState, withBacklog}
+use Rattle.device.specs.Answers.{brokenAnswer, byStop}
+use Rattle.rules.specs.Control.{Parts, Served, Reply, Release, served, partsIn, withParts, status, noJack, withState, withBacklog}
 use Rattle.rules.specs.Control.{withStream}
-use Rattle.rules.specs.Device.{Direction, output, input, streamNumber, queueNumber, directionOf, Virtqueue, Rest, Device, queueFor}
-use Rattle.rules.specs.Device.{withQueue, withRegisters, withJacks, withControl, withEvent, pageOf, streamAt, signalledIf, oneTaken}
-use Rattle.rules.specs.Device.{oneCompleted, bytesOf}
-use Rattle.rules.specs.Numbers.{controlQueue, eventQueue, jackConnected, jackDisconnected, pcmXrun, sOk, sBadMsg}
-use Rattle.rules.specs.Transfer.{Ops, Run, begun, transferRun, releaseRun, found}
+use Rattle.device.specs.Device.{Direction, output, input, streamNumber, queueNumber, directionOf, Virtqueue, Rest, Device, queueFor}
+use Rattle.device.specs.Device.{withQueue, withRegisters, withJacks, withControl, withEvent, pageOf, streamAt, signalledIf, oneTaken}
+use Rattle.device.specs.Device.{oneCompleted, bytesOf}
+use Rattle.device.specs.Numbers.{controlQueue, eventQueue, jackConnected, jackDisconnected, pcmXrun, sOk, sBadMsg}
+use Rattle.device.specs.Transfer.{Ops, begun, transferRun, found, Emptied, emptied, Transferred, transferredBy}
 
 -- ---- calls, and what their callers are told
 
@@ -181,85 +181,63 @@ abbrev pub acted : Served → Pending → List ℕ → Order
 acted (Reply parts bytes) p m = Done (replied (withRest (withParts parts (p .rest)) p) bytes m)
 acted (Release id) p m = ReleaseFirst id p
 
--- "Walk fault, writable range outside RAM, or reply under 4 bytes: length 0, nothing written. Then readable outside RAM or
--- request under 4: BAD_MSG."
+-- by what a request comes to
+module _ (serve : Parts → List ℕ → ℕ → Served) where
+  -- "Walk fault, writable range outside RAM, or reply under 4 bytes: length 0, nothing written. Then readable outside RAM or
+  -- request under 4: BAD_MSG."
+  abbrev pub readMessageBy : Rest → List ℕ → ℕ → Outcome → Order
+  readMessageBy r m head (faulted f) = Done (replied (record { rest = r; head = head; reply = [] }) [] m)
+  readMessageBy r m head (whole request reply) =
+      let p : Pending = record { rest = r; head = head; reply = reply } in
+      cond (allInside (length m) reply && leb 4 (total reply))
+      (cond (allInside (length m) request && leb 4 (total request))
+      (acted (serve (partsIn r) (bytesAt m (places request)) (total reply)) p m)
+      (Done (replied p (status sBadMsg) m)))
+      (Done (replied p [] m))
+
+  abbrev pub controlHeadBy : Rest → List ℕ → Head → Order
+  controlHeadBy r m (Head.At n) =
+      readMessageBy (withControl (oneTaken (r .control)) r) m (n .0)
+      (walkOf m (baseOf (pageOf r controlQueue)) (sizeOf controlQueue) (n .0) (indirect r))
+  controlHeadBy r m (Head.Broken cause) = Done (broke controlQueue cause r m)
+
+  abbrev pub controlFoundBy : Rest → List ℕ → Check → Order
+  controlFoundBy r m Check.Idle = Done (refused done r m)
+  controlFoundBy r m (Check.Broken cause) = Done (broke controlQueue cause r m)
+  controlFoundBy r m (Check.New zero) = Done (refused done r m)
+  controlFoundBy r m (Check.New (suc n)) = controlHeadBy r m (headOf m (pageOf r controlQueue) (sizeOf controlQueue) (r .control .taken))
+
+  -- "Control: 1, 5, 9."
+  abbrev pub orderBy : Rest → List ℕ → Order
+  orderBy r m =
+      admitted r m (λ answer. Done (refused answer r m))
+      (controlFoundBy r m (checkOf m (pageOf r controlQueue) (sizeOf controlQueue) (r .control .taken) 0))
+
 abbrev pub readMessage : Rest → List ℕ → ℕ → Outcome → Order
-readMessage r m head (faulted f) = Done (replied (record { rest = r; head = head; reply = [] }) [] m)
-readMessage r m head (whole request reply) =
-    let p : Pending = record { rest = r; head = head; reply = reply } in
-    cond (allInside (length m) reply && leb 4 (total reply))
-    (cond (allInside (length m) request && leb 4 (total request))
-    (acted (served (partsIn r) (bytesAt m (places request)) (total reply)) p m)
-    (Done (replied p (status sBadMsg) m)))
-    (Done (replied p [] m))
+readMessage r m head o = readMessageBy served r m head o
 
 abbrev pub controlHead : Rest → List ℕ → Head → Order
-controlHead r m (Head.At n) =
-    readMessage (withControl (oneTaken (r .control)) r) m (n .0)
-    (walkOf m (baseOf (pageOf r controlQueue)) (sizeOf controlQueue) (n .0) (indirect r))
-controlHead r m (Head.Broken cause) = Done (broke controlQueue cause r m)
+controlHead r m h = controlHeadBy served r m h
 
 abbrev pub controlFound : Rest → List ℕ → Check → Order
-controlFound r m Check.Idle = Done (refused done r m)
-controlFound r m (Check.Broken cause) = Done (broke controlQueue cause r m)
-controlFound r m (Check.New zero) = Done (refused done r m)
-controlFound r m (Check.New (suc n)) = controlHead r m (headOf m (pageOf r controlQueue) (sizeOf controlQueue) (r .control .taken))
+controlFound r m c = controlFoundBy served r m c
 
 unfoldable pub orderOf : Rest → List ℕ → Order
-orderOf r m =
-    admitted r m (λ answer. Done (refused answer r m))
-    (controlFound r m (checkOf m (pageOf r controlQueue) (sizeOf controlQueue) (r .control .taken) 0))
+orderOf r m = orderBy served r m
 
 -- ---- a Release, past its checks: the stream's queue, then the reply
 
--- what a Release made of a queue
-pub record Emptied (Q : Type 0) : Type 0 where
-  pub queue : Q
-  pub mem : List ℕ
-  pub stop : Stop
-  pub signal : Bool
-
-abbrev pub emptiedBy : {Q : Type 0} → Run Q → Emptied Q
-emptiedBy r = record { queue = r .queue; mem = r .mem; stop = r .stop; signal = r .signal }
-
-module _ {Q : Type 0} (ops : Ops Q) (v : Virtqueue) where
-  abbrev pub emptiedFound : Q → List ℕ → Check → Emptied Q
-  emptiedFound q m Check.Idle = record { queue = q; mem = m; stop = Stop.Going; signal = false }
-  emptiedFound q m (Check.Broken cause) = record { queue = q; mem = m; stop = Stop.Broke cause; signal = false }
-  emptiedFound q m (Check.New n) = emptiedBy (releaseRun ops v n (begun q m []))
-
-  -- "RELEASE checks that stream's queue (idle: nothing pending), completes its message in work, then takes and completes all
-  -- entries there"
-  unfoldable pub emptied : Q → List ℕ → Emptied Q
-  emptied q m = emptiedFound q m (found ops v q m)
-
 -- ".. then replies." "If the queue breaks, the control message stays taken, uncompleted, and the stream keeps its state."
-unfoldable pub releasedOf : ℕ → Pending → List ℕ → Stop → Bool → Result
-releasedOf id p m stop signal =
+abbrev pub releasedOn : Direction → ℕ → Pending → List ℕ → Stop → Bool → Result
+releasedOn d id p m stop signal =
     let r : Rest = withRegisters (signalledIf signal (p .rest .registers)) (p .rest) in
     byStop stop (replied (withRest (withStream r id (withState releasedState (streamAt r id))) p) (status sOk) m)
-    (λ cause. broke (queueNumber (directionOf id)) cause r m)
+    (λ cause. broke (queueNumber d) cause r m)
+
+unfoldable pub releasedOf : ℕ → Pending → List ℕ → Stop → Bool → Result
+releasedOf id p m stop signal = releasedOn (directionOf id) id p m stop signal
 
 -- ---- play and capture
-
--- what a transfer made of a queue and the registers
-pub record Transferred (Q : Type 0) : Type 0 where
-  pub queue : Q
-  pub registers : Registers
-  pub answer : Answer
-  pub bytes : List ℕ
-  pub mem : List ℕ
-
--- .. on this queue: "earlier writes and handed bytes stand and are counted" where it broke
-abbrev pub transferredBy : {Q : Type 0} → ℕ → Registers → Run Q → Transferred Q
-transferredBy queue g r =
-    record {
-      queue = r .queue;
-      registers = brokenBy (r .stop) (signalledIf (r .signal) g);
-      answer = answerBy queue (r .stop);
-      bytes = r .bytes;
-      mem = r .mem;
-    }
 
 abbrev pub untouched : {Q : Type 0} → Answer → Registers → Q → List ℕ → Transferred Q
 untouched answer g q m = record { queue = q; registers = g; answer = answer; bytes = []; mem = m }
@@ -269,8 +247,11 @@ abbrev pub isRunning : Rest → ℕ → Bool
 isRunning r id = ltb id (length (r .streams)) && eqb (streamAt r id .state) runningState
 
 -- .. behind 1 and 5
+abbrev pub admittedIf : {A : Type 0} → Bool → Rest → List ℕ → (ℕ → A) → A → A
+admittedIf runs r m refuse go = admitted r m refuse (cond runs go (refuse notRunning))
+
 abbrev pub admittedFor : {A : Type 0} → Rest → List ℕ → ℕ → (ℕ → A) → A → A
-admittedFor r m id refuse go = admitted r m refuse (cond (isRunning r id) go (refuse notRunning))
+admittedFor r m id refuse go = admittedIf (isRunning r id) r m refuse go
 
 -- order 5: ".. and every status completed in that call carries it"
 module _ {Q : Type 0} (ops : Ops Q) (d : Direction) (backlog : ℕ) where
@@ -403,13 +384,15 @@ readStep offset width b m =
     }
 
 -- a Release past its checks, once its stream's queue is emptied
-unfoldable pub releaseStep : {Q : Type 0} → ℕ → Pending → Device Q → Emptied Q → Step (Device Q)
-releaseStep id p b e =
-    let o : Result = releasedOf id p (e .mem) (e .stop) (e .signal) in
+abbrev pub endedOn : {Q : Type 0} → Direction → Result → Q → Device Q → Step (Device Q)
+endedOn d o q b =
     record {
-      state = withQueue (directionOf id) (o .rest) (e .queue) b;
+      state = withQueue d (o .rest) q b;
       told = toldAll (o .answer) 0 nothingRung (o .count) [] [] (o .mem);
     }
+
+unfoldable pub releaseStep : {Q : Type 0} → ℕ → Pending → Device Q → Emptied Q → Step (Device Q)
+releaseStep id p b e = endedOn (directionOf id) (releasedOf id p (e .mem) (e .stop) (e .signal)) (e .queue) b
 
 -- "Host bytes past the count keep their value."
 abbrev pub hostAfter : Direction → List ℕ → List ℕ → List ℕ
@@ -439,25 +422,36 @@ remembering id backlog s =
       told = s .told;
     }
 
+-- a write, where a queue that it clears is this
+abbrev pub writeBy : {Q : Type 0} → (Direction → Q) → ℕ → ℕ → ℕ → Device Q → List ℕ → Step (Device Q)
+writeBy empty offset width v b m =
+    let w : Written = writeOf (b .rest .registers) offset width v in
+    record {
+      state =
+          record {
+            rest = affectedRest (w .effect) (withRegisters (w .registers) (b .rest));
+            play = cond (clearsQueue output (w .effect)) (empty output) (b .play);
+            capture = cond (clearsQueue input (w .effect)) (empty input) (b .capture);
+          };
+      told = toldAll (plain (w .answer)) 0 (rungOf (w .effect)) 0 [] [] m;
+    }
+
+-- a control message, by what a Release does
+abbrev pub orderedBy : {Q : Type 0} → (ℕ → Pending → Device Q → List ℕ → Step (Device Q)) → Order → Device Q → List ℕ → Step (Device Q)
+orderedBy release (Done o) b m = ended o b
+orderedBy release (ReleaseFirst id p) b m = release id p b m
+
 module _ {Q : Type 0} (ops : Direction → Ops Q) where
   unfoldable pub writeStep : ℕ → ℕ → ℕ → Device Q → List ℕ → Step (Device Q)
-  writeStep offset width v b m =
-      let w : Written = writeOf (b .rest .registers) offset width v in
-      record {
-        state =
-            record {
-              rest = affectedRest (w .effect) (withRegisters (w .registers) (b .rest));
-              play = cond (clearsQueue output (w .effect)) (ops output .empty) (b .play);
-              capture = cond (clearsQueue input (w .effect)) (ops input .empty) (b .capture);
-            };
-        told = toldAll (plain (w .answer)) 0 (rungOf (w .effect)) 0 [] [] m;
-      }
+  writeStep offset width v b m = writeBy (λ (d : Direction). ops d .empty) offset width v b m
 
-  abbrev pub ordered : Order → Device Q → List ℕ → Step (Device Q)
-  ordered (Done o) b m = ended o b
-  ordered (ReleaseFirst id p) b m =
+  abbrev pub releaseBy : ℕ → Pending → Device Q → List ℕ → Step (Device Q)
+  releaseBy id p b m =
       let d : Direction = directionOf id in
       releaseStep id p b (emptied (ops d) (releaseQueue id (p .rest)) (queueFor d b) m)
+
+  abbrev pub ordered : Order → Device Q → List ℕ → Step (Device Q)
+  ordered o b m = orderedBy releaseBy o b m
 
   abbrev pub transferBy : Direction → List ℕ → ℕ → Device Q → List ℕ → Step (Device Q)
   transferBy d host backlog b m =

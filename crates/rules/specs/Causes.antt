@@ -11,12 +11,12 @@ use Rattle.registers.specs.declared.answers.Answer.{Answer}
 use Rattle.ring.specs.declared.Cause.{Cause}
 use Rattle.ring.specs.declared.Check.{Check}
 use Rattle.ring.specs.declared.Stop.{Stop}
-use Rattle.rules.specs.Answers.{brokenAnswer}
+use Rattle.device.specs.Answers.{brokenAnswer}
 use Rattle.rules.specs.Calls.{Request, ReadRegister, WriteRegister, Control, Play, Capture, Event, Result, Order, Done, ReleaseFirst}
-use Rattle.rules.specs.Calls.{Pending, broke, releasedOf, orderOf, Transferred, transferredBy, transferFound}
-use Rattle.rules.specs.Device.{Direction, output, input, queueNumber, directionOf, Virtqueue, Rest}
-use Rattle.rules.specs.Numbers.{controlQueue, eventQueue}
-use Rattle.rules.specs.Transfer.{Ops, Run, stopped}
+use Rattle.rules.specs.Calls.{Pending, broke, releasedOf, orderOf, transferFound}
+use Rattle.device.specs.Transfer.{Transferred, transferredBy, Ops, Run, stopped}
+use Rattle.device.specs.Device.{Direction, output, input, queueNumber, directionOf, Virtqueue, Rest}
+use Rattle.device.specs.Numbers.{controlQueue, eventQueue}
 
 -- ---- where
 
@@ -30,9 +30,12 @@ abbrev pub breaks : Registers → Registers → Bool
 breaks before after = live before && hasBit (after .status) 6
 
 -- "name the queue by its index": the one that a call looks at; a Release looks at its stream's last
+abbrev pub orderQueueBy : (ℕ → Direction) → Order → ℕ
+orderQueueBy direction (Done o) = controlQueue
+orderQueueBy direction (ReleaseFirst id p) = queueNumber (direction id)
+
 abbrev pub orderQueue : Order → ℕ
-orderQueue (Done o) = controlQueue
-orderQueue (ReleaseFirst id p) = queueNumber (directionOf id)
+orderQueue o = orderQueueBy directionOf o
 
 abbrev pub queueMet : Request → Rest → List ℕ → ℕ
 queueMet (ReadRegister offset width) r m = noQueue

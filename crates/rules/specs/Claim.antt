@@ -4,21 +4,16 @@
 use mathlib.Core.Path.{_≡_}
 use mathlib.Core.Bool.{Bool, true, false, cond}
 use mathlib.Core.List.{List, [], _∷_, _++_, map}
-use mathlib.Core.Option.{Option, none, some}
-use Prim.Native.Nat.{ℕ, suc, _+_, _%_, _≤_}
-use lib.Dec.{eqb, leb}
-use lib.ListN.{length, take, getD}
+use Prim.Native.Nat.{ℕ, _+_}
+use lib.ListN.{length, take}
 use Rattle.description.specs.declared.Description.{Description}
-use Rattle.ranges.specs.Ranges.{upFrom}
 use Rattle.registers.specs.Rules.{writeOf, powerOn}
 use Rattle.card.specs.Card.{noCounters, jackAtPower, freshStream}
-use Rattle.rules.specs.Calls.{Request, ReadRegister, WriteRegister, Control, Play, Capture, Event, Call, Told, step, clearsQueue}
-use Rattle.rules.specs.Counters.{countersOf}
-use Rattle.rules.specs.Device.{Direction, output, input, Taking, nobody, released, Message, Queue, Rest, Device, queueFor}
-use Rattle.rules.specs.Histories.{Entry, Note, History, unanswered, handedOf, addressesOf, lostOf, number, current, handedNow}
-use Rattle.rules.specs.Histories.{waiting}
-use Rattle.rules.specs.Histories.{historiesOf}
-use Rattle.rules.specs.Transfer.{Ops, payloadOf}
+use Rattle.rules.specs.Calls.{Request, ReadRegister, WriteRegister, Control, Play, Capture, Event, Call, Told, Step, step}
+use Rattle.rules.specs.Calls.{clearsQueue}
+use Rattle.device.specs.Claim.{Good, queueOf, card, account}
+use Rattle.device.specs.Device.{Direction, output, input, Rest, Device, queueFor}
+use Rattle.device.specs.Transfer.{Ops}
 
 -- ---- lists of calls
 
@@ -35,18 +30,35 @@ restAtPower d len =
       event = noCounters;
     }
 
+-- .. with these queues
+abbrev pub startBy : {Q : Type 0} → (Direction → Q) → Description → ℕ → Device Q
+startBy empty d len = record { rest = restAtPower d len; play = empty output; capture = empty input }
+
 abbrev pub start : {Q : Type 0} → (Direction → Ops Q) → Description → ℕ → Device Q
-start ops d len = record { rest = restAtPower d len; play = ops output .empty; capture = ops input .empty }
+start ops d len = startBy (λ (q : Direction). ops q .empty) d len
 
 -- the calls of a list, one after the other: what each told, and the last state
+module _ {S C : Type 0} (step : S → C → Step S) where
+  abbrev pub toldAlong : S → List C → List Told
+  toldAlong b [] = []
+  toldAlong b (c ∷ cs) = step b c .told ∷ toldAlong (step b c .state) cs
+
+  abbrev pub afterAlong : S → List C → S
+  afterAlong b [] = b
+  afterAlong b (c ∷ cs) = afterAlong (step b c .state) cs
+
+  -- what is gathered of the calls since the last that clears
+  abbrev pub gatheredAlong : {A : Type 0} → (S → C → Bool) → A → (A → C → Told → A) → A → S → List C → A
+  gatheredAlong clears nothing more w b [] = w
+  gatheredAlong clears nothing more w b (c ∷ cs) =
+      gatheredAlong clears nothing more (cond (clears b c) nothing (more w c (step b c .told))) (step b c .state) cs
+
 module _ {Q : Type 0} (ops : Direction → Ops Q) where
   unfoldable pub toldBy : Device Q → List Call → List Told
-  toldBy b [] = []
-  toldBy b (c ∷ cs) = step ops b c .told ∷ toldBy (step ops b c .state) cs
+  toldBy b cs = toldAlong (step ops) b cs
 
   unfoldable pub after : Device Q → List Call → Device Q
-  after b [] = b
-  after b (c ∷ cs) = after (step ops b c .state) cs
+  after b cs = afterAlong (step ops) b cs
 
 -- a call that starts the histories of a direction's queue anew: a reset, or a base write of that queue
 unfoldable pub clears : Direction → Request → Rest → Bool
@@ -78,57 +90,20 @@ countFor d q t = cond (transfers d q) (t .count) 0
 module _ {Q : Type 0} (ops : Direction → Ops Q) (d : Direction) where
   -- the bytes, and the sum of the counts, told of a direction's transfers since its histories started
   unfoldable pub heard : List ℕ → Device Q → List Call → List ℕ
-  heard w b [] = w
-  heard w b (c ∷ cs) =
-      heard (cond (clears d (c .asked) (b .rest)) [] (w ++ bytesFor d (c .asked) (step ops b c .told))) (step ops b c .state) cs
+  heard w b cs =
+      gatheredAlong (step ops) (λ (b : Device Q) (c : Call). clears d (c .asked) (b .rest)) []
+      (λ (w : List ℕ) (c : Call) (t : Told). w ++ bytesFor d (c .asked) t) w b cs
 
   unfoldable pub counted : ℕ → Device Q → List Call → ℕ
-  counted n b [] = n
-  counted n b (c ∷ cs) =
-      counted (cond (clears d (c .asked) (b .rest)) 0 (n + countFor d (c .asked) (step ops b c .told))) (step ops b c .state) cs
-
--- ---- what holds of a history
-
--- the positions of taking t that wait: only the message in work has any
-abbrev pub waitingOf : Direction → ℕ → History → List ℕ
-waitingOf d t h = cond (eqb t (number h)) (waiting d h) []
-
--- the payload of taking number t; none past the last
-abbrev pub payloadAt : Direction → ℕ → History → List ℕ
-payloadAt d t h = payloadOf d (getD (h .takings) t nobody)
-
--- `said`: the bytes that the transfers since the start, reset or base write moved, joined
-pub record Good (d : Direction) (said : List ℕ) (h : History) : Type 0 where
-  -- the used entries name the heads taken, one for each taking, in order; only the message in work lacks one
-  pub few : number h ≤ length (h .takings)
-  pub one : length (h .takings) ≤ suc (number h)
-  pub heads : map (λ (e : Entry). e .head) (h .entries) ≡ take (number h) (map (λ (t : Taking). t .head) (h .takings))
-  -- each payload position of each message taken is in exactly one place, in order: handed on, given up or waiting
-  pub once : (t : ℕ) → handedOf t (h .notes) ++ (lostOf t (h .losses) ++ waitingOf d t h) ≡ upFrom 0 (length (payloadAt d t h))
-  -- what was handed on was read at the payload's own addresses, position by position
-  pub read : (t : ℕ) → addressesOf t (h .notes) ≡ take (length (handedOf t (h .notes))) (payloadAt d t h)
-  -- given up only by a Release that answered this message IO_ERR
-  pub blamed : (t : ℕ) → (getD (h .entries) t unanswered .ending ≡ released → ⊥) → lostOf t (h .losses) ≡ []
-  -- the bytes noted are those that the transfers moved
-  pub bytes : map (λ (n : Note). n .byte) (h .notes) ≡ said
-
--- the counters that a history stands for
-abbrev pub workOf : History → Option Message
-workOf h = cond (leb (length (h .takings)) (number h)) none (some (record { taking = current h; done = handedNow h }))
-
-abbrev pub queueOf : History → Queue
-queueOf h = record { taken = length (h .takings) % 65536; completed = number h % 65536; work = workOf h }
-
-abbrev pub shownAs : {H Q : Type 0} → (H → Q) → Device H → Device Q
-shownAs f b = record { rest = b .rest; play = f (b .play); capture = f (b .capture) }
+  counted n b cs =
+      gatheredAlong (step ops) (λ (b : Device Q) (c : Call). clears d (c .asked) (b .rest)) 0
+      (λ (n : ℕ) (c : Call) (t : Told). n + countFor d (c .asked) t) n b cs
 
 -- ---- the claim
 
-abbrev pub card : Direction → Ops Queue
-card d = countersOf d
-
-abbrev pub account : Direction → Ops History
-account d = historiesOf d
+-- a device kept one way, shown as one kept the other
+abbrev pub shownAs : {H Q : Type 0} → (H → Q) → Device H → Device Q
+shownAs f b = record { rest = b .rest; play = f (b .play); capture = f (b .capture) }
 
 pub record Holds (d : Description) (len : ℕ) (cs : List Call) : Type 0 where
   -- each answer, count, handed bytes, host buffer and lent memory of the card is the account's

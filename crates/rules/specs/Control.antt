@@ -15,9 +15,9 @@ use Rattle.card.specs.declared.Jack.{Jack}
 use Rattle.card.specs.declared.Params.{Params}
 use Rattle.card.specs.declared.Stream.{Stream}
 use Rattle.rules.specs.Lifecycle.{transition}
-use Rattle.rules.specs.Device.{Rest, withStreams, bytesOf}
-use Rattle.rules.specs.Numbers.{jackInfo, jackRemap, pcmInfo, pcmSetParams, pcmPrepare, pcmRelease, pcmStart, pcmStop, chmapInfo, sOk}
-use Rattle.rules.specs.Numbers.{sBadMsg, sNotSupp}
+use Rattle.device.specs.Device.{Rest, withStreams, bytesOf}
+use Rattle.device.specs.Numbers.{jackInfo, jackRemap, pcmInfo, pcmSetParams, pcmPrepare, pcmRelease, pcmStart, pcmStop, chmapInfo, sOk}
+use Rattle.device.specs.Numbers.{sBadMsg, sNotSupp}
 use Rattle.rules.specs.declared.Asked.{Asked}
 use Rattle.rules.specs.declared.Asked.the-variants.{Information, Remap, Pcm}
 use Rattle.rules.specs.declared.Command.{Command}
@@ -78,24 +78,38 @@ jackItem j =
     bytesOf 4 (j .info .nid) ++ bytesOf 4 (j .info .features) ++ bytesOf 4 (j .defconf) ++ bytesOf 4 (j .info .caps)
     ++ (j .connected ∷ []) ++ replicate 7 0
 
--- struct virtio_snd_pcm_info, 32 bytes; stream 0 is the output (direction 0), the others are inputs (1)
-abbrev pub pcmItem : ℕ → Stream → List ℕ
-pcmItem number s =
+-- struct virtio_snd_pcm_info, 32 bytes, of a stream of this direction
+abbrev pub pcmItemOf : ℕ → Stream → List ℕ
+pcmItemOf direction s =
     bytesOf 4 (s .info .nid) ++ bytesOf 4 (s .info .features) ++ bytesOf 8 (s .info .formats) ++ bytesOf 8 (s .info .rates)
-    ++ (cond (eqb number 0) 0 1 ∷ s .info .«channels_min» ∷ s .info .«channels_max» ∷ []) ++ replicate 5 0
+    ++ (direction ∷ s .info .«channels_min» ∷ s .info .«channels_max» ∷ []) ++ replicate 5 0
+
+-- of the streams from this number on, the direction of each told by its number
+abbrev pub pcmItemsBy : (ℕ → ℕ) → ℕ → List Stream → List (List ℕ)
+pcmItemsBy direction number [] = []
+pcmItemsBy direction number (s ∷ ss) = pcmItemOf (direction number) s ∷ pcmItemsBy direction (suc number) ss
+
+-- stream 0 is the output (0), the others are inputs (1)
+abbrev pub directionNumber : ℕ → ℕ
+directionNumber number = cond (eqb number 0) 0 1
+
+abbrev pub pcmItem : ℕ → Stream → List ℕ
+pcmItem number s = pcmItemOf (directionNumber number) s
 
 abbrev pub pcmItems : ℕ → List Stream → List (List ℕ)
-pcmItems number [] = []
-pcmItems number (s ∷ ss) = pcmItem number s ∷ pcmItems (suc number) ss
+pcmItems number ss = pcmItemsBy directionNumber number ss
 
 -- "Chmap item: nid, direction, channels, 18 positions."
 abbrev pub mapItem : MapInfo → List ℕ
 mapItem m = bytesOf 4 (m .nid) ++ (m .direction ∷ m .channels ∷ []) ++ m .positions
 
+abbrev pub itemsBy : (ℕ → ℕ) → Listing → Parts → List (List ℕ)
+itemsBy direction Jacks p = map jackItem (p .jacks)
+itemsBy direction Streams p = pcmItemsBy direction 0 (p .streams)
+itemsBy direction Maps p = map mapItem (p .maps)
+
 abbrev pub itemsOf : Listing → Parts → List (List ℕ)
-itemsOf Jacks p = map jackItem (p .jacks)
-itemsOf Streams p = pcmItems 0 (p .streams)
-itemsOf Maps p = map mapItem (p .maps)
+itemsOf l p = itemsBy directionNumber l p
 
 abbrev pub joined : List (List ℕ) → List ℕ
 joined [] = []
@@ -116,23 +130,32 @@ abbrev pub spaced : ℕ → ℕ → Bool
 spaced count size = eqb count 0 || not (eqb size 0)
 
 -- "start_id + count (no wrap) at most the total"
+abbrev pub listedIn : List (List ℕ) → ℕ → ℕ → Bool
+listedIn items start count = leb (start + count) (length items)
+
 abbrev pub listed : Listing → Parts → ℕ → ℕ → Bool
-listed l p start count = leb (start + count) (length (itemsOf l p))
+listed l p start count = listedIn (itemsOf l p) start count
 
 -- "reply room at least 4 + count·size"
 abbrev pub roomy : ℕ → ℕ → ℕ → Bool
 roomy count size room = leb (4 + count * size) room
 
 -- "start_id + count ..; reply room ..; else BAD_MSG."
-unfoldable pub information : Parts → Listing → List ℕ → ℕ → Served
-information p l request room =
+abbrev pub informed : Parts → List (List ℕ) → List ℕ → ℕ → Served
+informed p items request room =
     let start = word request 1 in
     let count = word request 2 in
     let size = word request 3 in
     passing p (spaced count size) sBadMsg
-    (passing p (listed l p start count) sBadMsg
+    (passing p (listedIn items start count) sBadMsg
     (passing p (roomy count size room) sBadMsg
-    (Reply p (status sOk ++ joined (take count (drop start (map (fitted size) (itemsOf l p))))))))
+    (Reply p (status sOk ++ joined (take count (drop start (map (fitted size) items)))))))
+
+abbrev pub informBy : (Listing → Parts → List (List ℕ)) → Parts → Listing → List ℕ → ℕ → Served
+informBy items p l request room = informed p (items l p) request room
+
+unfoldable pub information : Parts → Listing → List ℕ → ℕ → Served
+information p l request room = informBy itemsOf p l request room
 
 -- ---- JACK_REMAP: header, jack_id, association, sequence
 
@@ -325,16 +348,27 @@ layoutOf (Information l) = 16
 layoutOf Remap = 16
 layoutOf (Pcm c) = commandLayout c
 
--- a request of its layout's length
-abbrev pub answerTo : Asked → Parts → List ℕ → ℕ → Served
-answerTo (Information l) p request room = information p l request room
-answerTo Remap p request room = remap p request
-answerTo (Pcm c) p request room = commanded p c request
+-- by the way that information is given
+module _ (inform : Parts → Listing → List ℕ → ℕ → Served) where
+  -- a request of its layout's length
+  abbrev pub answerBy : Asked → Parts → List ℕ → ℕ → Served
+  answerBy (Information l) p request room = inform p l request room
+  answerBy Remap p request room = remap p request
+  answerBy (Pcm c) p request room = commanded p c request
 
--- "Unknown code: NOT_SUPP. A request shorter than its layout: BAD_MSG; extra bytes are ignored."
+  -- "Unknown code: NOT_SUPP. A request shorter than its layout: BAD_MSG; extra bytes are ignored."
+  abbrev pub answeredBy : Decoded → Parts → List ℕ → ℕ → Served
+  answeredBy Unknown p request room = refusal p sNotSupp
+  answeredBy (Known a) p request room = passing p (leb (layoutOf a) (length request)) sBadMsg (answerBy a p request room)
+
+  abbrev pub servedBy : Parts → List ℕ → ℕ → Served
+  servedBy p request room = answeredBy (decodedOf (word request 0)) p request room
+
+abbrev pub answerTo : Asked → Parts → List ℕ → ℕ → Served
+answerTo a p request room = answerBy information a p request room
+
 abbrev pub answered : Decoded → Parts → List ℕ → ℕ → Served
-answered Unknown p request room = refusal p sNotSupp
-answered (Known a) p request room = passing p (leb (layoutOf a) (length request)) sBadMsg (answerTo a p request room)
+answered d p request room = answeredBy information d p request room
 
 unfoldable pub served : Parts → List ℕ → ℕ → Served
-served p request room = answered (decodedOf (word request 0)) p request room
+served p request room = servedBy information p request room

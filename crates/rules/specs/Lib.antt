@@ -1,14 +1,7 @@
 -- Document 01 as definitions: the rules of each call, the account, and the claim about any list of calls.
-pub mod Numbers
-pub mod Answers
-pub mod Device
-pub mod Loop
-pub mod Transfer
 pub mod Lifecycle
 pub mod Control
-pub mod Counters
 pub mod Calls
-pub mod Histories
 pub mod Account
 pub mod Claim
 pub mod Causes

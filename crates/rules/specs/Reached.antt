@@ -1,19 +1,15 @@
 -- What calls can make of the described parts: of any list of calls from power-up (`reached` of proofs/Reached).
 use mathlib.Core.Path.{_≡_}
 use mathlib.Core.Bool.{false}
-use mathlib.Core.List.{List, [], _∷_}
 use Prim.Native.Nat.{_/_}
 use lib.Dec.{eqb}
 use Rattle.card.specs.Card.{freshState}
 use Rattle.card.specs.declared.Jack.{Jack}
 use Rattle.card.specs.declared.Stream.{Stream}
 use Rattle.rules.specs.Control.{judgedParams, remappable}
-use Rattle.rules.specs.Device.{Rest}
-use Rattle.rules.specs.Numbers.{sOk}
-
-abbrev pub Each : {A : Type 0} → (A → Type 0) → List A → Type 0
-Each P [] = Unit {0}
-Each P (x ∷ xs) = P x × Each P xs
+use Rattle.device.specs.Account.{Each}
+use Rattle.device.specs.Device.{Rest}
+use Rattle.device.specs.Numbers.{sOk}
 
 -- a stream that is not Fresh has parameters that SET_PARAMS accepts for it
 abbrev pub Accepted : Stream → Type 0

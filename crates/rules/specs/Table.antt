@@ -22,18 +22,12 @@ use Rattle.card.specs.declared.Stream.{Stream}
 use Rattle.description.specs.declared.StreamInfo.{StreamInfo}
 use Rattle.rules.specs.Calls.{Control, ReleaseFirst, Pending, orderOf, step}
 use Rattle.rules.specs.Control.{Parts, Reply, served, judgedParams, status, pcmItem, withDefconf}
-use Rattle.rules.specs.Counters.{countersOf}
-use Rattle.rules.specs.Device.{output, Message, Queue, Rest, Device, pageOf, bytesOf}
-use Rattle.rules.specs.Numbers.{jackRemap, pcmInfo, controlQueue, playQueue, sOk, sBadMsg, sNotSupp}
-use Rattle.rules.specs.Transfer.{found}
+use Rattle.device.specs.Counters.{countersOf}
+use Rattle.device.specs.Device.{output, Message, Queue, Rest, Device, pageOf, bytesOf}
+use Rattle.device.specs.Numbers.{jackRemap, pcmInfo, controlQueue, playQueue, sOk, sBadMsg, sNotSupp}
+use Rattle.device.specs.Transfer.{found, Shows}
 
 -- ---- what the cases are asked of
-
--- the play queue is based at this page, all of it inside memory, and its available index reads so
-pub record Shows (m : List ℕ) (page : PageNumber) (index : ℕ) : Type 0 where
-  pub based : 0 < page .0
-  pub inside : baseOf page + endAt (sizeOf playQueue) ≤ length m
-  pub reads : indexOf m page (sizeOf playQueue) ≡ index
 
 -- what the play queue's check finds with 10 taken, at this available index and with this in work: in every memory and at every
 -- page that shows it

@@ -3,7 +3,7 @@
 // a control request can ask, for both.
 
 ghost use mathlib.Core.Path.{_≡_};
-ghost use Rattle.rules.specs.Answers.{brokenAnswer};
+ghost use Rattle.device.specs.Answers.{brokenAnswer};
 use registers::Answer;
 use ring::Cause;
 

@@ -23,11 +23,11 @@ use Rattle.message.specs.Message.{directionOf}
 use Rattle.message.specs.declared.Direction.{Direction}
 use Rattle.message.specs.declared.Direction.the-variants.{Output, Input}
 use Rattle.ring.specs.declared.Stop.{Stop}
-use Rattle.rules.specs.Answers.{brokenBy}
-use Rattle.rules.specs.Device as rules
-use Rattle.rules.specs.Device.{signalledIf}
-use Rattle.rules.specs.Transfer.{payloadOf}
-use Rattle.rules.proofs.Between.{Counted, Waits}
+use Rattle.device.specs.Answers.{brokenBy}
+use Rattle.device.specs.Device as rules
+use Rattle.device.specs.Device.{signalledIf}
+use Rattle.device.specs.Transfer.{payloadOf}
+use Rattle.device.proofs.Between.{Counted, Waits}
 use Rattle.flow.specs.Flow.{payloadBytes}
 use Rattle.flow.proofs.Laws.{left-length, not-nil, some-left}
 use Rattle.flow.specs.declared.Flow.{Flow}

@@ -13,10 +13,10 @@ use Rattle.meaning.specs.Card.{queueOf, restOf, deviceOf}
 use Rattle.message.specs.Message.{directionOf}
 use Rattle.message.specs.declared.Direction.{Direction}
 use Rattle.rules.specs.Calls.{virtqueueOf}
-use Rattle.rules.specs.Counters.{countersOf}
-use Rattle.rules.specs.Device as rules
-use Rattle.rules.specs.Transfer.{Run, begun, found}
-use Rattle.rules.proofs.Between.{Counted, Waits, transfer-kept, transfer-waits, release-kept, release-none}
+use Rattle.device.specs.Counters.{countersOf}
+use Rattle.device.specs.Device as rules
+use Rattle.device.specs.Transfer.{Run, begun, found}
+use Rattle.device.proofs.Between.{Counted, Waits, transfer-kept, transfer-waits, release-kept, release-none}
 use Rattle.flow.specs.Flow.{runOf, freshFlow, StepsOn}
 use Rattle.flow.specs.declared.Flow.{Flow}
 use Rattle.flow.specs.declared.Job.{Job}

@@ -17,7 +17,7 @@ use Rattle.live.specs.Live.{cardIn, Fits}
 use Rattle.live.specs.declared.Live.{Live}
 use Rattle.live.proofs.Laws.{fits-card, card-fits}
 use Rattle.meaning.specs.Card.{restOf, deviceOf}
-use Rattle.rules.specs.Device.{Rest, withRegisters, withControl, withEvent}
+use Rattle.device.specs.Device.{Rest, withRegisters, withControl, withEvent}
 use Rattle.stream.specs.Held.{holding, holdingLive}
 
 -- the rules' rest with them

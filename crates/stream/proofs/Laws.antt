@@ -17,9 +17,9 @@ use Rattle.message.specs.Message.{directionOf, virtqueueIn}
 use Rattle.message.specs.declared.Direction.{Direction}
 use Rattle.message.specs.declared.Direction.the-variants.{Output, Input}
 use Rattle.rules.specs.Calls.{virtqueueOf}
-use Rattle.rules.specs.Counters.{countersOf, isNone}
-use Rattle.rules.specs.Device as rules
-use Rattle.rules.specs.Transfer.{begun, found}
+use Rattle.device.specs.Counters.{countersOf, isNone}
+use Rattle.device.specs.Device as rules
+use Rattle.device.specs.Transfer.{begun, found}
 use Rattle.flow.specs.Flow.{runOf, freshFlow}
 use Rattle.flow.specs.declared.Flow.{Flow}
 use Rattle.card.specs.declared.Parts.{Parts}

@@ -10,10 +10,9 @@ use Rattle.card.specs.declared.Card.{Card}
 use Rattle.meaning.specs.Card.{queueOf, restOf, deviceOf}
 use Rattle.message.specs.declared.Direction.{Direction}
 use Rattle.message.specs.declared.Direction.the-variants.{Output, Input}
-use Rattle.rules.specs.Calls.{emptied, emptiedFound, emptiedBy}
-use Rattle.rules.specs.Counters.{countersOf}
-use Rattle.rules.specs.Device as rules
-use Rattle.rules.specs.Transfer.{begun, found}
+use Rattle.device.specs.Transfer.{emptied, emptiedFound, emptiedBy, begun, found}
+use Rattle.device.specs.Counters.{countersOf}
+use Rattle.device.specs.Device as rules
 use Rattle.flow.specs.Flow.{runOf}
 use Rattle.flow.specs.declared.Flow.{Flow}
 use Rattle.flow.specs.declared.Job.the-variants.{Release}

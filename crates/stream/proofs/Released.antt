@@ -8,8 +8,8 @@ use Rattle.card.specs.declared.Card.{Card}
 use Rattle.ring.specs.declared.Stop.{Stop}
 use Rattle.meaning.specs.Card.{restOf, deviceOf}
 use Rattle.rules.specs.Calls.{Pending, Result, ReleaseFirst, ordered, releaseStep, releasedOf, ended, withRest}
-use Rattle.rules.specs.Counters.{countersOf}
-use Rattle.rules.specs.Device as rules
+use Rattle.device.specs.Counters.{countersOf}
+use Rattle.device.specs.Device as rules
 use Rattle.stream.specs.Queue.{Empties}
 use Rattle.stream.proofs.Laws.{rest-with}
 

@@ -18,9 +18,10 @@ use Rattle.message.specs.Message.{directionOf, virtqueueIn}
 use Rattle.message.specs.declared.Virtqueue.{Virtqueue}
 use Rattle.message.specs.declared.Direction.{Direction}
 use Rattle.message.specs.declared.Direction.the-variants.{Output, Input}
-use Rattle.rules.specs.Calls.{emptied, virtqueueOf}
-use Rattle.rules.specs.Counters.{countersOf}
-use Rattle.rules.specs.Device as rules
+use Rattle.rules.specs.Calls.{virtqueueOf}
+use Rattle.device.specs.Transfer.{emptied}
+use Rattle.device.specs.Counters.{countersOf}
+use Rattle.device.specs.Device as rules
 use Rattle.ring.specs.declared.Stop.{Stop}
 use Rattle.flow.specs.Flow.{freshFlow, StepsOn}
 use Rattle.flow.specs.declared.Flow.{Flow}

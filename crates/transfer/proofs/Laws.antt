@@ -20,11 +20,11 @@ use Rattle.meaning.specs.Card.{takingIn}
 use Rattle.ring.specs.declared.Cause.{Cause}
 use Rattle.ring.specs.declared.Check.{Check}
 use Rattle.ring.specs.declared.Check.the-variants.{Idle, Broken, New}
-use Rattle.rules.specs.Answers.{going}
-use Rattle.rules.specs.Counters.{countersOf, isNone}
-use Rattle.rules.specs.Device as rules
-use Rattle.rules.specs.Loop.{loop}
-use Rattle.rules.specs.Transfer.{Run, worked, givenUp, transferMore, releaseMore, next, transferRun, releaseRun}
+use Rattle.device.specs.Answers.{going}
+use Rattle.device.specs.Counters.{countersOf, isNone}
+use Rattle.device.specs.Device as rules
+use Rattle.device.specs.Loop.{loop}
+use Rattle.device.specs.Transfer.{Run, worked, givenUp, transferMore, releaseMore, next, transferRun, releaseRun}
 use Rattle.transfer.specs.Runs.{goesOn, jobRun, foundRun}
 
 -- ---- the loop's test

@@ -12,10 +12,10 @@ use Rattle.flow.specs.declared.Job.the-variants.{Transfer, Release}
 use Rattle.ring.specs.Rules.{checkOf}
 use Rattle.ring.specs.declared.Check.{Check}
 use Rattle.ring.specs.declared.Check.the-variants.{Idle, Broken, New}
-use Rattle.rules.specs.Answers.{going}
-use Rattle.rules.specs.Counters.{countersOf}
-use Rattle.rules.specs.Device as rules
-use Rattle.rules.specs.Transfer.{Run, transferRun, releaseRun, stopped}
+use Rattle.device.specs.Answers.{going}
+use Rattle.device.specs.Counters.{countersOf}
+use Rattle.device.specs.Device as rules
+use Rattle.device.specs.Transfer.{Run, transferRun, releaseRun, stopped}
 
 -- it goes on with the next entry
 abbrev pub goesOn : Job → Flow → ℕ → Bool

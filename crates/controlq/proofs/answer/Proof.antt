@@ -15,8 +15,8 @@ use Rattle.reply.specs.Reply.{completionOf}
 use Rattle.requests.specs.Requests.{Replies}
 use Rattle.rules.specs.Calls.{Step, acted, ordered}
 use Rattle.rules.specs.Control as rules
-use Rattle.rules.specs.Counters.{countersOf}
-use Rattle.rules.specs.Device.{Device, Queue}
+use Rattle.device.specs.Counters.{countersOf}
+use Rattle.device.specs.Device.{Device, Queue}
 use Rattle.controlq.specs.Control.{pendingIn, asksIn, changeStep}
 use Rattle.controlq.proofs.Laws.{replied-ends, reads-told}
 use borrow.Author.Needs.{needs}

@@ -11,7 +11,7 @@ use Rattle.live.specs.Live.{cardIn, Fits}
 use Rattle.meaning.specs.Card.{deviceOf, stepOf}
 use Rattle.registers.specs.Rules as registers
 use Rattle.rules.specs.Calls.{Control, ordered}
-use Rattle.rules.specs.Counters.{countersOf}
+use Rattle.device.specs.Counters.{countersOf}
 use Rattle.controlq.specs.Control.{headOf}
 use Rattle.controlq.proofs.Laws.{checkIn, control-long, control-dead, control-idle, control-none, control-broken, control-next}
 use Rattle.controlq.proofs.Laws.{broken-fits, nextHead, next-broken, next-at}

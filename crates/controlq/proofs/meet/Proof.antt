@@ -13,9 +13,9 @@ use Rattle.registers.specs.Map.{sizeOf}
 use Rattle.ring.specs.Rules.{baseOf}
 use Rattle.rules.specs.Calls.{Order, indirect, ordered}
 use Rattle.rules.specs.Control.{served, status}
-use Rattle.rules.specs.Counters.{countersOf}
-use Rattle.rules.specs.Device.{pageOf}
-use Rattle.rules.specs.Numbers.{controlQueue, sBadMsg}
+use Rattle.device.specs.Counters.{countersOf}
+use Rattle.device.specs.Device.{pageOf}
+use Rattle.device.specs.Numbers.{controlQueue, sBadMsg}
 use Rattle.controlq.specs.Control.{servedChain, walkedAt}
 use Rattle.controlq.proofs.Laws.{page-in, indirect-in, mute, counted-ends, chain-mute, chain-bad, chain-acted}
 use borrow.Author.Needs.{needs}

@@ -8,7 +8,7 @@ use lib.ListN.{length}
 use Rattle.card.specs.Card.{noParams}
 use Rattle.card.specs.declared.Params.{Params}
 use Rattle.live.specs.Live as pieces
-use Rattle.rules.specs.Device.{streamAt}
+use Rattle.device.specs.Device.{streamAt}
 use Rattle.event.specs.Event.{restIn}
 use Rattle.event.proofs.Cards.{streams-there, stream-below, stream-in}
 use borrow.Author.Needs.{needs}

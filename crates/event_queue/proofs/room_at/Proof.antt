@@ -4,7 +4,7 @@ use borrow.Author.Needs.{needs}
 use Rattle.chain.specs.Walk.{walkOf, outcomeOf}
 use Rattle.registers.specs.Map.{sizeOf}
 use Rattle.ring.specs.Rules.{baseOf}
-use Rattle.rules.specs.Numbers.{eventQueue}
+use Rattle.device.specs.Numbers.{eventQueue}
 use Rattle.event_queue.proofs.room_at.Statement.{statement}
 use Rattle.event_queue.proofs.room_at.Tie as tie
 

@@ -3,7 +3,7 @@ use mathlib.Core.Path.{_≡_, _∙_, refl, sym}
 use lib.ListN.{getD}
 use Rattle.registers.specs.Map.{sizeOf}
 use Rattle.ring.specs.Rules.{checkOf}
-use Rattle.rules.specs.Numbers.{eventQueue}
+use Rattle.device.specs.Numbers.{eventQueue}
 use borrow.Author.Needs.{needs}
 use Rattle.event_queue.proofs.send.Statement.{statement}
 use Rattle.event_queue.proofs.send.Tie as tie

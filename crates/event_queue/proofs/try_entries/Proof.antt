@@ -6,7 +6,7 @@ use native.Mathlib.Omega.{arith}
 use lib.ListN.{length}
 use Rattle.registers.specs.Fit.{FitRegisters}
 use Rattle.rules.specs.Calls.{eventRun}
-use Rattle.rules.specs.Device.{Rest}
+use Rattle.device.specs.Device.{Rest}
 use Rattle.event_queue.specs.Attempts.{holding}
 use Rattle.event_queue.proofs.Laws.{run-none, run-ended, run-further}
 use Rattle.event_queue.proofs.try_entries.Statement.{statement}

@@ -4,9 +4,9 @@ use borrow.Author.Needs.{needs}
 use Rattle.message.specs.Message.{virtqueueIn, directionOf}
 use Rattle.ring.specs.Rules.{headOf}
 use Rattle.registers.specs.Map.{sizeOf}
-use Rattle.rules.specs.Counters.{countersOf}
-use Rattle.rules.specs.Device as rules
-use Rattle.rules.specs.Transfer.{entered, takingOf}
+use Rattle.device.specs.Counters.{countersOf}
+use Rattle.device.specs.Device as rules
+use Rattle.device.specs.Transfer.{entered, takingOf}
 use Rattle.flow.proofs.Laws.{next-taken, next-stopped, idle-run, idle-fit}
 use Rattle.flow.proofs.meet.Statement.{statement}
 use Rattle.flow.proofs.meet.Tie as tie

@@ -1,7 +1,7 @@
 -- The numbers stand one behind the other, zeros behind them.
 use borrow.Author.Needs.{needs}
 use Rattle.memory.specs.Bytes.{put}
-use Rattle.rules.specs.Device.{bytesOf}
+use Rattle.device.specs.Device.{bytesOf}
 use Rattle.information.proofs.pcm_item.Statement.{statement}
 use Rattle.information.proofs.pcm_item.Tie as tie
 

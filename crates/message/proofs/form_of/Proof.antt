@@ -2,7 +2,7 @@
 use mathlib.Core.Path.{_∙_, sym}
 use borrow.Author.Needs.{needs}
 use borrow.Author.Tests.{le-leb, lt-leb, eq-eqb, ne-eqb, not-true, not-false}
-use Rattle.rules.specs.Transfer.{formOf}
+use Rattle.device.specs.Transfer.{formOf}
 use Rattle.message.proofs.form_of.Statement.{statement}
 use Rattle.message.proofs.form_of.Tie as tie
 

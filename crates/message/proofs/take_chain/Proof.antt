@@ -4,7 +4,7 @@ use borrow.Author.Needs.{needs}
 use Rattle.chain.specs.Walk.{walkOf, faulted, whole, outcomeOf}
 use Rattle.ranges.specs.Ranges.{rangesOf, rangesIn}
 use Rattle.ring.specs.Rules.{baseOf}
-use Rattle.rules.specs.Device as rules
+use Rattle.device.specs.Device as rules
 use Rattle.message.specs.Message.{directionOf, virtqueueIn, formIn}
 use Rattle.message.proofs.Laws.{taken-by, no-ranges-fit, request-inside, reply-inside}
 use Rattle.message.proofs.take_chain.Statement.{statement}

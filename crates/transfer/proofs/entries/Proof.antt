@@ -8,7 +8,7 @@ use Rattle.card.specs.Fit.{FitMessage}
 use Rattle.flow.specs.Flow.{runOf, freshFlow, FitFlow, StepsOn}
 use Rattle.flow.proofs.Laws.{fit-beside}
 use Rattle.message.specs.Message.{directionOf, virtqueueIn}
-use Rattle.rules.specs.Device.{input}
+use Rattle.device.specs.Device.{input}
 use Rattle.transfer.specs.Runs.{jobRun}
 use Rattle.transfer.proofs.Laws.{run-none, run-stop, run-more, goes-idle, fresh-fit}
 use Rattle.transfer.proofs.entries.Statement.{statement}

@@ -12,26 +12,26 @@ use lib.Seq.{getD-append-seam}
 use Rattle.ranges.proofs.Laws.{length-upFrom}
 use Rattle.registers.specs.Map.{sizeOf}
 use Rattle.ring.proofs.Laws.{place-over-the-wrap}
-use Rattle.rules.specs.Claim.{Good, workOf, queueOf, card, account}
-use Rattle.rules.specs.Counters.{isNone}
-use Rattle.rules.specs.Device.{Direction, output, input, queueNumber, Taking, Ending}
-use Rattle.rules.specs.Histories.{History, number, current, handedNow, waiting, took, noted, withEntry}
-use Rattle.rules.specs.Transfer.{payloadOf}
-use Rattle.rules.proofs.Keeps.{blank-good, noted-good, with-entry-good, took-good, same-number, none-noted, none-left}
-use Rattle.rules.proofs.Lists.{only-append, handedOf-same}
-use Rattle.rules.proofs.Natural.{Alike}
+use Rattle.device.specs.Claim.{Good, workOf, queueOf, card, account}
+use Rattle.device.specs.Counters.{isNone}
+use Rattle.device.specs.Device.{Direction, output, input, queueNumber, Taking, Ending}
+use Rattle.device.specs.Histories.{History, number, current, handedNow, waiting, took, noted, withEntry}
+use Rattle.device.specs.Transfer.{payloadOf}
+use Rattle.device.proofs.Keeps.{blank-good, noted-good, with-entry-good, took-good, same-number, none-noted, none-left}
+use Rattle.device.proofs.Lists.{only-append, handedOf-same}
+use Rattle.device.proofs.Natural.{Alike}
 
 -- no message in work
 abbrev pub free : History → Bool
 free h = leb (length (h .takings)) (number h)
 
 -- a ring place is that of the whole count, and so is the next count
-place-wrap : (d : Direction) (n : ℕ) → n % 65536 % sizeOf (queueNumber d) ≡ n % sizeOf (queueNumber d)
+pub place-wrap : (d : Direction) (n : ℕ) → n % 65536 % sizeOf (queueNumber d) ≡ n % sizeOf (queueNumber d)
 unfolding sizeOf
 place-wrap output n = place-over-the-wrap 256 256 n refl
 place-wrap input n = place-over-the-wrap 64 1024 n refl
 
-next-wrap : (n : ℕ) → (n % 65536 + 1) % 65536 ≡ (n + 1) % 65536
+pub next-wrap : (n : ℕ) → (n % 65536 + 1) % 65536 ≡ (n + 1) % 65536
 next-wrap n = omega arith
 
 idle-work : (h : History) → isNone (workOf h) ≡ free h

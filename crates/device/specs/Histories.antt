@@ -9,8 +9,8 @@ use lib.ListN.{length, drop, getD}
 use Rattle.ranges.specs.Ranges.{upFrom}
 use Rattle.registers.specs.Map.{sizeOf}
 use Rattle.ring.specs.Rules.{newOf}
-use Rattle.rules.specs.Device.{Direction, queueNumber, Taking, nobody, Ending, finished}
-use Rattle.rules.specs.Transfer.{Ops, payloadOf, statusOf, usedLength}
+use Rattle.device.specs.Device.{Direction, queueNumber, Taking, nobody, Ending, finished}
+use Rattle.device.specs.Transfer.{Ops, payloadOf, statusOf, usedLength}
 
 -- a used entry: the head it names, its length, why the message was completed, the status it was given and the latency beside that
 pub record Entry : Type 0 where

@@ -12,15 +12,15 @@ use Rattle.registers.proofs.Keeps.{by-cond}
 use Rattle.ring.specs.Rules.{headAt, indexOf}
 use Rattle.ring.specs.declared.Check.{Check}
 use Rattle.ring.specs.declared.Head.{Head}
-use Rattle.rules.specs.Answers.{going}
-use Rattle.rules.specs.Calls.{Emptied, emptiedBy, emptiedFound, emptied, Transferred, transferredBy}
-use Rattle.rules.specs.Device.{Direction, Virtqueue, queueSize, Taking, Ending, finished, released, illFormed}
-use Rattle.rules.specs.Loop.{loop}
-use Rattle.rules.specs.Transfer.{Ops, Run, isWell, isNil, payloadOf, takingOf, begun, completed, bytesMoved, moved, settled, worked}
-use Rattle.rules.specs.Transfer.{givenUp, taking, entered, met, next, transferMore, releaseMore, transferRun, releaseRun, found}
-use Rattle.rules.proofs.Cases.{map-cond}
-use Rattle.rules.proofs.Host.{Past, all-bytes, completed-past, moved-past, next-past, begun-past}
-use Rattle.rules.proofs.Lists.{nil-true}
+use Rattle.device.specs.Answers.{going}
+use Rattle.device.specs.Transfer.{Emptied, emptiedBy, emptiedFound, emptied, Transferred, transferredBy, Ops, Run, isWell, isNil}
+use Rattle.device.specs.Transfer.{payloadOf, takingOf, begun, completed, bytesMoved, moved, settled, worked, givenUp, taking, entered}
+use Rattle.device.specs.Transfer.{met, next, transferMore, releaseMore, transferRun, releaseRun, found}
+use Rattle.device.specs.Device.{Direction, Virtqueue, queueSize, Taking, Ending, finished, released, illFormed}
+use Rattle.device.specs.Loop.{loop}
+use Rattle.device.proofs.Cases.{map-cond}
+use Rattle.device.proofs.Host.{Past, all-bytes, completed-past, moved-past, next-past, begun-past}
+use Rattle.device.proofs.Lists.{nil-true}
 
 -- ---- two loops that run alike: `f` shows one state as the other, where `P` holds
 
@@ -87,7 +87,7 @@ pub record Alike {H Q : Type 0} (A : Ops H) (D : Ops Q) (d : Direction) (f : H �
       → I w (A .complete e n h)
 
 -- an ill-formed message has no payload
-ill-formed-none : (d : Direction) (t : Taking) → isWell (t .form) ≡ false → payloadOf d t ≡ []
+pub ill-formed-none : (d : Direction) (t : Taking) → isWell (t .form) ≡ false → payloadOf d t ≡ []
 unfolding payloadOf
 ill-formed-none d t e = rw e
 

@@ -1,6 +1,9 @@
--- Cases of a Bool test, each with what the test then tells. (`by-cond`, for one choice, is the registers'.)
-use mathlib.Core.Path.{_≡_, refl}
+-- Cases of a Bool test, each with what the test then tells; something is not nothing. (`by-cond`, for one choice, is the registers'.)
+use mathlib.Core.Path.{_≡_, refl, ap}
 use mathlib.Core.Bool.{Bool, true, false, cond}
+use mathlib.Core.Option.{Option, none, some}
+use Prim.Native.Nat.{ℕ}
+use native.Mathlib.Omega.{arith}
 
 -- a choice is shown as another where each of its two ways is
 pub map-cond :
@@ -23,3 +26,10 @@ by-cond₂ R false h k = k refl
 pub cond-same : {A : Type 0} (b : Bool) (x : A) → cond b x x ≡ x
 cond-same true x = refl
 cond-same false x = refl
+
+abbrev sizeOf : {A : Type 0} → Option A → ℕ
+sizeOf none = 0
+sizeOf (some x) = 1
+
+pub none-some : {A : Type 0} (x : A) → _≡_ {A = Option A} none (some x) → ⊥
+none-some x e = let z : _≡_ {A = ℕ} 0 1 = ap sizeOf e in omega arith

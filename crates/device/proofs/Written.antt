@@ -2,80 +2,35 @@
 -- left, a byte handed on too, and a completion writes its entry behind them.
 use mathlib.Core.Path.{_≡_, refl, sym, ap, _∙_}
 use mathlib.Core.Bool.{true, false, true≢false}
-use mathlib.Core.List.{List, [], _∷_, _++_, append-nil, append-assoc, map-append}
+use mathlib.Core.List.{List, [], _∷_, _++_, map-append}
 use mathlib.Core.Option.{Option, none, some}
 use Prim.Native.Nat.{ℕ, zero, suc, _+_, _-_, _*_, _%_, _≤_, _<_}
 use native.Mathlib.Decide.{ℕ-discrete}
 use native.Mathlib.Nat.{le-refl}
 use native.Mathlib.Omega.{arith}
 use borrow.Author.Tests.{leb-false}
-use lib.ListN.{length, take, drop, getD, length-append, length-take, length-map}
+use lib.ListN.{length, take, getD, length-append, length-take, length-map}
 use lib.Seq.{getD-append-seam, getD-take, getD-drop, drop-drop}
 use Rattle.counts.specs.declared.PageNumber.{PageNumber}
 use Rattle.memory.specs.Bytes.{le}
 use Rattle.ranges.specs.Ranges.{places, bytesAt}
 use Rattle.registers.specs.Map.{sizeOf}
 use Rattle.ring.specs.Rules.{baseOf, postedAt}
-use Rattle.rules.specs.Account.{takingAt, entryAt, Grows, Each, statusWritten, written, memoryAfter, entriesWritten, Held, Answers}
-use Rattle.rules.specs.Account.{finishedOk, releasedIoErr, illFormedIoErr, illFormedMute, Answered, Adds, InOrder, end, next}
-use Rattle.rules.specs.Claim.{Good}
-use Rattle.rules.specs.Device.{output, Virtqueue, Form, wellFormed, refused, silent, unwalked, Taking, Ending, finished, released}
-use Rattle.rules.specs.Device.{illFormed}
-use Rattle.rules.specs.Histories as history
-use Rattle.rules.specs.Histories.{Entry, Note, History, number, current, handedNow, waiting, took, noted, notesOf, lossesOf}
-use Rattle.rules.specs.Histories.{historiesOf}
-use Rattle.rules.specs.Transfer.{Ops, Run, isWell, payloadOf, statusOf, statusInReply, usedLength, takingOf, completed, moved, taking}
-use Rattle.rules.proofs.Histories.{free}
-use Rattle.rules.proofs.Keeps.{same-number}
-use Rattle.rules.proofs.Lists.{getD-snoc-other, bytes-notesOf}
-
--- ---- lists
-
--- nothing added, and something more
-abbrev pub grows-none : {A : Type 0} (xs : List A) → Grows xs xs
-grows-none xs = record { added = []; is = sym (append-nil xs) }
-
-abbrev pub grows-more : {A : Type 0} (xs ys zs : List A) → Grows xs ys → Grows xs (ys ++ zs)
-grows-more xs ys zs g = record { added = g .added ++ zs; is = rw (g .is, append-assoc) }
-
-pub grows-length : {A : Type 0} (xs ys : List A) → Grows xs ys → length xs ≤ length ys
-grows-length xs ys g = rw (g .is, length-append) (omega arith)
-
-pub each-append : {A : Type 0} (P : A → Type 0) (xs ys : List A) → Each P xs → Each P ys → Each P (xs ++ ys)
-each-append P [] ys p q = q
-each-append P (x ∷ xs) ys p q = (p .0, each-append P xs ys (p .1) q)
-
-each-behind : {A : Type 0} (P : A → Type 0) (xs ys : List A) → Each P (xs ++ ys) → Each P ys
-each-behind P [] ys p = p
-each-behind P (x ∷ xs) ys p = each-behind P xs ys (p .1)
-
-each-map : {A : Type 0} (P Q R : A → Type 0) (xs : List A) → ((x : A) → P x → Q x → R x) → Each P xs → Each Q xs → Each R xs
-each-map P Q R [] f p q = tt
-each-map P Q R (x ∷ xs) f p q = (f x (p .0) (q .0), each-map P Q R xs f (p .1) (q .1))
-
--- ---- notes in order
-
--- every note is of a message below the bound
-order-each : (a b : ℕ) (xs : List Note) → InOrder a b xs → Each (λ (x : Note). x .of < b) xs
-order-each a b _ end = tt
-order-each a b _ (next {x = x} {xs = xs} l u o) = (u, order-each (x .of) b xs o)
-
-order-lower : (a c b : ℕ) (xs : List Note) → a ≤ c → InOrder c b xs → InOrder a b xs
-order-lower a c b _ l end = end
-order-lower a c b _ l (next {x = x} k u o) = let k′ : a ≤ x .of = omega arith in next k′ u o
-
-pub order-higher : (a b c : ℕ) (xs : List Note) → b ≤ c → InOrder a b xs → InOrder a c xs
-order-higher a b c _ l end = end
-order-higher a b c _ l (next {x = x} {xs = xs} k u o) = let u′ : x .of < c = omega arith in next k u′ (order-higher (x .of) b c xs l o)
-
--- notes of the last message go behind all others
-order-append : (a c : ℕ) (xs ys : List Note) → a ≤ c → InOrder a (suc c) xs → InOrder c (suc c) ys → InOrder a (suc c) (xs ++ ys)
-order-append a c _ ys l end o = order-lower a c (suc c) ys l o
-order-append a c _ ys l (next {x = x} {xs = xs} k u p) o = next k u (order-append (x .of) c xs ys (omega arith) p o)
-
-order-notes : (t p : ℕ) (bytes xs : List ℕ) → InOrder t (suc t) (notesOf t p bytes xs)
-order-notes t p bytes [] = end
-order-notes t p bytes (x ∷ xs) = next (le-refl t) (le-refl (suc t)) (order-notes t (p + 1) (drop 1 bytes) xs)
+use Rattle.device.specs.Account.{takingAt, entryAt, Each, statusWritten, written, memoryAfter, entriesWritten, Held, Answers}
+use Rattle.device.specs.Account.{finishedOk, releasedIoErr, illFormedIoErr, illFormedMute, Answered, Adds, InOrder}
+use Rattle.device.specs.Claim.{Good}
+use Rattle.device.specs.Device.{output, Virtqueue, Form, wellFormed, refused, silent, unwalked, Taking, Ending, finished, released}
+use Rattle.device.specs.Device.{illFormed}
+use Rattle.device.specs.Histories as history
+use Rattle.device.specs.Histories.{Entry, Note, History, number, current, handedNow, waiting, took, noted, notesOf, lossesOf}
+use Rattle.device.specs.Histories.{historiesOf}
+use Rattle.device.specs.Transfer.{Ops, Run, isWell, payloadOf, statusOf, statusInReply, usedLength, takingOf, completed, moved}
+use Rattle.device.specs.Transfer.{taking}
+use Rattle.device.proofs.Grown.{grows-more, grows-length, each-append, each-behind, each-map₂, order-each, order-higher}
+use Rattle.device.proofs.Grown.{order-append, order-notes}
+use Rattle.device.proofs.Histories.{free}
+use Rattle.device.proofs.Keeps.{same-number}
+use Rattle.device.proofs.Lists.{getD-snoc-other, bytes-notesOf}
 
 -- ---- memory by entries
 
@@ -132,7 +87,7 @@ module _ (lies : Virtqueue) where
         → Each (Held vq m h q) xs
         → Each (Held vq m h q′) xs
     held-same q q′ n xs l s t b e =
-        each-map (λ (x : Note). x .of < suc n) (Held vq m h q) (Held vq m h q′) xs
+        each-map₂ (λ (x : Note). x .of < suc n) (Held vq m h q) (Held vq m h q′) xs
         (λ x u k.
         record {
           place = rw (t (x .of) (omega arith)) (k .place);
@@ -208,7 +163,8 @@ module _ (lies : Virtqueue) where
                   took = λ k lo hi. took-all a (f .memory) is below k lo hi (ℕ-discrete k (length (q .takings)));
                   answered = λ k lo hi. rw (getD-snoc-other (q .takings) t k _ (λ e. omega arith)) (a .answered k lo hi);
                   held =
-                      each-map (λ (x : Note). x .of < length (q .takings)) (Held vq m h q) (Held vq m h (took output t q)) (a .notes .added)
+                      each-map₂ (λ (x : Note). x .of < length (q .takings)) (Held vq m h q) (Held vq m h (took output t q))
+                      (a .notes .added)
                       (λ x u k.
                       record {
                         place = rw (same .taking-is (x .of) u) (k .place);

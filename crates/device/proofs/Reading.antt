@@ -12,9 +12,9 @@ use lib.ListN.{length, getD}
 use lib.Seq.{take-length}
 use Rattle.ranges.specs.Ranges.{upFrom}
 use Rattle.ranges.proofs.Laws.{length-upFrom}
-use Rattle.rules.specs.Claim.{Good, waitingOf, payloadAt}
-use Rattle.rules.specs.Device.{Direction, Ending, finished, released, illFormed}
-use Rattle.rules.specs.Histories.{History, unanswered, handedOf, addressesOf, lostOf, number}
+use Rattle.device.specs.Claim.{Good, waitingOf, payloadAt}
+use Rattle.device.specs.Device.{Direction, Ending, finished, released, illFormed}
+use Rattle.device.specs.Histories.{History, unanswered, handedOf, addressesOf, lostOf, number}
 
 -- ---- how often p stands in a list
 

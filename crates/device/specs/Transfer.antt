@@ -1,25 +1,31 @@
 -- 01, Play, capture, events: taking, moving and completing messages of a stream's queue, and what RELEASE does to it; for
 -- either direction and for any way `Q` of keeping the queue.
+use mathlib.Core.Path.{_≡_}
 use mathlib.Core.Bool.{Bool, true, false, cond, _&&_, _||_, not}
 use mathlib.Core.List.{List, [], _∷_, _++_}
 use mathlib.Core.Option.{Option, none, some}
-use Prim.Native.Nat.{ℕ, _+_, _-_}
+use Prim.Native.Nat.{ℕ, _+_, _-_, _≤_, _<_}
 use lib.Dec.{eqb, leb, ltb}
 use lib.ListN.{length, take, drop}
+use Rattle.counts.specs.declared.PageNumber.{PageNumber}
 use Rattle.memory.specs.Bytes.{le}
 use Rattle.ranges.specs.Ranges.{total, places, bytesAt, putAt, allInside}
 use Rattle.ranges.specs.declared.Range.{Range}
 use Rattle.chain.specs.Walk.{Outcome, whole, faulted, walkOf}
+use Rattle.registers.specs.Map.{sizeOf}
+use Rattle.registers.specs.declared.Registers.{Registers}
+use Rattle.registers.specs.declared.answers.Answer.{Answer}
+use Rattle.ring.specs.Layout.{endAt}
 use Rattle.ring.specs.Rules.{baseOf, indexOf, foundOf, headAt, postedAt, interrupts}
 use Rattle.ring.specs.declared.Cause.{Cause}
 use Rattle.ring.specs.declared.Check.{Check}
 use Rattle.ring.specs.declared.Head.{Head}
 use Rattle.ring.specs.declared.Stop.{Stop}
-use Rattle.rules.specs.Answers.{going}
-use Rattle.rules.specs.Device.{Direction, output, input, streamNumber, Virtqueue, queueSize, Form, wellFormed, refused, silent}
-use Rattle.rules.specs.Device.{unwalked, Taking, Ending, finished, released, illFormed, bytesOf}
-use Rattle.rules.specs.Loop.{loop}
-use Rattle.rules.specs.Numbers.{sOk, sIoErr}
+use Rattle.device.specs.Answers.{going, answerBy, brokenBy}
+use Rattle.device.specs.Device.{Direction, output, input, streamNumber, Virtqueue, queueSize, Form, wellFormed, refused, silent}
+use Rattle.device.specs.Device.{unwalked, Taking, Ending, finished, released, illFormed, bytesOf, signalledIf}
+use Rattle.device.specs.Loop.{loop}
+use Rattle.device.specs.Numbers.{playQueue, sOk, sIoErr}
 
 -- ---- a message as memory shows it when it is taken: "I/O order"
 
@@ -229,3 +235,53 @@ module _ {Q : Type 0} (ops : Ops Q) (v : Virtqueue) where
   abbrev pub found : Q → List ℕ → Check
   found q m =
       foundOf m (v .page) (queueSize v) (ops .new q (indexOf m (v .page) (queueSize v))) (cond (ops .idle q) 0 1)
+
+-- ---- what a call made of a queue
+
+-- what a Release made of a queue
+pub record Emptied (Q : Type 0) : Type 0 where
+  pub queue : Q
+  pub mem : List ℕ
+  pub stop : Stop
+  pub signal : Bool
+
+abbrev pub emptiedBy : {Q : Type 0} → Run Q → Emptied Q
+emptiedBy r = record { queue = r .queue; mem = r .mem; stop = r .stop; signal = r .signal }
+
+module _ {Q : Type 0} (ops : Ops Q) (v : Virtqueue) where
+  abbrev pub emptiedFound : Q → List ℕ → Check → Emptied Q
+  emptiedFound q m Check.Idle = record { queue = q; mem = m; stop = Stop.Going; signal = false }
+  emptiedFound q m (Check.Broken cause) = record { queue = q; mem = m; stop = Stop.Broke cause; signal = false }
+  emptiedFound q m (Check.New n) = emptiedBy (releaseRun ops v n (begun q m []))
+
+  -- "RELEASE checks that stream's queue (idle: nothing pending), completes its message in work, then takes and completes all
+  -- entries there"
+  unfoldable pub emptied : Q → List ℕ → Emptied Q
+  emptied q m = emptiedFound q m (found ops v q m)
+
+-- what a transfer made of a queue and the registers
+pub record Transferred (Q : Type 0) : Type 0 where
+  pub queue : Q
+  pub registers : Registers
+  pub answer : Answer
+  pub bytes : List ℕ
+  pub mem : List ℕ
+
+-- .. on this queue: "earlier writes and handed bytes stand and are counted" where it broke
+abbrev pub transferredBy : {Q : Type 0} → ℕ → Registers → Run Q → Transferred Q
+transferredBy queue g r =
+    record {
+      queue = r .queue;
+      registers = brokenBy (r .stop) (signalledIf (r .signal) g);
+      answer = answerBy queue (r .stop);
+      bytes = r .bytes;
+      mem = r .mem;
+    }
+
+-- ---- a queue as memory shows it
+
+-- the play queue is based at this page, all of it inside memory, and its available index reads so
+pub record Shows (m : List ℕ) (page : PageNumber) (index : ℕ) : Type 0 where
+  pub based : 0 < page .0
+  pub inside : baseOf page + endAt (sizeOf playQueue) ≤ length m
+  pub reads : indexOf m page (sizeOf playQueue) ≡ index

@@ -13,14 +13,14 @@ use lib.ListN.{length, take, drop, getD, length-append, length-take, length-drop
 use lib.Seq.{take-suc, take-append-le, take-add, getD-append-seam}
 use Rattle.ranges.specs.Ranges.{upFrom}
 use Rattle.ranges.proofs.Laws.{length-upFrom}
-use Rattle.rules.specs.Device.{Direction, Taking, nobody, Ending, released}
-use Rattle.rules.specs.Transfer.{payloadOf}
-use Rattle.rules.specs.Histories.{Note, History, blank, unanswered, handedOf, addressesOf, lostOf, notesOf, lossesOf, number, current}
-use Rattle.rules.specs.Histories.{handedNow, waiting, took, noted, withEntry}
-use Rattle.rules.specs.Claim.{Good, waitingOf, payloadAt}
-use Rattle.rules.proofs.Cases.{cond-same}
-use Rattle.rules.proofs.Lists.{nil-left, take-self, getD-snoc-other, only-append, handedOf-same, addressesOf-same, notesOf-other}
-use Rattle.rules.proofs.Lists.{bytes-notesOf, lostOf-same, lostOf-other, hand-on}
+use Rattle.device.specs.Device.{Direction, Taking, nobody, Ending, released}
+use Rattle.device.specs.Transfer.{payloadOf}
+use Rattle.device.specs.Histories.{Note, History, blank, unanswered, handedOf, addressesOf, lostOf, notesOf, lossesOf, number}
+use Rattle.device.specs.Histories.{current, handedNow, waiting, took, noted, withEntry}
+use Rattle.device.specs.Claim.{Good, waitingOf, payloadAt}
+use Rattle.device.proofs.Cases.{cond-same}
+use Rattle.device.proofs.Lists.{nil-left, take-self, getD-snoc-other, only-append, handedOf-same, addressesOf-same, notesOf-other}
+use Rattle.device.proofs.Lists.{bytes-notesOf, lostOf-same, lostOf-other, hand-on}
 
 module _ (d : Direction) where
   -- no message, no payload

@@ -1,8 +1,8 @@
 -- What holds of a stream's queue between calls, where counters keep it: as many were taken and not completed as are in work, the
 -- message in work has a head below N, and something of its payload waits. A transfer and a Release keep it.
 use mathlib.Core.Path.{_≡_, refl, sym, _∙_}
-use mathlib.Core.Bool.{Bool, true, false, cond, _&&_, not, true≢false, and-eq-true-iff}
-use mathlib.Core.List.{List, []}
+use mathlib.Core.Bool.{Bool, true, false, _&&_, not, true≢false, and-eq-true-iff}
+use mathlib.Core.List.{List}
 use mathlib.Core.Option.{Option, none, some}
 use Prim.Native.Nat.{ℕ, _+_, _-_, _%_, _<_}
 use native.Mathlib.Omega.{arith}
@@ -16,12 +16,12 @@ use Rattle.ring.specs.Layout.{ringPlaceAt}
 use Rattle.ring.specs.Rules.{baseOf, headAt}
 use Rattle.ring.specs.declared.Cause.{Cause}
 use Rattle.ring.specs.declared.Head.{Head}
-use Rattle.rules.specs.Answers.{going}
-use Rattle.rules.specs.Counters.{countersOf, isNone, takingIn, further}
-use Rattle.rules.specs.Device.{Direction, Virtqueue, queueSize, Taking, Ending, finished, released, illFormed, Message, Queue}
-use Rattle.rules.specs.Transfer.{Ops, Run, begun, isNil, isWell, walkedTaking, takingOf, completed, moved, settled, worked, givenUp}
-use Rattle.rules.specs.Transfer.{taking, entered, met, next, transferMore, releaseMore, transferRun, releaseRun}
-use Rattle.rules.proofs.Host.{loop-keeps, loop-ends}
+use Rattle.device.specs.Answers.{going}
+use Rattle.device.specs.Counters.{countersOf, isNone, takingIn, further}
+use Rattle.device.specs.Device.{Direction, Virtqueue, queueSize, Taking, Ending, finished, released, illFormed, Message, Queue}
+use Rattle.device.specs.Transfer.{Ops, Run, isNil, isWell, walkedTaking, takingOf, completed, moved, settled, worked, givenUp, taking}
+use Rattle.device.specs.Transfer.{entered, met, next, transferMore, releaseMore, transferRun, releaseRun}
+use Rattle.device.proofs.Host.{loop-keeps, loop-ends}
 
 -- how many are in work
 abbrev pub inWork : Option Message → ℕ

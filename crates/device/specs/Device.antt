@@ -17,7 +17,7 @@ use Rattle.card.specs.Card.{noStream}
 use Rattle.card.specs.declared.Counters.{Counters}
 use Rattle.card.specs.declared.Jack.{Jack}
 use Rattle.card.specs.declared.Stream.{Stream}
-use Rattle.rules.specs.Numbers.{playQueue, captureQueue}
+use Rattle.device.specs.Numbers.{playQueue, captureQueue}
 
 -- ---- directions: output stream 0 on the play queue, input stream 1 on the capture queue
 

@@ -13,17 +13,17 @@ use Rattle.ranges.proofs.Laws.{length-upFrom}
 use Rattle.registers.proofs.Keeps.{by-cond}
 use Rattle.ring.specs.Rules.{headAt}
 use Rattle.ring.specs.declared.Head.{Head}
-use Rattle.rules.specs.Answers.{going}
-use Rattle.rules.specs.Claim.{Good, queueOf, card, account}
-use Rattle.rules.specs.Device.{Virtqueue, queueSize, Taking, Ending, finished, released, illFormed}
-use Rattle.rules.specs.Histories as history
-use Rattle.rules.specs.Histories.{History, number, handedNow, took, noted}
-use Rattle.rules.specs.Loop.{loop}
-use Rattle.rules.specs.Transfer.{Ops, Run, isNil, isWell, takingOf, completed, moved, settled, worked, givenUp, taking, entered, met}
-use Rattle.rules.specs.Transfer.{next, transferMore, releaseMore, transferRun, releaseRun}
-use Rattle.rules.proofs.Histories.{free, alike}
-use Rattle.rules.proofs.Lists.{only-append, handedOf-same}
-use Rattle.rules.proofs.Natural.{Moved, give-keeps, next-keeps, moved-next, worked-keeps, transfer-free, release-free}
+use Rattle.device.specs.Answers.{going}
+use Rattle.device.specs.Claim.{Good, queueOf, card, account}
+use Rattle.device.specs.Device.{Virtqueue, queueSize, Taking, Ending, finished, released, illFormed}
+use Rattle.device.specs.Histories as history
+use Rattle.device.specs.Histories.{History, number, handedNow, took, noted}
+use Rattle.device.specs.Loop.{loop}
+use Rattle.device.specs.Transfer.{Ops, Run, isNil, isWell, takingOf, completed, moved, settled, worked, givenUp, taking, entered, met}
+use Rattle.device.specs.Transfer.{next, transferMore, releaseMore, transferRun, releaseRun}
+use Rattle.device.proofs.Histories.{free, alike}
+use Rattle.device.proofs.Lists.{only-append, handedOf-same}
+use Rattle.device.proofs.Natural.{Moved, give-keeps, next-keeps, moved-next, worked-keeps, transfer-free, release-free}
 
 -- how many were taken
 abbrev pub size : Run History → ℕ

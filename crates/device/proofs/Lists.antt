@@ -9,9 +9,9 @@ use lib.Dec.{eqb}
 use lib.ListN.{length, take, drop, getD, length-append}
 use Rattle.ranges.specs.Ranges.{upFrom}
 use Rattle.ranges.proofs.Laws.{length-upFrom, upFrom-add}
-use Rattle.rules.specs.Transfer.{isNil}
-use Rattle.rules.specs.Histories.{Note, only, handedOf, addressesOf, lostOf, notesOf, lossesOf}
-use Rattle.rules.proofs.Cases.{map-cond}
+use Rattle.device.specs.Transfer.{isNil}
+use Rattle.device.specs.Histories.{Note, only, handedOf, addressesOf, lostOf, notesOf, lossesOf}
+use Rattle.device.proofs.Cases.{map-cond}
 
 -- ---- lists
 

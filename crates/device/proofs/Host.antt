@@ -10,10 +10,10 @@ use lib.Seq.{drop-drop}
 use Rattle.registers.proofs.Keeps.{by-cond}
 use Rattle.ring.specs.Rules.{headAt}
 use Rattle.ring.specs.declared.Head.{Head}
-use Rattle.rules.specs.Device.{Direction, output, input, Virtqueue, queueSize, Taking, Ending, finished, illFormed}
-use Rattle.rules.specs.Loop.{loop}
-use Rattle.rules.specs.Transfer.{Ops, Run, begun, isNil, isWell, bytesMoved, takingOf, completed, moved, worked, taking, entered, met}
-use Rattle.rules.specs.Transfer.{next, transferMore, transferRun}
+use Rattle.device.specs.Device.{Direction, output, input, Virtqueue, queueSize, Taking, Ending, finished, illFormed}
+use Rattle.device.specs.Loop.{loop}
+use Rattle.device.specs.Transfer.{Ops, Run, begun, isNil, isWell, bytesMoved, takingOf, completed, moved, worked, taking, entered}
+use Rattle.device.specs.Transfer.{met, next, transferMore, transferRun}
 
 -- a loop ends with work: what every step keeps holds then, and what work makes of it
 pub loop-ends :

@@ -15,28 +15,29 @@ use Rattle.registers.specs.Map.{sizeOf}
 use Rattle.registers.proofs.Keeps.{by-cond}
 use Rattle.ring.specs.Rules.{baseOf, headAt}
 use Rattle.ring.specs.declared.Head.{Head}
-use Rattle.rules.specs.Account.{InOrder, memoryAfter}
-use Rattle.rules.specs.Answers.{going}
-use Rattle.rules.specs.Claim.{Good, queueOf, card}
-use Rattle.rules.specs.Device.{output, Virtqueue, Form, wellFormed, refused, silent, unwalked, Taking, Ending, finished, released}
-use Rattle.rules.specs.Device.{illFormed}
-use Rattle.rules.specs.Histories as history
-use Rattle.rules.specs.Histories.{History, number, current, handedNow, waiting, took, noted}
-use Rattle.rules.specs.Transfer.{Ops, Run, begun, isNil, isWell, payloadOf, takingOf, completed, moved, settled, worked, givenUp}
-use Rattle.rules.specs.Transfer.{taking, entered, met, next, transferMore, releaseMore, transferRun, releaseRun}
-use Rattle.rules.proofs.Histories.{free, alike, nothing-left, took-busy}
-use Rattle.rules.proofs.Host.{loop-keeps, loop-ends}
-use Rattle.rules.proofs.Keeps.{same-number, none-left, took-good}
-use Rattle.rules.proofs.Lists.{nil-true}
-use Rattle.rules.proofs.Natural.{Moved, moved-keeps, moved-busy, moved-next, works-busy, worked-keeps, give-keeps, next-keeps}
-use Rattle.rules.proofs.Natural.{transfer-free, release-free, begun-moved}
-use Rattle.rules.proofs.Written.{v, ops, grows-none, Sofar, taking-sofar, moved-sofar, Fits, played, ended, ill, completed-sofar}
+use Rattle.device.specs.Account.{InOrder, memoryAfter}
+use Rattle.device.specs.Answers.{going}
+use Rattle.device.specs.Claim.{Good, queueOf, card}
+use Rattle.device.specs.Device.{output, Virtqueue, Form, wellFormed, refused, silent, unwalked, Taking, Ending, finished, released}
+use Rattle.device.specs.Device.{illFormed}
+use Rattle.device.specs.Histories as history
+use Rattle.device.specs.Histories.{History, number, current, handedNow, waiting, took, noted}
+use Rattle.device.specs.Transfer.{Ops, Run, begun, isNil, isWell, payloadOf, takingOf, completed, moved, settled, worked, givenUp}
+use Rattle.device.specs.Transfer.{taking, entered, met, next, transferMore, releaseMore, transferRun, releaseRun}
+use Rattle.device.proofs.Histories.{free, alike, nothing-left, took-busy}
+use Rattle.device.proofs.Host.{loop-keeps, loop-ends}
+use Rattle.device.proofs.Keeps.{same-number, none-left, took-good}
+use Rattle.device.proofs.Lists.{nil-true}
+use Rattle.device.proofs.Natural.{Moved, moved-keeps, moved-busy, moved-next, works-busy, worked-keeps, give-keeps, next-keeps}
+use Rattle.device.proofs.Natural.{transfer-free, release-free, begun-moved}
+use Rattle.device.proofs.Written.{v, ops, Sofar, taking-sofar, moved-sofar, Fits, played, ended, ill, completed-sofar}
+use Rattle.device.proofs.Grown.{grows-none}
 
 -- the message in work, if any, is well-formed
 abbrev pub Well : History → Type 0
 Well q = free q ≡ false → current q .form ≡ wellFormed
 
-well-of : (f : Form) → isWell f ≡ true → f ≡ wellFormed
+pub well-of : (f : Form) → isWell f ≡ true → f ≡ wellFormed
 well-of wellFormed e = refl
 well-of refused e = absurd (true≢false (sym e))
 well-of silent e = absurd (true≢false (sym e))
@@ -46,7 +47,7 @@ well-of (unwalked fault) e = absurd (true≢false (sym e))
 abbrev pub Waits : History → Type 0
 Waits q = free q ≡ false → 0 < length (waiting output q)
 
-some-of : (l : List ℕ) → isNil l ≡ false → 0 < length l
+pub some-of : (l : List ℕ) → isNil l ≡ false → 0 < length l
 some-of [] e = absurd (true≢false e)
 some-of (x ∷ l) e = omega arith
 
@@ -277,7 +278,7 @@ module _ (lies : Virtqueue) (m : List ℕ) (h : History) (w host : List ℕ) whe
 
 -- ---- a Release
 
-released-not : released ≡ finished → ⊥
+pub released-not : released ≡ finished → ⊥
 released-not e = let z : _≡_ {A = ℕ} 0 1 = cc in omega arith
 
 module _ (lies : Virtqueue) (m : List ℕ) (h : History) (w : List ℕ) where

@@ -5,8 +5,8 @@ use Prim.Native.Nat.{ℕ, _+_, _%_}
 use lib.ListN.{length, drop}
 use Rattle.registers.specs.Map.{sizeOf}
 use Rattle.ring.specs.Rules.{newOf}
-use Rattle.rules.specs.Device.{Direction, queueNumber, Taking, nobody, Message, Queue, emptyQueue}
-use Rattle.rules.specs.Transfer.{Ops, payloadOf}
+use Rattle.device.specs.Device.{Direction, queueNumber, Taking, nobody, Message, Queue, emptyQueue}
+use Rattle.device.specs.Transfer.{Ops, payloadOf}
 
 abbrev pub isNone : Option Message → Bool
 isNone none = true
