@@ -3,7 +3,7 @@ use mathlib.Core.Path.{_≡_, refl, sym, ap, _∙_}
 use mathlib.Core.Logic.{_≢_}
 use mathlib.Core.Bool.{Bool, true, false, cond}
 use mathlib.Core.List.{List, [], _∷_, _++_}
-use Prim.Native.Nat.{ℕ, zero, suc, _+_, _-_, _≤_, _<_}
+use Prim.Native.Nat.{ℕ, zero, suc, _+_, _-_, _%_, _≤_, _<_}
 use native.Mathlib.Omega.{arith}
 use borrow.Author.Tests.{lt-ltb, le-ltb, ltb-true, ltb-false}
 use lib.Dec.{ltb}
@@ -50,21 +50,22 @@ module _ (size : ℕ) where
           omega arith
 
   -- the place behind the last is stored: the heads, and this one behind them
-  pub heads-join : (ring : List ℕ) (s n head : ℕ) → length ring ≡ size → s < size → n < size
+  pub heads-join : (ring : List ℕ) (s n head : ℕ) → length ring ≡ size → s < size → n < size → head < 65536
       → headsFrom size (set ring (placeBehind size s n) head) s (suc n) ≡ headsFrom size ring s n ++ head ∷ []
   unfolding headsFrom
-  heads-join ring s zero head l f k =
+  heads-join ring s zero head l f k w =
       let here : placeBehind size s 0 ≡ s = inside s 0 (omega arith) ∙ omega arith in
-      rw (here, getD-set-same ring s head 0 (omega arith))
-  heads-join ring s (suc n) head l f k =
+      let narrow : head % 65536 ≡ head = omega arith in
+      rw (here, getD-set-same ring s head 0 (omega arith), narrow)
+  heads-join ring s (suc n) head l f k w =
       let p = placeBehind size s (suc n) in
-      let rest = heads-join ring (placeBehind size s 1) n head l (place-in s 1 f (omega arith)) (omega arith) in
+      let rest = heads-join ring (placeBehind size s 1) n head l (place-in s 1 f (omega arith)) (omega arith) w in
       let other : getD (set ring p head) s 0 ≡ getD ring s 0 =
       getD-set-other ring p s head 0 (λ e. place-other s n f k (sym e)) in
-      rw other (ap (λ hs. getD ring s 0 ∷ hs) (rw (place-next s n f (omega arith)) at rest))
+      rw other (ap (λ hs. getD ring s 0 % 65536 ∷ hs) (rw (place-next s n f (omega arith)) at rest))
 
   -- somebody waits: the front, and those behind it
-  pub heads-front : (ring : List ℕ) (s n : ℕ) → 0 < n → headsFrom size ring s n ≡ getD ring s 0 ∷ drop 1 (headsFrom size ring s n)
+  pub heads-front : (ring : List ℕ) (s n : ℕ) → 0 < n → headsFrom size ring s n ≡ getD ring s 0 % 65536 ∷ drop 1 (headsFrom size ring s n)
   unfolding headsFrom
   heads-front ring s zero k = absurd (omega arith)
   heads-front ring s (suc n) k = refl

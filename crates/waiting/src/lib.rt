@@ -27,21 +27,21 @@ fn place_behind(size: usize, start: u16, n: u16) -> usize
 }
 
 // The head at the front of a line in which somebody waits.
-pub fn front(ring: &[u16], line: Line) -> DescriptorNumber
+pub fn front(ring: &[u64], line: Line) -> DescriptorNumber
     requires { ⌜ FitLine (length (now ring)) line ⌝ }
     ensures { λ r. ⌜ (0 < line .count → headsIn (now (ring .entry)) line ≡ r .0 ∷ drop 1 (headsIn (now (ring .entry)) line)) ⌝ }
 {
-    DescriptorNumber::of(ring[line.start as usize])
+    DescriptorNumber::of((ring[line.start as usize] % 65536) as u16)
 }
 
 // A message more at the end of a line that is not full.
-pub fn join(ring: &mut [u16], line: Line, head: DescriptorNumber) -> Line
+pub fn join(ring: &mut [u64], line: Line, head: DescriptorNumber) -> Line
     requires { ⌜ FitLine (length (now ring)) line × (line .count < length (now ring)) ⌝ }
     ensures { λ r. ⌜ (headsIn (now (ring .exit)) r ≡ headsIn (now (ring .entry)) line ++ head .0 ∷ [])
         × FitLine (length (now (ring .exit))) r ⌝ }
 {
     let at = place_behind(ring.len(), line.start, line.count);
-    ring[at] = head.number();
+    ring[at] = head.number() as u64;
     Line {
         start: line.start,
         count: line.count + 1,
@@ -49,7 +49,7 @@ pub fn join(ring: &mut [u16], line: Line, head: DescriptorNumber) -> Line
 }
 
 // The front leaves its line; of an empty line nobody.
-pub fn leave(ring: &[u16], line: Line) -> Line
+pub fn leave(ring: &[u64], line: Line) -> Line
     requires { ⌜ FitLine (length (now ring)) line ⌝ }
     ensures { λ r. ⌜ (headsIn (now (ring .entry)) r ≡ drop 1 (headsIn (now (ring .entry)) line))
         × FitLine (length (now (ring .entry))) r ⌝ }

@@ -13,6 +13,9 @@ mul-of c = search needs
 shared-slice-read-of : tie.Need-shared-slice-read-of
 shared-slice-read-of c = c .before .before .before .pre .front
 
+cast-of-2 : tie.Need-cast-of-2
+cast-of-2 c = search needs
+
 of-requires : tie.Need-of-requires
 of-requires c κs = search needs
 
@@ -22,4 +25,4 @@ returns c =
     λ somebody. rw (c .of .ensures) (heads-front _ (a .ring .now) (a .line .start) (a .line .count) somebody)
 
 pub front-spec : {M : Type 1} → statement M
-front-spec = tie.close (tie.spec cast-of mul-of shared-slice-read-of of-requires returns)
+front-spec = tie.close (tie.spec cast-of mul-of shared-slice-read-of cast-of-2 of-requires returns)

@@ -14,6 +14,9 @@ place-behind-requires c κs = let p = c .before .pre in (p .0 .front, p .0 .few)
 number-requires : tie.Need-number-requires
 number-requires c κs = search needs
 
+cast-ring : tie.Need-cast-ring
+cast-ring c = search needs
+
 mul-ring : tie.Need-mul-ring
 mul-ring c = search needs
 
@@ -32,7 +35,7 @@ returns c =
     let s = at-place .before .before in
     let a = s .args in
     let f = s .pre .0 in
-    let heads = heads-join (length (a .ring .now)) (a .ring .now) (a .line .start) (a .line .count) (a .head .0) refl (f .front) (s .pre .1) in
+    let heads = heads-join (length (a .ring .now)) (a .ring .now) (a .line .start) (a .line .count) (a .head .0) refl (f .front) (s .pre .1) (omega arith) in
     let more : a .line .count + 1 ≡ suc (a .line .count) = omega arith in
     rw (length-set (a .ring .now) (at-place .place-behind .result) (c .before .number .result)) (
       rw (at-place .place-behind .ensures .0, c .before .number .ensures, more) heads,
@@ -45,6 +48,7 @@ join-spec =
     (tie.spec
     place-behind-requires
     number-requires
+    cast-ring
     mul-ring
     slice-write-ring
     add-t6
