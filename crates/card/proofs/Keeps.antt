@@ -20,7 +20,8 @@ use Rattle.registers.specs.declared.Effect.{Effect}
 use Rattle.registers.specs.declared.Effect.the-variants.{Nothing, Reset, Based, Rung}
 use Rattle.registers.proofs.Keeps.{power-on-fit, read-fit, write-fit}
 use Rattle.card.specs.Card.{cardOf, partsAtPower, noParts, noMessage, noCounters, noStream, freshStream, jackAtPower}
-use Rattle.card.specs.Card.{withRegisters, withCounters, configOf}
+use Rattle.card.specs.Card.{configOf}
+use Rattle.card.specs.Setters.{withRegisters, withCounters}
 use Rattle.card.specs.Fit.{Fit, FitParts, FitMessage, FitQueue}
 use Rattle.card.specs.Rules.{readCard, writeCard, affected, resetCard, basedCard, jackReset, streamReset, partsReset}
 use Rattle.card.specs.declared.Card.{Card}
@@ -114,7 +115,7 @@ card-of-fit p len f =
     record { registers = power-on-fit; parts = f; four = refl; play = no-queue-fit _ _ len _ refl; capture = no-queue-fit _ _ len _ refl }
 
 module _ (c : Card) (f : Fit c) where
-  pub fit-with-registers : (r : Registers) → FitRegisters r → Fit (withRegisters c r)
+  pub fit-with-registers : (r : Registers) → FitRegisters r → Fit (withRegisters r c)
   fit-with-registers r g = record { registers = g; parts = f .parts; four = f .four; play = f .play; capture = f .capture }
 
   -- the control or the event queue with other counters
@@ -174,5 +175,5 @@ affected-fit (Rung q) c f = f
 pub write-card-fit : (c : Card) → Fit c → (offset width v : ℕ) → Fit (writeCard c offset width v .card)
 unfolding writeCard
 write-card-fit c f offset width v =
-    affected-fit (writeOf (c .registers) offset width v .effect) (withRegisters c (writeOf (c .registers) offset width v .registers))
+    affected-fit (writeOf (c .registers) offset width v .effect) (withRegisters (writeOf (c .registers) offset width v .registers) c)
     (fit-with-registers c f _ (write-fit (c .registers) (f .registers) offset width v))

@@ -105,30 +105,3 @@ noParts =
 
 abbrev pub configOf : Card → Config
 configOf c = record { jacks = c .parts .«jack_count»; streams = c .parts .«stream_count»; chmaps = c .parts .«map_count» }
-
-abbrev pub withRegisters : Card → Registers → Card
-withRegisters c r =
-    record {
-      «ram_len» = c .«ram_len»;
-      registers = r;
-      queues = c .queues;
-      play = c .play;
-      capture = c .capture;
-      parts = c .parts;
-      «play_words» = c .«play_words»;
-      «capture_words» = c .«capture_words»;
-    }
-
--- a card with these counters of a queue
-abbrev pub withCounters : ℕ → Counters → Card → Card
-withCounters q v c =
-    record {
-      «ram_len» = c .«ram_len»;
-      registers = c .registers;
-      queues = set (c .queues) q v;
-      play = c .play;
-      capture = c .capture;
-      parts = c .parts;
-      «play_words» = c .«play_words»;
-      «capture_words» = c .«capture_words»;
-    }

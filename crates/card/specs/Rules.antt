@@ -12,7 +12,8 @@ use Rattle.registers.specs.declared.Effect.{Effect}
 use Rattle.registers.specs.declared.Effect.the-variants.{Nothing, Reset, Based, Rung}
 use Rattle.registers.specs.declared.Read.{Read}
 use Rattle.registers.specs.declared.Written.{Written}
-use Rattle.card.specs.Card.{cardOf, partsAtPower, noParts, noCounters, noMessage, freshStream, configOf, withRegisters}
+use Rattle.card.specs.Card.{cardOf, partsAtPower, noParts, noCounters, noMessage, freshStream, configOf}
+use Rattle.card.specs.Setters.{withRegisters}
 use Rattle.card.specs.declared.Card.{Card}
 use Rattle.card.specs.declared.Jack.{Jack}
 use Rattle.card.specs.declared.Parts.{Parts}
@@ -33,7 +34,7 @@ poweredOf d len =
 unfoldable pub readCard : Card → ℕ → ℕ → ReadAnswer
 readCard c offset width =
     let r : Read = readOf (c .registers) (configOf c) offset width in
-    record { answer = r .answer; value = r .value; card = withRegisters c (r .registers) }
+    record { answer = r .answer; value = r .value; card = withRegisters (r .registers) c }
 
 -- ---- a write, and what it means for the rest of the card
 
@@ -99,4 +100,4 @@ rungOf (Rung q) = q
 unfoldable pub writeCard : Card → ℕ → ℕ → ℕ → WriteAnswer
 writeCard c offset width v =
     let w : Written = writeOf (c .registers) offset width v in
-    record { answer = w .answer; rung = rungOf (w .effect); card = affected (w .effect) (withRegisters c (w .registers)) }
+    record { answer = w .answer; rung = rungOf (w .effect); card = affected (w .effect) (withRegisters (w .registers) c) }

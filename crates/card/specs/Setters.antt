@@ -1,10 +1,83 @@
--- The parts of a card with one of them replaced: what control requests and jack events change.
+-- A card with one of its fields replaced, and its parts with one of them replaced.
+use mathlib.Core.List.{List}
 use Prim.Native.Nat.{ℕ}
 use lib.ListN.{set}
+use Rattle.registers.specs.declared.Registers.{Registers}
 use Rattle.card.specs.declared.Card.{Card}
+use Rattle.card.specs.declared.Counters.{Counters}
 use Rattle.card.specs.declared.Jack.{Jack}
+use Rattle.card.specs.declared.Message.{Message}
 use Rattle.card.specs.declared.Parts.{Parts}
 use Rattle.card.specs.declared.Stream.{Stream}
+
+abbrev pub withRegisters : Registers → Card → Card
+withRegisters r c =
+    record {
+      «ram_len» = c .«ram_len»;
+      registers = r;
+      queues = c .queues;
+      play = c .play;
+      capture = c .capture;
+      parts = c .parts;
+      «play_words» = c .«play_words»;
+      «capture_words» = c .«capture_words»;
+    }
+
+-- the counters of a queue
+abbrev pub withCounters : ℕ → Counters → Card → Card
+withCounters q v c =
+    record {
+      «ram_len» = c .«ram_len»;
+      registers = c .registers;
+      queues = set (c .queues) q v;
+      play = c .play;
+      capture = c .capture;
+      parts = c .parts;
+      «play_words» = c .«play_words»;
+      «capture_words» = c .«capture_words»;
+    }
+
+-- the message in work of a stream's queue, and the words of its chain
+abbrev pub withPlay : Message → List ℕ → Card → Card
+withPlay w ws c =
+    record {
+      «ram_len» = c .«ram_len»;
+      registers = c .registers;
+      queues = c .queues;
+      play = w;
+      capture = c .capture;
+      parts = c .parts;
+      «play_words» = ws;
+      «capture_words» = c .«capture_words»;
+    }
+
+abbrev pub withCapture : Message → List ℕ → Card → Card
+withCapture w ws c =
+    record {
+      «ram_len» = c .«ram_len»;
+      registers = c .registers;
+      queues = c .queues;
+      play = c .play;
+      capture = w;
+      parts = c .parts;
+      «play_words» = c .«play_words»;
+      «capture_words» = ws;
+    }
+
+abbrev pub withParts : Parts → Card → Card
+withParts p c =
+    record {
+      «ram_len» = c .«ram_len»;
+      registers = c .registers;
+      queues = c .queues;
+      play = c .play;
+      capture = c .capture;
+      parts = p;
+      «play_words» = c .«play_words»;
+      «capture_words» = c .«capture_words»;
+    }
+
+-- ---- parts: what control requests and jack events change
 
 abbrev pub withJackAt : ℕ → Jack → Parts → Parts
 withJackAt i j p =
@@ -26,18 +99,4 @@ withStreamAt i s p =
       jacks = p .jacks;
       maps = p .maps;
       streams = set (p .streams) i s;
-    }
-
--- a card with other parts, all else as it was
-abbrev pub withParts : Parts → Card → Card
-withParts p c =
-    record {
-      «ram_len» = c .«ram_len»;
-      registers = c .registers;
-      queues = c .queues;
-      play = c .play;
-      capture = c .capture;
-      parts = p;
-      «play_words» = c .«play_words»;
-      «capture_words» = c .«capture_words»;
     }

@@ -31,7 +31,7 @@ use Rattle.ring.specs.declared.Check.{Check}
 use Rattle.ring.specs.declared.Head.{Head}
 use Rattle.ring.specs.declared.Posted.{Posted}
 use Rattle.ring.specs.declared.Stop.{Stop}
-use Rattle.card.specs.Card as card
+use Rattle.card.specs.Setters as card
 use Rattle.card.specs.Card.{noStream, releasedState}
 use Rattle.card.proofs.Keeps.{fit-with-registers}
 use Rattle.card.proofs.Setters.{fit-with-parts, fit-with-stream}
@@ -40,7 +40,7 @@ use Rattle.card.specs.declared.Card.{Card}
 use Rattle.card.specs.declared.Parts.{Parts}
 use Rattle.card.specs.declared.Stream.{Stream}
 use Rattle.live.proofs.Laws.{fits-card, card-fits, parts-kept}
-use Rattle.live.specs.Live as live
+use Rattle.live.specs.Setters as live
 use Rattle.live.specs.Live.{partsNow, cardIn, configIn, keptLive, Fits}
 use Rattle.live.specs.declared.Live.{Live}
 use Rattle.meaning.proofs.Streams.{stream-at}
@@ -48,8 +48,8 @@ use Rattle.meaning.specs.Card.{countersAt, partsOf, restOf, deviceOf, stepOf, l
 use Rattle.device.specs.Answers.{brokenAnswer}
 use Rattle.rules.specs.Calls as calls
 use Rattle.device.specs.Transfer as transfers
-use Rattle.rules.specs.Calls.{Result, Order, Pending, Step, ended, releaseQueue, releasedOf, acted, Done, ReleaseFirst, Control}
-use Rattle.rules.specs.Calls.{releaseStep, refused, broke, replied, withRest, ordered, orderOf, controlFound, indirect}
+use Rattle.rules.specs.Calls.{Result, Order, Pending, Step, stepBy, releaseQueue, releasedOf, acted, Done, ReleaseFirst, Control}
+use Rattle.rules.specs.Calls.{releaseStep, refusedWith, broke, replied, withRest, ordered, orderOf, controlFound, indirect}
 use Rattle.rules.specs.Control as rules
 use Rattle.rules.specs.Control.{status, withState}
 use Rattle.device.specs.Counters.{countersOf}
@@ -69,7 +69,7 @@ use Rattle.controlq.specs.declared.Answered.{Answered}
 use Rattle.controlq.specs.declared.Ending.the-variants.{Broke, Completed}
 use Rattle.controlq.specs.declared.Side.the-variants.{Usable, Unusable}
 use Rattle.controlq.specs.declared.Turn.{Turn}
-use Rattle.controlq.specs.Control.{sideOf, servedChain, pendingOf, pendingIn, endsOn, walkedAt, headOf, takenLive, finishOf, Ends}
+use Rattle.controlq.specs.Control.{sideOf, servedChain, pendingOf, pendingIn, endsOn, walkedAt, nextOrder, takenLive, finishOf, Ends}
 use Rattle.controlq.specs.Control.{Comes, Turns, EmptiesFor, markedOf, markedLive, releasedLive}
 
 -- ---- the card
@@ -229,11 +229,11 @@ module _ (l : Live) (p : Parts) (pw cw : List ℕ) (f : Fits l p pw cw) (id : �
 module _ (c : Card) (head : DescriptorNumber) (reply : List Range) (id : ℕ) (signal : Bool) (m : List ℕ) where
   -- the card with the signal
   abbrev signalledCard : Card
-  signalledCard = card.withRegisters c (signalledIf signal (c .registers))
+  signalledCard = card.withRegisters (signalledIf signal (c .registers)) c
 
   end-broken : (cause : Cause)
       → endsOn c (releasedOf id (pendingOf c head reply) m (Stop.Broke cause) signal)
-      ≡ leaves (card.withRegisters signalledCard (broken (signalledCard .registers)))
+      ≡ leaves (card.withRegisters (broken (signalledCard .registers)) signalledCard)
       (brokenAnswer (queueNumber (directionOf id)) cause) 0 [] [] m
   unfolding releasedOf restOf deviceOf
   end-broken cause = refl
@@ -242,7 +242,7 @@ module _ (c : Card) (head : DescriptorNumber) (reply : List Range) (id : ℕ) (s
       → endsOn c (releasedOf id (pendingOf c head reply) m Stop.Going signal) ≡ endsOn n (replied (pendingOf n head reply) (status sOk) m)
   unfolding releasedOf restOf deviceOf
   end-replied n e =
-      ap (λ (b : Device Queue). ended (replied (record { rest = b .rest; head = head .0; reply = reply }) (status sOk) m) b) (sym e)
+      ap (λ (b : Device Queue). stepBy (replied (record { rest = b .rest; head = head .0; reply = reply }) (status sOk) m) b) (sym e)
 
 -- the rules' Release of a stream
 module _ (l : Live) (p : Parts) (pw cw : List ℕ) (f : Fits l p pw cw) (id : ℕ) (m pw′ cw′ m′ : List ℕ) (r : Emptied)
@@ -359,7 +359,7 @@ module _ (l : Live) (p : Parts) (pw cw : List ℕ) (f : Fits l p pw cw) (head : 
     unfolding restOf
     served-rest = ap restOf kept-card ∙ rw (← (s .stand))
 
-    served-device : ended (replied (withRest (rules.withParts ps (restOf asked)) asks) bytes m) (deviceOf asked)
+    served-device : stepBy (replied (withRest (rules.withParts ps (restOf asked)) asks) bytes m) (deviceOf asked)
         ≡ endsOn servedCard (replied (pendingOf servedCard head (rangesOf ws reply)) bytes m)
     unfolding deviceOf
     served-device = rw served-rest
@@ -455,14 +455,14 @@ module _ (l : Live) (p : Parts) (pw cw : List ℕ) (f : Fits l p pw cw) (m : Lis
   nextHead = ring.headOf m (pageIn here) (sizeOf controlQueue) (countersAt here controlQueue .taken)
 
   pub next-broken : (cause : Cause) → nextHead ≡ Head.Broken cause
-      → Ends (ordered countersOf (headOf here m) (deviceOf here) m) (finishOf (Broke controlQueue cause) l p) pw cw m
+      → Ends (ordered countersOf (nextOrder here m) (deviceOf here) m) (finishOf (Broke controlQueue cause) l p) pw cw m
   next-broken cause h = rw (page-in here, h) (broken-ends l p pw cw f cause m)
 
   pub next-at : (n : DescriptorNumber) → nextHead ≡ Head.At n
-      → ordered countersOf (headOf here m) (deviceOf here) m ≡ ordered countersOf (walkedAt takenCard n m) (deviceOf takenCard) m
+      → ordered countersOf (nextOrder here m) (deviceOf here) m ≡ ordered countersOf (walkedAt takenCard n m) (deviceOf takenCard) m
   next-at n h =
-      let e : headOf here m ≡ walkedAt takenCard n m = rw (taken-rest, page-in here, h, page-in here) in
-      ordered-same (deviceOf here) (deviceOf takenCard) taken-queues (headOf here m) m
+      let e : nextOrder here m ≡ walkedAt takenCard n m = rw (taken-rest, page-in here, h, page-in here) in
+      ordered-same (deviceOf here) (deviceOf takenCard) taken-queues (nextOrder here m) m
       ∙ ap (λ (o : Order). ordered countersOf o (deviceOf takenCard) m) e
 
 -- ---- the call
@@ -475,8 +475,8 @@ module _ (c : Card) (m : List ℕ) where
   -- "Control: 1, 5, 9."
   abbrev pub byTests : Bool → Bool → Order
   byTests long is-live =
-      cond long (cond is-live (controlFound (restOf c) m checkIn) (Done (refused notLive (restOf c) m)))
-      (Done (refused lengthDiffers (restOf c) m))
+      cond long (cond is-live (controlFound (restOf c) m checkIn) (Done (refusedWith notLive (restOf c) m)))
+      (Done (refusedWith lengthDiffers (restOf c) m))
 
   control-by : stepOf c Control m
       ≡ ordered countersOf (byTests (eqb (length m) (c .«ram_len»)) (registers.live (c .registers))) (deviceOf c) m
@@ -502,11 +502,11 @@ module _ (c : Card) (m : List ℕ) where
       control-none n h z = rw (control-by, long, lives, h, z)
 
       pub control-broken : (cause : Cause) → checkIn ≡ Check.Broken cause
-          → stepOf c Control m ≡ leaves (card.withRegisters c (broken (c .registers))) (brokenAnswer controlQueue cause) 0 [] [] m
+          → stepOf c Control m ≡ leaves (card.withRegisters (broken (c .registers)) c) (brokenAnswer controlQueue cause) 0 [] [] m
       unfolding restOf deviceOf
       control-broken cause h = rw (control-by, long, lives, h)
 
-      pub control-next : (n : ℕ) → checkIn ≡ Check.New n → (n ≡ 0 → ⊥) → stepOf c Control m ≡ ordered countersOf (headOf c m) (deviceOf c) m
+      pub control-next : (n : ℕ) → checkIn ≡ Check.New n → (n ≡ 0 → ⊥) → stepOf c Control m ≡ ordered countersOf (nextOrder c m) (deviceOf c) m
       unfolding restOf
       control-next zero h z = absurd (z refl)
       control-next (suc n) h z = rw (control-by, long, lives, h)

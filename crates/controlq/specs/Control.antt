@@ -20,14 +20,15 @@ use Rattle.card.specs.Card.{noCounters, releasedState}
 use Rattle.card.specs.declared.Card.{Card}
 use Rattle.card.specs.declared.Counters.{Counters}
 use Rattle.card.specs.declared.Parts.{Parts}
-use Rattle.live.specs.Live.{cardIn, withRegisters, Fits}
+use Rattle.live.specs.Live.{cardIn, Fits}
+use Rattle.live.specs.Setters.{withRegisters, withStates}
 use Rattle.live.specs.declared.Live.{Live}
 use Rattle.control.specs.Control.{changedBy}
 use Rattle.control.specs.declared.Change.{Change}
 use Rattle.control.specs.declared.Change.the-variants as change
 use Rattle.meaning.specs.Card.{countersAt, partsOf, restOf, deviceOf, stepOf, leaves}
 use Rattle.device.specs.Answers.{brokenAnswer}
-use Rattle.rules.specs.Calls.{Request, Result, Step, Pending, Order, ended, ordered, acted, indirect, readMessage, controlHead}
+use Rattle.rules.specs.Calls.{Request, Result, Step, Pending, Order, stepBy, ordered, acted, indirect, readMessage, controlHead}
 use Rattle.rules.specs.Control.{served, withState, withStream}
 use Rattle.device.specs.Counters.{countersOf}
 use Rattle.device.specs.Device.{Device, Queue, directionOf, pageOf, streamAt, signalledIf, oneTaken}
@@ -83,15 +84,15 @@ walkedAt c head m =
     (walkOf m (baseOf (pageOf (restOf c) controlQueue)) (sizeOf controlQueue) (head .0) (indirect (restOf c)))
 
 -- the rules' order for the next message
-abbrev pub headOf : Card → List ℕ → Order
-headOf c m =
+abbrev pub nextOrder : Card → List ℕ → Order
+nextOrder c m =
     controlHead (restOf c) m (ring.headOf m (pageOf (restOf c) controlQueue) (sizeOf controlQueue) (countersAt c controlQueue .taken))
 
 -- ---- what is left
 
 -- a result that leaves the stream queues of a card as they are
 abbrev pub endsOn : Card → Result → Step (Device Queue)
-endsOn c o = ended o (deviceOf c)
+endsOn c o = stepBy o (deviceOf c)
 
 -- one message more taken, or completed
 abbrev pub takenLive : Live → Live
@@ -196,18 +197,7 @@ markedOf id b =
 
 -- .. in the small state
 abbrev pub releasedLive : ℕ → Live → Live
-releasedLive id l =
-    record {
-      «ram_len» = l .«ram_len»;
-      registers = l .registers;
-      config = l .config;
-      queues = l .queues;
-      play = l .play;
-      capture = l .capture;
-      states = set (l .states) id releasedState;
-      backlogs = l .backlogs;
-      fresh = l .fresh;
-    }
+releasedLive id l = withStates (set (l .states) id releasedState) l
 
 abbrev pub markedLive : ℕ → Live → Live
 markedLive id l = cond (ltb id (l .config .streams)) (releasedLive id l) l

@@ -17,7 +17,7 @@ use Rattle.ring.specs.Rules.{baseOf, headAt}
 use Rattle.ring.specs.declared.Cause.{Cause}
 use Rattle.ring.specs.declared.Head.{Head}
 use Rattle.device.specs.Answers.{going}
-use Rattle.device.specs.Counters.{countersOf, isNone, takingIn, further}
+use Rattle.device.specs.Counters.{countersOf, isNone, takingInWork, further}
 use Rattle.device.specs.Device.{Direction, Virtqueue, queueSize, Taking, Ending, finished, released, illFormed, Message, Queue}
 use Rattle.device.specs.Transfer.{Ops, Run, isNil, isWell, walkedTaking, takingOf, completed, moved, settled, worked, givenUp, taking}
 use Rattle.device.specs.Transfer.{entered, met, next, transferMore, releaseMore, transferRun, releaseRun}
@@ -31,7 +31,7 @@ inWork (some w) = 1
 pub record Counted (N : ℕ) (q : Queue) : Type 0 where
   pub wraps : q .completed < 65536
   pub balanced : (q .taken + (65536 - q .completed)) % 65536 ≡ inWork (q .work)
-  pub head : isNone (q .work) ≡ false → takingIn (q .work) .head < N
+  pub head : isNone (q .work) ≡ false → takingInWork (q .work) .head < N
 
 -- something of the message in work, if any, waits
 abbrev pub Waits : Direction → Queue → Type 0
@@ -60,7 +60,7 @@ further-in : (n : ℕ) (w : Option Message) → (inWork (further n w) ≡ inWork
 further-in n none = (refl, refl)
 further-in n (some w) = (refl, refl)
 
-further-taking : (n : ℕ) (w : Option Message) → takingIn (further n w) ≡ takingIn w
+further-taking : (n : ℕ) (w : Option Message) → takingInWork (further n w) ≡ takingInWork w
 further-taking n none = refl
 further-taking n (some w) = refl
 

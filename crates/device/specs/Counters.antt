@@ -12,9 +12,9 @@ abbrev pub isNone : Option Message → Bool
 isNone none = true
 isNone (some w) = false
 
-abbrev pub takingIn : Option Message → Taking
-takingIn none = nobody
-takingIn (some w) = w .taking
+abbrev pub takingInWork : Option Message → Taking
+takingInWork none = nobody
+takingInWork (some w) = w .taking
 
 abbrev pub doneIn : Option Message → ℕ
 doneIn none = 0
@@ -33,9 +33,9 @@ countersOf d =
       usedPlace = λ q. q .completed % sizeOf (queueNumber d);
       usedIndex = λ q. (q .completed + 1) % 65536;
       idle = λ q. isNone (q .work);
-      work = λ q. takingIn (q .work);
+      work = λ q. takingInWork (q .work);
       done = λ q. doneIn (q .work);
-      left = λ q. drop (doneIn (q .work)) (payloadOf d (takingIn (q .work)));
+      left = λ q. drop (doneIn (q .work)) (payloadOf d (takingInWork (q .work)));
       take = λ t q. record { taken = (q .taken + 1) % 65536; completed = q .completed; work = some (record { taking = t; done = 0 }) };
       hand = λ bytes xs q. record { taken = q .taken; completed = q .completed; work = further (length xs) (q .work) };
       complete = λ e latency q. record { taken = q .taken; completed = (q .completed + 1) % 65536; work = none };

@@ -25,7 +25,7 @@ use Rattle.live.specs.Live.{jackNow, partsNow, cardIn, Fits}
 use Rattle.live.specs.declared.Live.{Live}
 use Rattle.meaning.proofs.Streams.{stream-at, rest-stream}
 use Rattle.meaning.specs.Card.{restOf, deviceOf, stepOf, leaves}
-use Rattle.rules.specs.Calls.{Result, Step, Event, ended, refused, withConnected, admitted, eventAllowed, recorded, eventOf}
+use Rattle.rules.specs.Calls.{Result, Step, Event, stepBy, refusedWith, withConnected, admitted, eventAllowed, recorded, eventOf}
 use Rattle.rules.specs.Control.{noJack}
 use Rattle.device.specs.Device.{Rest, Device, Queue, withJacks, streamAt}
 use Rattle.device.specs.Numbers.{jackConnected, jackDisconnected, pcmXrun, eventQueue}
@@ -190,8 +190,8 @@ recorded-keeps r code data′ = kept (eqb code jackConnected) (eqb code jackDisc
 -- the call by its tests
 tested : (r : Rest) (code data′ : ℕ) (m : List ℕ)
     → eventOf r code data′ m
-    ≡ admitted r m (λ answer. refused answer r m)
-    (cond (eventAllowed r code data′) (sentOf code data′ (recorded r code data′) m .result) (refused eventNotAllowed r m))
+    ≡ admitted r m (λ answer. refusedWith answer r m)
+    (cond (eventAllowed r code data′) (sentOf code data′ (recorded r code data′) m .result) (refusedWith eventNotAllowed r m))
 unfolding eventOf
 tested r code data′ m = rw (recorded-keeps r code data′ .0, recorded-keeps r code data′ .1)
 
@@ -201,15 +201,15 @@ module _ (c : Card) (code data′ : ℕ) (m : List ℕ) where
       cond (eqb (length m) (c .«ram_len»))
       (cond (registers.live (c .registers))
       (cond (eventAllowed (restOf c) code data′) (sentOf code data′ (recorded (restOf c) code data′) m .result)
-      (refused eventNotAllowed (restOf c) m))
-      (refused notLive (restOf c) m))
-      (refused lengthDiffers (restOf c) m)
+      (refusedWith eventNotAllowed (restOf c) m))
+      (refusedWith notLive (restOf c) m))
+      (refusedWith lengthDiffers (restOf c) m)
 
   event-by : eventOf (restOf c) code data′ m ≡ byTests
   unfolding restOf
   event-by = tested (restOf c) code data′ m
 
-  pub event-refused : (number : ℕ) → byTests ≡ refused number (restOf c) m
+  pub event-refused : (number : ℕ) → byTests ≡ refusedWith number (restOf c) m
       → stepOf c (Event code data′) m ≡ leaves c (plain number) 0 [] [] m
   unfolding deviceOf
   event-refused number h = rw (event-by ∙ h)
@@ -217,17 +217,17 @@ module _ (c : Card) (code data′ : ℕ) (m : List ℕ) where
   -- an event that is sent, from the card `n` in which it is recorded
   event-sent : (n : Card) (o : Step (Device Queue)) → byTests ≡ sentOf code data′ (recorded (restOf c) code data′) m .result
       → deviceOf n ≡ withRest (recorded (restOf c) code data′) (deviceOf c)
-      → ended (sentOf code data′ (restOf n) m .result) (deviceOf n) ≡ o
+      → stepBy (sentOf code data′ (restOf n) m .result) (deviceOf n) ≡ o
       → stepOf c (Event code data′) m ≡ o
   unfolding deviceOf
   event-sent n o h d x =
-      rw (event-by ∙ h) (ap (λ (v : Device Queue). ended (sentOf code data′ (v .rest) m .result) v) (sym d) ∙ x)
+      rw (event-by ∙ h) (ap (λ (v : Device Queue). stepBy (sentOf code data′ (v .rest) m .result) v) (sym d) ∙ x)
 
 -- what sending changed is put back
 sent-leaves : (l : Live) (p : Parts) (pw cw : List ℕ) → Fits l p pw cw → (a : Attempt) (code i : ℕ) (m after : List ℕ)
     → let n = cardIn l p pw cw in
     sentOf code i (queue.holding (l .registers) (getD (l .queues) eventQueue noCounters) (restOf n)) m ≡ sentIn (restOf n) a after
-    → ended (sentOf code i (restOf n) m .result) (deviceOf n)
+    → stepBy (sentOf code i (restOf n) m .result) (deviceOf n)
     ≡ leaves (cardIn (holdingLive eventQueue (a .registers) (a .counters) l) p pw cw) (a .answer) 0 [] [] after
 unfolding restOf
 sent-leaves l p pw cw f a code i m after h =

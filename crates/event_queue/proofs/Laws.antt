@@ -23,7 +23,7 @@ use Rattle.ring.specs.declared.Cause.{Cause}
 use Rattle.ring.specs.declared.Head.{Head}
 use Rattle.ring.specs.declared.Posted.{Posted}
 use Rattle.card.specs.declared.Counters.{Counters}
-use Rattle.rules.specs.Calls.{Result, Ended, Further, refused, broke, eventBytes, eventPosted, eventRoom, eventChain, tried, onward}
+use Rattle.rules.specs.Calls.{Result, Ended, Further, refusedWith, broke, eventBytes, eventPosted, eventRoom, eventChain, tried, onward}
 use Rattle.rules.specs.Calls.{eventRun}
 use Rattle.device.specs.Device.{Rest, bytesOf, signalledIf, oneTaken}
 use Rattle.device.specs.Numbers.{eventQueue}
@@ -106,7 +106,7 @@ module _ (code data′ left : ℕ) (g : Registers) (q : Counters) (m : List ℕ)
 -- ---- the entries, one after the other
 
 module _ (code data′ n : ℕ) (r : Rest) (m : List ℕ) where
-  pub run-none : n ≡ 0 → eventRun code data′ n r m ≡ record { result = refused noEventBuffer r m; left = 0 }
+  pub run-none : n ≡ 0 → eventRun code data′ n r m ≡ record { result = refusedWith noEventBuffer r m; left = 0 }
   unfolding eventRun
   run-none h = rw h
 

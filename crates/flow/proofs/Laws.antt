@@ -18,7 +18,7 @@ use Rattle.device.specs.Counters.{countersOf, isNone}
 use Rattle.device.specs.Device as rules
 use Rattle.device.specs.Transfer.{Run, worked, moved, payloadOf, takingOf, statusOf, completed, settled, entered, next, givenUp, isNil}
 use Rattle.device.specs.Transfer.{isWell}
-use Rattle.meaning.specs.Card.{takingIn, messageOf}
+use Rattle.meaning.specs.Card.{takingOfMessage, messageOf}
 use Rattle.message.specs.Message as message
 use Rattle.message.specs.Message.{virtqueueAs, answeredOf, FitTaken}
 use Rattle.message.specs.declared.Form.the-variants.{WellFormed}
@@ -183,7 +183,7 @@ module _ (ws ws′ : List ℕ) where
 
 -- what waits of a message in work
 pub left-length : (d : rules.Direction) (ws : List ℕ) (message : Message) → Sound ws (message .request) → Sound ws (message .reply)
-    → length (drop (message .done) (payloadOf d (takingIn ws message))) ≡ payloadBytes d message - message .done
+    → length (drop (message .done) (payloadOf d (takingOfMessage ws message))) ≡ payloadBytes d message - message .done
 unfolding payloadOf
 left-length rules.output ws message s t = rw (length-drop, length-drop, length-places, ← s)
 left-length rules.input ws message s t = rw (length-drop, length-take, length-places, ← t) (omega arith)
@@ -210,7 +210,7 @@ module _ (v : rules.Virtqueue) (ws m host : List ℕ) (f : Flow) (busy : Busy f)
   unfolding runOf
   settled-now h = rw (
     busy,
-    nil-of (drop (f .message .done) (payloadOf (v .direction) (takingIn ws (f .message))))
+    nil-of (drop (f .message .done) (payloadOf (v .direction) (takingOfMessage ws (f .message))))
         (left-length (v .direction) ws (f .message) (g .request) (g .reply) ∙ h),
   )
 
@@ -219,7 +219,7 @@ module _ (v : rules.Virtqueue) (ws m host : List ℕ) (f : Flow) (busy : Busy f)
   unfolding runOf
   settled-later h = rw (
     busy,
-    not-nil (drop (f .message .done) (payloadOf (v .direction) (takingIn ws (f .message))))
+    not-nil (drop (f .message .done) (payloadOf (v .direction) (takingOfMessage ws (f .message))))
         (rw (left-length (v .direction) ws (f .message) (g .request) (g .reply)) h),
   )
 

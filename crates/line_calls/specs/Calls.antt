@@ -6,7 +6,7 @@ use Prim.Native.Nat.{ℕ}
 use Rattle.registers.specs.Answers.{plain}
 use Rattle.device.specs.Device.{Direction, output, input, queueNumber, Rest, Device, queueFor, pageOf, streamAt}
 use Rattle.device.specs.Transfer.{Run, Transferred, transferredBy}
-use Rattle.rules.specs.Calls.{Step, Pending, Order, indirect, orderBy, releasedOn, untouched, isRunning, admittedIf, eventOf, ended}
+use Rattle.rules.specs.Calls.{Step, Pending, Order, indirect, orderBy, releasedOn, untouched, isRunning, admittedIf, eventOf, stepBy}
 use Rattle.rules.specs.Calls.{readStep, writeBy, orderedBy, endedOn, transferStep, remembering}
 use Rattle.rules.specs.Control.{Parts, Served, itemsBy, informBy, servedBy}
 use Rattle.queue_lines.specs.Chains.{Virtqueue, lineOf, isOn}
@@ -84,7 +84,7 @@ module _ (n : Streams) where
     asked Control b m = orderedBy releaseBy (orderOf (b .rest) m) b m
     asked (Play id host backlog) b m = transferBy output id host backlog b m
     asked (Capture id host backlog) b m = transferBy input id host backlog b m
-    asked (Event code data′) b m = ended (eventOf (b .rest) code data′ m) b
+    asked (Event code data′) b m = stepBy (eventOf (b .rest) code data′ m) b
 
     abbrev pub step : Device Q → Call → Step (Device Q)
     step b c = asked (c .asked) b (c .lent)

@@ -20,7 +20,8 @@ use Rattle.card.specs.declared.Parts.{Parts}
 use Rattle.card.specs.declared.Powered.{Powered}
 use Rattle.card.specs.declared.ReadAnswer.{ReadAnswer}
 use Rattle.card.specs.declared.WriteAnswer.{WriteAnswer}
-use Rattle.live.specs.Live.{jackNow, partsNow, cardIn, configIn, liveOf, keptLive, withRegisters, resetLive, basedLive}
+use Rattle.live.specs.Live.{jackNow, partsNow, cardIn, configIn, liveOf, keptLive, resetLive, basedLive}
+use Rattle.live.specs.Setters.{withRegisters}
 use Rattle.live.specs.Live.{affectedLive, readLive, writeLive, poweredBoard, FitLive, Fits, Ready}
 use Rattle.description.specs.Lawful.{lawful}
 use Rattle.description.specs.declared.Description.{Description}

@@ -23,6 +23,7 @@ use Rattle.card.specs.declared.Parts.{Parts}
 use Rattle.card.specs.declared.Stream.{Stream}
 use Rattle.description.specs.declared.Description.{Description}
 use Rattle.live.specs.declared.Board.{Board}
+use Rattle.live.specs.Setters.{withRegisters}
 use Rattle.live.specs.declared.Live.{Live}
 use Rattle.live.specs.declared.PoweredBoard.{PoweredBoard}
 use Rattle.live.specs.declared.LiveRead.{LiveRead}
@@ -97,20 +98,6 @@ keptLive l p =
       states = getD (p .streams) 0 noStream .state ∷ getD (p .streams) 1 noStream .state ∷ [];
       backlogs = getD (p .streams) 0 noStream .backlog ∷ getD (p .streams) 1 noStream .backlog ∷ [];
       fresh = false;
-    }
-
-abbrev pub withRegisters : Registers → Live → Live
-withRegisters r l =
-    record {
-      «ram_len» = l .«ram_len»;
-      registers = r;
-      config = l .config;
-      queues = l .queues;
-      play = l .play;
-      capture = l .capture;
-      states = l .states;
-      backlogs = l .backlogs;
-      fresh = l .fresh;
     }
 
 -- a card but for the words of its chains

@@ -14,7 +14,8 @@ use Rattle.registers.specs.Rules.{writeOf}
 use Rattle.registers.specs.declared.Effect.{Effect}
 use Rattle.registers.specs.declared.Effect.the-variants.{Nothing, Reset, Based, Rung}
 use Rattle.registers.proofs.Queues.{queueNamed, queue-named}
-use Rattle.card.specs.Card.{noCounters, withRegisters}
+use Rattle.card.specs.Card.{noCounters}
+use Rattle.card.specs.Setters.{withRegisters}
 use Rattle.card.specs.Fit.{Fit}
 use Rattle.card.specs.Rules.{poweredOf, readCard, writeCard, affected, resetCard, basedCard, rungOf, jackReset, streamReset}
 use Rattle.card.specs.declared.Card.{Card}
@@ -93,4 +94,4 @@ write-step c f offset width v m =
     ap
     (λ (d : rules.Device rules.Queue).
     record { state = d; told = toldAll (plain (w .answer)) 0 (rungOf (w .effect)) 0 [] [] m })
-    (sym (affected-rest (w .effect) (withRegisters c (w .registers)) (f .four) (queue-named (c .registers) v offset width)))
+    (sym (affected-rest (w .effect) (withRegisters (w .registers) c) (f .four) (queue-named (c .registers) v offset width)))

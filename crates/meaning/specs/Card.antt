@@ -18,12 +18,12 @@ use Rattle.device.specs.Counters.{countersOf}
 use Rattle.device.specs.Device as rules
 
 -- the message in work as it was taken, its ranges in the words of its chain
-abbrev pub takingIn : List ℕ → Message → rules.Taking
-takingIn ws m =
+abbrev pub takingOfMessage : List ℕ → Message → rules.Taking
+takingOfMessage ws m =
     record { head = m .head .0; request = rangesOf ws (m .request); reply = rangesOf ws (m .reply); form = rules.wellFormed }
 
 abbrev pub messageOf : List ℕ → Message → Option rules.Message
-messageOf ws m = cond (eqb (m .count) 0) none (some (record { taking = takingIn ws m; done = m .done }))
+messageOf ws m = cond (eqb (m .count) 0) none (some (record { taking = takingOfMessage ws m; done = m .done }))
 
 abbrev pub queueOf : List ℕ → Counters → Message → rules.Queue
 queueOf ws c m = record { taken = c .taken; completed = c .completed; work = messageOf ws m }

@@ -22,7 +22,8 @@ use Rattle.meaning.proofs.Streams.{stream-at}
 use Rattle.rules.specs.Calls.{rememberedIf, remembering}
 use Rattle.rules.specs.Control.{withBacklog}
 use Rattle.device.specs.Device as rules
-use Rattle.pcm.specs.Entry.{transferOf, movedBy, withBacklogAt, withBacklogs}
+use Rattle.pcm.specs.Entry.{transferOf, movedBy, withBacklogAt}
+use Rattle.live.specs.Setters.{withBacklogs}
 
 module _ (id backlog : ℕ) (c : Card) where
   -- the device with another rest

@@ -7,7 +7,7 @@ use Rattle.card.specs.declared.Card.{Card}
 use Rattle.message.specs.Message.{directionOf}
 use Rattle.message.specs.declared.Direction.{Direction}
 use Rattle.device.specs.Device.{signalledIf}
-use Rattle.stream.specs.Queue.{withRegisters}
+use Rattle.card.specs.Setters.{withRegisters}
 use Rattle.stream.proofs.Fits.{FitIn, signal-fit, broken-by-fit, with-flow-fit}
 use Rattle.flow.specs.declared.Flow.{Flow}
 use Rattle.pcm.specs.Entry.{flowedCard, registersAfter}

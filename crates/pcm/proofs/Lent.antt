@@ -26,7 +26,8 @@ use Rattle.stream.proofs.Fits.{with-fit}
 use Rattle.stream.proofs.Lent.{flows-in, ram-in}
 use Rattle.pcm.specs.declared.TransferAnswer.{TransferAnswer}
 use Rattle.pcm.specs.Entry.{transferOf, bufferOf, refusalOf, RefusesOn, flowedCard, flowedLive, untouchedBy, flowAnswer, movedBy}
-use Rattle.pcm.specs.Entry.{withBacklogs, withBacklogAt, rememberedBy, LeavesOn, MovesOn, TransfersOn}
+use Rattle.live.specs.Setters.{withBacklogs}
+use Rattle.pcm.specs.Entry.{withBacklogAt, rememberedBy, LeavesOn, MovesOn, TransfersOn}
 use Rattle.pcm.proofs.Backlog.{remembered-says, remembered-fit, noted-in}
 use Rattle.pcm.proofs.Outcomes.{transfer-refused, transfer-fit, transfer-flowed}
 

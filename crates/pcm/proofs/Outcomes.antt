@@ -25,7 +25,7 @@ use Rattle.flow.specs.Flow.{runOf}
 use Rattle.flow.specs.declared.Flow.{Flow}
 use Rattle.flow.specs.declared.Job.the-variants.{Transfer}
 use Rattle.transfer.specs.Runs.{foundRun}
-use Rattle.stream.specs.Queue.{withRegisters}
+use Rattle.card.specs.Setters.{withRegisters}
 use Rattle.stream.proofs.Found.{FlowsIn, flow-run, flow-fit}
 use Rattle.stream.proofs.Laws.{flowed-device}
 use Rattle.pcm.specs.Entry.{refusalOf, bufferOf, flowedCard, registersAfter, movedBy}

@@ -8,10 +8,10 @@ use lib.ListN.{length, getD, take, set}
 use Rattle.registers.specs.Answers.{done, plain}
 use Rattle.registers.specs.declared.Registers.{Registers}
 use Rattle.card.specs.Card.{noStream}
-use Rattle.card.specs.Setters.{withParts, withStreamAt}
+use Rattle.card.specs.Setters.{withRegisters, withParts, withStreamAt}
 use Rattle.card.specs.declared.Card.{Card}
 use Rattle.card.specs.declared.Parts.{Parts}
-use Rattle.live.specs.Live as live
+use Rattle.live.specs.Setters as live
 use Rattle.live.specs.Live.{cardIn, Fits}
 use Rattle.live.specs.declared.Live.{Live}
 use Rattle.meaning.specs.Card.{restOf, deviceOf, stepOf, leaves}
@@ -22,7 +22,7 @@ use Rattle.rules.specs.Calls.{Request, Play, Capture, Step, isRunning, admitted
 use Rattle.rules.specs.Control.{withBacklog}
 use Rattle.device.specs.Counters.{countersOf}
 use Rattle.device.specs.Device as rules
-use Rattle.stream.specs.Queue.{withRegisters, withFlow, flowLive, cardWith, FitsWith}
+use Rattle.stream.specs.Queue.{withFlow, flowLive, cardWith, FitsWith}
 use Rattle.flow.specs.declared.Flow.{Flow}
 use Rattle.pcm.specs.declared.TransferAnswer.{TransferAnswer}
 
@@ -83,27 +83,13 @@ movedBy d backlog c host m =
 abbrev pub withBacklogAt : ℕ → ℕ → Card → Card
 withBacklogAt id backlog c = withParts (withStreamAt id (withBacklog backlog (getD (c .parts .streams) id noStream)) (c .parts)) c
 
-abbrev pub withBacklogs : List ℕ → Live → Live
-withBacklogs bs l =
-    record {
-      «ram_len» = l .«ram_len»;
-      registers = l .registers;
-      config = l .config;
-      queues = l .queues;
-      play = l .play;
-      capture = l .capture;
-      states = l .states;
-      backlogs = bs;
-      fresh = l .fresh;
-    }
-
 -- .. where the call answered 0
 abbrev pub rememberedBy : ℕ → ℕ → TransferAnswer → TransferAnswer
 rememberedBy id backlog t =
     record {
       answer = t .answer;
       count = t .count;
-      live = withBacklogs (cond (eqb (t .answer .number) done) (set (t .live .backlogs) id backlog) (t .live .backlogs)) (t .live);
+      live = live.withBacklogs (cond (eqb (t .answer .number) done) (set (t .live .backlogs) id backlog) (t .live .backlogs)) (t .live);
     }
 
 -- ---- the calls, of every card with this small state and these words of the queue's chain, whatever its parts and the other queue's

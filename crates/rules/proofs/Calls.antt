@@ -14,7 +14,7 @@ use Rattle.registers.proofs.Keeps.{by-cond}
 use Rattle.ring.specs.declared.Check.{Check}
 use Rattle.rules.specs.Calls.{Request, ReadRegister, WriteRegister, Control, Play, Capture, Event, Step, Result, Order, Done}
 use Rattle.rules.specs.Calls.{ReleaseFirst, Pending, virtqueueOf, releaseQueue, clearsQueue, orderOf, releasedOf, untouched}
-use Rattle.rules.specs.Calls.{isRunning, transferFound, transferred, eventOf, ended, readStep, writeStep, releaseStep, ordered}
+use Rattle.rules.specs.Calls.{isRunning, transferFound, transferred, eventOf, stepBy, readStep, writeStep, releaseStep, ordered}
 use Rattle.rules.specs.Calls.{remembering, transferStep, transferBy, asked, endedOn, writeBy}
 use Rattle.device.specs.Transfer.{Emptied, emptied, Transferred, Ops, found}
 use Rattle.rules.specs.Claim.{clears, bytesFor, shownAs}
@@ -199,7 +199,7 @@ module _
   releaseStep-keeps d id p e k =
       put-back d (directionOf id) (releasedOf id p (e .mem) (e .stop) (e .signal) .rest) (e .queue) (rw append-nil k)
 
-  ended-keeps : (d : Direction) (o : Result) → Kept d [] (ended o b)
+  ended-keeps : (d : Direction) (o : Result) → Kept d [] (stepBy o b)
   ended-keeps output o = untold output
   ended-keeps input o = untold input
 

@@ -79,8 +79,8 @@ pub record Result : Type 0 where
   pub mem : List ℕ
 
 -- "nothing changed"; "Answers 1 to 8 count 0."
-abbrev pub refused : ℕ → Rest → List ℕ → Result
-refused number r m = record { rest = r; answer = plain number; count = 0; mem = m }
+abbrev pub refusedWith : ℕ → Rest → List ℕ → Result
+refusedWith number r m = record { rest = r; answer = plain number; count = 0; mem = m }
 
 -- a queue is broken: "earlier writes .. stand ..; NEEDS_RESET and ISR bit 1 set"
 abbrev pub broke : ℕ → Cause → Rest → List ℕ → Result
@@ -202,15 +202,15 @@ module _ (serve : Parts → List ℕ → ℕ → Served) where
   controlHeadBy r m (Head.Broken cause) = Done (broke controlQueue cause r m)
 
   abbrev pub controlFoundBy : Rest → List ℕ → Check → Order
-  controlFoundBy r m Check.Idle = Done (refused done r m)
+  controlFoundBy r m Check.Idle = Done (refusedWith done r m)
   controlFoundBy r m (Check.Broken cause) = Done (broke controlQueue cause r m)
-  controlFoundBy r m (Check.New zero) = Done (refused done r m)
+  controlFoundBy r m (Check.New zero) = Done (refusedWith done r m)
   controlFoundBy r m (Check.New (suc n)) = controlHeadBy r m (headOf m (pageOf r controlQueue) (sizeOf controlQueue) (r .control .taken))
 
   -- "Control: 1, 5, 9."
   abbrev pub orderBy : Rest → List ℕ → Order
   orderBy r m =
-      admitted r m (λ answer. Done (refused answer r m))
+      admitted r m (λ answer. Done (refusedWith answer r m))
       (controlFoundBy r m (checkOf m (pageOf r controlQueue) (sizeOf controlQueue) (r .control .taken) 0))
 
 abbrev pub readMessage : Rest → List ℕ → ℕ → Outcome → Order
@@ -339,23 +339,23 @@ module _ (code data′ : ℕ) where
   onward (Further o) left go = go (o .rest) (o .mem)
 
   unfoldable pub eventRun : ℕ → Rest → List ℕ → Sent
-  eventRun zero r m = record { result = refused noEventBuffer r m; left = 0 }
+  eventRun zero r m = record { result = refusedWith noEventBuffer r m; left = 0 }
   eventRun (suc k) r m = onward (tried r m) k (eventRun k)
 
 -- "An idle queue is answer 8."
 abbrev pub eventFound : ℕ → ℕ → Rest → List ℕ → Check → Sent
-eventFound code data′ r m Check.Idle = record { result = refused noEventBuffer r m; left = 0 }
+eventFound code data′ r m Check.Idle = record { result = refusedWith noEventBuffer r m; left = 0 }
 eventFound code data′ r m (Check.Broken cause) = record { result = broke eventQueue cause r m; left = 0 }
 eventFound code data′ r m (Check.New n) = eventRun code data′ n r m
 
 -- "Event: 1, 5, 7, then 8 or 9." Answer 8 leaves "jack state recorded; bad chains completed".
 unfoldable pub eventOf : Rest → ℕ → ℕ → List ℕ → Result
 eventOf r code data′ m =
-    admitted r m (λ answer. refused answer r m)
+    admitted r m (λ answer. refusedWith answer r m)
     (cond (eventAllowed r code data′)
     (eventFound code data′ (recorded r code data′) m
     (checkOf m (pageOf r eventQueue) (sizeOf eventQueue) (r .event .taken) 0) .result)
-    (refused eventNotAllowed r m))
+    (refusedWith eventNotAllowed r m))
 
 -- ---- a call
 
@@ -368,8 +368,8 @@ abbrev pub nothingRung : ℕ
 nothingRung = noQueue
 
 -- a result that leaves the stream queues as they are
-abbrev pub ended : {Q : Type 0} → Result → Device Q → Step (Device Q)
-ended o b =
+abbrev pub stepBy : {Q : Type 0} → Result → Device Q → Step (Device Q)
+stepBy o b =
     record {
       state = record { rest = o .rest; play = b .play; capture = b .capture };
       told = toldAll (o .answer) 0 nothingRung (o .count) [] [] (o .mem);
@@ -438,7 +438,7 @@ writeBy empty offset width v b m =
 
 -- a control message, by what a Release does
 abbrev pub orderedBy : {Q : Type 0} → (ℕ → Pending → Device Q → List ℕ → Step (Device Q)) → Order → Device Q → List ℕ → Step (Device Q)
-orderedBy release (Done o) b m = ended o b
+orderedBy release (Done o) b m = stepBy o b
 orderedBy release (ReleaseFirst id p) b m = release id p b m
 
 module _ {Q : Type 0} (ops : Direction → Ops Q) where
@@ -463,7 +463,7 @@ module _ {Q : Type 0} (ops : Direction → Ops Q) where
   asked Control b m = ordered (orderOf (b .rest) m) b m
   asked (Play host backlog) b m = transferBy output host backlog b m
   asked (Capture host backlog) b m = transferBy input host backlog b m
-  asked (Event code data′) b m = ended (eventOf (b .rest) code data′ m) b
+  asked (Event code data′) b m = stepBy (eventOf (b .rest) code data′ m) b
 
   abbrev pub step : Device Q → Call → Step (Device Q)
   step b c = asked (c .asked) b (c .lent)

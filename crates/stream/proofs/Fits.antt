@@ -14,11 +14,12 @@ use Rattle.registers.specs.declared.Registers.{Registers}
 use Rattle.registers.proofs.Keeps.{signalled-fit, broken-fit}
 use Rattle.card.specs.Card.{noCounters}
 use Rattle.card.specs.Fit.{Fit, FitMessage, FitQueue}
+use Rattle.card.specs.Setters.{withRegisters}
 use Rattle.card.specs.declared.Card.{Card}
 use Rattle.card.specs.declared.Counters.{Counters}
 use Rattle.card.specs.declared.Message.{Message}
 use Rattle.card.proofs.Keeps.{fit-with-registers}
-use Rattle.meaning.specs.Card.{takingIn, queueOf}
+use Rattle.meaning.specs.Card.{takingOfMessage, queueOf}
 use Rattle.message.specs.Message.{directionOf}
 use Rattle.message.specs.declared.Direction.{Direction}
 use Rattle.message.specs.declared.Direction.the-variants.{Output, Input}
@@ -34,7 +35,7 @@ use Rattle.flow.specs.declared.Flow.{Flow}
 use Rattle.card.specs.declared.Parts.{Parts}
 use Rattle.live.proofs.Laws.{fits-card, card-fits}
 use Rattle.live.specs.declared.Live.{Live}
-use Rattle.stream.specs.Queue.{withRegisters, withFlow, countersIn, workIn, wordsIn, messageIn, flowLive, cardWith, FitsWith, FitOwn}
+use Rattle.stream.specs.Queue.{withFlow, countersIn, workIn, wordsIn, messageIn, flowLive, cardWith, FitsWith, FitOwn}
 
 pub signal-fit : (b : Bool) (g : Registers) → FitRegisters g → FitRegisters (signalledIf b g)
 signal-fit true g f = signalled-fit g f
@@ -67,7 +68,7 @@ waits-same d a b e w = rw e w
 -- what holds of it in the rules, and the other way round
 module _ (d : rules.Direction) (len : ℕ) (ws : List ℕ) (q : Counters) (m : Message) where
   abbrev left : List ℕ
-  left = drop (m .done) (payloadOf d (takingIn ws m))
+  left = drop (m .done) (payloadOf d (takingOfMessage ws m))
 
   counted-by : (n : ℕ) → m .count ≡ n → FitIn d len ws q m → Counted (sizeOf (rules.queueNumber d)) (queueOf ws q m)
   counted-by zero e f = rw e (record { wraps = f .wraps; balanced = rw e at (f .balanced); head = λ h. absurd (true≢false h) })
@@ -104,7 +105,7 @@ module _ (d : rules.Direction) (len : ℕ) (ws : List ℕ) (q : Counters) (m : M
     fit-by (suc zero) e =
         let one : eqb (m .count) 0 ≡ false = rw e in
         let l : length left ≡ payloadBytes d m - m .done = left-length d ws m (g .request) (g .reply) in
-        let head : takingIn ws m .head < sizeOf (rules.queueNumber d) = rw one at (k .head) refl in
+        let head : takingOfMessage ws m .head < sizeOf (rules.queueNumber d) = rw one at (k .head) refl in
         let some : 0 < length left = some-left left (rw one at w refl) in
         record {
           message = g;

@@ -6,7 +6,7 @@ use native.Mathlib.Omega.{arith}
 use lib.Seq.{getD-set-same, getD-set-other}
 use Rattle.registers.specs.Fit.{FitRegisters}
 use Rattle.registers.specs.declared.Registers.{Registers}
-use Rattle.card.specs.Card as card
+use Rattle.card.specs.Setters as card
 use Rattle.card.specs.Card.{noCounters}
 use Rattle.card.specs.Fit.{Fit}
 use Rattle.card.specs.declared.Card.{Card}
@@ -46,7 +46,7 @@ module _ (c : Card) (f : Fit c) (g : Registers) (v : Counters) where
   held-device (suc (suc q)) h = absurd (omega arith)
 
   pub held-fit : FitRegisters g → (q : ℕ) → q < 2 → Fit (holding q g v c)
-  held-fit k q h = fit-with-counters (card.withRegisters c g) (fit-with-registers c f g k) q v h
+  held-fit k q h = fit-with-counters (card.withRegisters g c) (fit-with-registers c f g k) q v h
 
 -- .. and so the small state
 module _ (l : Live) (p : Parts) (pw cw : List ℕ) (f : Fits l p pw cw) where

@@ -7,7 +7,7 @@ use Prim.Native.Nat.{ℕ}
 use Rattle.card.specs.declared.Card.{Card}
 use Rattle.ring.specs.declared.Stop.{Stop}
 use Rattle.meaning.specs.Card.{restOf, deviceOf}
-use Rattle.rules.specs.Calls.{Pending, Result, ReleaseFirst, ordered, releaseStep, releasedOf, ended, withRest}
+use Rattle.rules.specs.Calls.{Pending, Result, ReleaseFirst, ordered, releaseStep, releasedOf, stepBy, withRest}
 use Rattle.device.specs.Counters.{countersOf}
 use Rattle.device.specs.Device as rules
 use Rattle.stream.specs.Queue.{Empties}
@@ -40,7 +40,7 @@ module _ (c n : Card) (m m′ : List ℕ) (stop : Stop) (signal : Bool) where
 
     -- the rules' Release of a stream
     pub released-ordered : (d : rules.Direction) → rules.directionOf id ≡ d → Empties d carried c m m′ stop signal n
-        → ordered countersOf (ReleaseFirst id p) (deviceOf c) m ≡ ended answered (deviceOf n)
+        → ordered countersOf (ReleaseFirst id p) (deviceOf c) m ≡ stepBy answered (deviceOf n)
     unfolding releaseStep
     released-ordered d h e =
         let back : withRest (restOf n) p ≡ p = ap (λ v. withRest v p) (rest-kept d _ e ∙ sym same) in

@@ -7,13 +7,16 @@ use lib.ListN.{length, getD, set}
 use Rattle.registers.specs.Rules.{hasBit}
 use Rattle.registers.specs.declared.Registers.{Registers}
 use Rattle.card.specs.Card as card
+use Rattle.card.specs.Setters.{withCounters, withPlay, withCapture}
 use Rattle.card.specs.declared.Card.{Card}
 use Rattle.card.specs.declared.Counters.{Counters}
 use Rattle.card.specs.declared.Message.{Message}
 use Rattle.card.specs.declared.Parts.{Parts}
 use Rattle.live.specs.Live.{cardIn, FitLive, FitPlay, FitCapture, Fits}
+use Rattle.live.specs.Setters as live
 use Rattle.live.specs.declared.Live.{Live}
 use Rattle.meaning.specs.Card.{countersAt, restOf, deviceOf}
+use Rattle.device.specs.Numbers.{playQueue, captureQueue}
 use Rattle.message.specs.Message.{directionOf, virtqueueIn}
 use Rattle.message.specs.declared.Virtqueue.{Virtqueue}
 use Rattle.message.specs.declared.Direction.{Direction}
@@ -57,30 +60,8 @@ FlowsOn d latency job l ws m host ws′ m′ host′ r =
 
 -- after a flow on the queue of a direction
 abbrev pub flowLive : Direction → Flow → Live → Live
-flowLive Output f l =
-    record {
-      «ram_len» = l .«ram_len»;
-      registers = l .registers;
-      config = l .config;
-      queues = set (l .queues) 2 (f .counters);
-      play = f .message;
-      capture = l .capture;
-      states = l .states;
-      backlogs = l .backlogs;
-      fresh = l .fresh;
-    }
-flowLive Input f l =
-    record {
-      «ram_len» = l .«ram_len»;
-      registers = l .registers;
-      config = l .config;
-      queues = set (l .queues) 3 (f .counters);
-      play = l .play;
-      capture = f .message;
-      states = l .states;
-      backlogs = l .backlogs;
-      fresh = l .fresh;
-    }
+flowLive Output f l = live.withPlay (f .message) (live.withCounters playQueue (f .counters) l)
+flowLive Input f l = live.withCapture (f .message) (live.withCounters captureQueue (f .counters) l)
 
 -- the card with these words of the direction's chain, and those of the other's
 abbrev pub cardWith : Direction → Live → Parts → List ℕ → List ℕ → Card
@@ -106,10 +87,6 @@ Remembers l id backlog =
 
 -- ---- in the card
 
--- a card with other registers
-abbrev pub withRegisters : Registers → Card → Card
-withRegisters v c = card.withRegisters c v
-
 -- its counters, its message in work and the words of its chain
 abbrev pub countersIn : Card → Direction → Counters
 countersIn c d = countersAt c (rules.queueNumber (directionOf d))
@@ -124,28 +101,8 @@ wordsIn c Input = c .«capture_words»
 
 -- a card after a flow on the queue of a direction, which left these words of its chain
 abbrev pub withFlow : Direction → Flow → List ℕ → Card → Card
-withFlow Output f ws c =
-    record {
-      «ram_len» = c .«ram_len»;
-      registers = c .registers;
-      queues = set (c .queues) 2 (f .counters);
-      play = f .message;
-      capture = c .capture;
-      parts = c .parts;
-      «play_words» = ws;
-      «capture_words» = c .«capture_words»;
-    }
-withFlow Input f ws c =
-    record {
-      «ram_len» = c .«ram_len»;
-      registers = c .registers;
-      queues = set (c .queues) 3 (f .counters);
-      play = c .play;
-      capture = f .message;
-      parts = c .parts;
-      «play_words» = c .«play_words»;
-      «capture_words» = ws;
-    }
+withFlow Output f ws c = withPlay (f .message) ws (withCounters playQueue (f .counters) c)
+withFlow Input f ws c = withCapture (f .message) ws (withCounters captureQueue (f .counters) c)
 
 -- ---- a queue emptied, with statuses of this latency: the card and memory before; memory, where the queue stands, an interrupt wanted
 -- and the card after

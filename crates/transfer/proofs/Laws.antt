@@ -16,7 +16,7 @@ use Rattle.flow.specs.Flow.{runOf, freshFlow, stoppedFlow, FitFlow, StepsOn, re
 use Rattle.flow.specs.declared.Flow.{Flow}
 use Rattle.flow.specs.declared.Job.{Job}
 use Rattle.flow.specs.declared.Job.the-variants.{Transfer, Release}
-use Rattle.meaning.specs.Card.{takingIn}
+use Rattle.meaning.specs.Card.{takingOfMessage}
 use Rattle.ring.specs.declared.Cause.{Cause}
 use Rattle.ring.specs.declared.Check.{Check}
 use Rattle.ring.specs.declared.Check.the-variants.{Idle, Broken, New}
@@ -63,11 +63,11 @@ module _ (job : Job) (v : rules.Virtqueue) (ws m host : List ℕ) (f : Flow) whe
     by Transfer =
         rw (
           room-test (length host) (f .moved),
-          none-when (eqb (f .message .count) 0) (record { taking = takingIn ws (f .message); done = f .message .done }),
+          none-when (eqb (f .message .count) 0) (record { taking = takingOfMessage ws (f .message); done = f .message .done }),
         )
         (swapped (going (f .stop)) (ltb (f .moved) (length host)) (eqb (f .message .count) 0))
     by Release =
-        rw (none-when (eqb (f .message .count) 0) (record { taking = takingIn ws (f .message); done = f .message .done }))
+        rw (none-when (eqb (f .message .count) 0) (record { taking = takingOfMessage ws (f .message); done = f .message .done }))
         (sym (and-true (going (f .stop) && eqb (f .message .count) 0)))
 
 pub goes-idle : (job : Job) (f : Flow) (room : ℕ) → goesOn job f room ≡ true → f .message .count ≡ 0

@@ -12,7 +12,7 @@ use Rattle.meaning.specs.Card.{deviceOf, stepOf}
 use Rattle.registers.specs.Rules as registers
 use Rattle.rules.specs.Calls.{Control, ordered}
 use Rattle.device.specs.Counters.{countersOf}
-use Rattle.controlq.specs.Control.{headOf}
+use Rattle.controlq.specs.Control.{nextOrder}
 use Rattle.controlq.proofs.Laws.{checkIn, control-long, control-dead, control-idle, control-none, control-broken, control-next}
 use Rattle.controlq.proofs.Laws.{broken-fits, nextHead, next-broken, next-at}
 use borrow.Author.Needs.{needs}
@@ -51,7 +51,7 @@ head-found c p pw cw f = rw (checked c .before .queue-size .ensures) at (c .next
 to-next : (c : tie.After-next-head) (p : Parts) (pw cw : List ℕ) → let a = start (checked c) .args in
     Fits (a .live) p pw cw
     → stepOf (cardIn (a .live) p pw cw) Control (a .m .now)
-    ≡ ordered countersOf (headOf (cardIn (a .live) p pw cw) (a .m .now)) (deviceOf (cardIn (a .live) p pw cw)) (a .m .now)
+    ≡ ordered countersOf (nextOrder (cardIn (a .live) p pw cw) (a .m .now)) (deviceOf (cardIn (a .live) p pw cw)) (a .m .now)
 to-next c p pw cw f =
     let k = checked c in
     let a = start k .args in

@@ -1,6 +1,7 @@
 -- A broken queue is answered for its cause; else the stream is Released and the message answered.
 use mathlib.Core.Path.{_∙_}
-use Rattle.live.specs.Live.{Fits, withRegisters}
+use Rattle.live.specs.Live.{Fits}
+use Rattle.live.specs.Setters.{withRegisters}
 use Rattle.device.specs.Device.{signalledIf}
 use Rattle.controlq.proofs.Laws.{few-streams, emptied-fits, release-broken, release-going}
 use borrow.Author.Needs.{needs}

@@ -8,7 +8,8 @@ use Rattle.registers.specs.declared.Effect.the-variants.{Nothing, Reset, Based,
 use Rattle.registers.specs.Rules.{writeOf}
 use Rattle.registers.specs.declared.Effect.{Effect}
 use Rattle.card.specs.Rules.{rungOf}
-use Rattle.live.specs.Live.{withRegisters, affectedLive, writeLive, FitLive}
+use Rattle.live.specs.Live.{affectedLive, writeLive, FitLive}
+use Rattle.live.specs.Setters.{withRegisters}
 use Rattle.live.specs.declared.Live.{Live}
 use Rattle.live.specs.declared.LiveWrite.{LiveWrite}
 use Rattle.live.proofs.Laws.{write-live}
