@@ -72,15 +72,15 @@ enum wekshurag_queue {
 #define WEKSHURAG_CHAIN_WORDS 68
 
 struct wekshurag_live {
-    uint64_t words[18];
+    uint64_t words[17];
 };
-WEKSHURAG_ASSERT(sizeof(struct wekshurag_live) == 144, "what every call touches");
+WEKSHURAG_ASSERT(sizeof(struct wekshurag_live) == 136, "what every call touches");
 
 struct wekshurag_board {
     struct wekshurag_live live;
     uint64_t words[43];
 };
-WEKSHURAG_ASSERT(sizeof(struct wekshurag_board) == 488, "the same with the parts");
+WEKSHURAG_ASSERT(sizeof(struct wekshurag_board) == 480, "the same with the parts");
 
 struct wekshurag_card {
     struct wekshurag_board board;

@@ -8,13 +8,13 @@ use Rattle.wekshurag.proofs.ReadResult.Laws as ReadResult
 use Rattle.wekshurag.proofs.WriteResult.Laws as WriteResult
 use Rattle.wekshurag.proofs.CallResult.Laws as CallResult
 
-pub wekshurag-live : size Live.mir ≡ 144
+pub wekshurag-live : size Live.mir ≡ 136
 wekshurag-live = refl
 
 pub wekshurag-live-align : align Live.mir ≡ 8
 wekshurag-live-align = refl
 
-pub wekshurag-board : size Board.mir ≡ 488
+pub wekshurag-board : size Board.mir ≡ 480
 wekshurag-board = refl
 
 pub wekshurag-board-align : align Board.mir ≡ 8

@@ -40,8 +40,8 @@ pub struct Live {
     pub play: Message,
     pub capture: Message,
     pub states: [u8; STREAMS],
-    pub backlogs: [u32; STREAMS],
     pub fresh: bool,
+    pub backlogs: [u32; STREAMS],
 }
 
 #[repr(C)]
