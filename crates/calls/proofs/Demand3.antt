@@ -86,7 +86,8 @@ module _ (w : Direction → List ℕ) (b : Device History) (c n : Card) (k : Cal
         release-drains =
             λ p q o a based.
             rw (stands, q)
-            (drained.drained-queue _ _ (drained.output-release-drains (w output) b (k .lent) (i .good output) p o (rw (told-is, q) at a) based));
+            (drained.drained-queue _ _
+            (drained.output-release-drains (w output) b (k .lent) (i .good output) p o (rw (told-is, q) at a) based));
       }
 
   -- the bytes, and the sum of the counts, told so far
@@ -162,7 +163,8 @@ module _ (h : History) (b : Book h) (t : ℕ) (e : entryAt h t .ending ≡ relea
   io-err true l = absurd (not-finished (rw (List·getD-eq-default (h .entries) unanswered (leb-true (number h) t l))))
   io-err false l = go (b .answers t (leb-false (number h) t l))
     where
-      go : AnsweredBy finished (takingAt h t) (entryAt h t) ⊎ AnsweredBy released (takingAt h t) (entryAt h t) → entryAt h t .status ≡ some sIoErr
+      go : AnsweredBy finished (takingAt h t) (entryAt h t) ⊎ AnsweredBy released (takingAt h t) (entryAt h t)
+          → entryAt h t .status ≡ some sIoErr
       go (inl a) = status-of finished (a .way)
       go (inr a) = status-of released (a .way)
 

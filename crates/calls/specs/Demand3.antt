@@ -7,8 +7,8 @@
 --   on once and in order, but for those that a Release gave up, whose chain it answered IO_ERR, and those of the chain in work that wait;
 --   the plays' counts add up to the places handed on; the latency that a Release tells is that of the last play that was answered 0, since
 --   reset; and no rollover of the 16-bit index makes a buffer new that was played.
--- The account (rules/specs/Account, device/specs/Histories) is fed what power-up is given, then each call's arguments and the memory lent to
--- it. `Demand3` is the claim; the theorem is `demand-3` of proofs/Demand3.
+-- The account (rules/specs/Account, device/specs/Histories) is fed what power-up is given, then each call's arguments and the memory
+-- lent to it. `Demand3` is the claim; the theorem is `demand-3` of proofs/Demand3.
 use mathlib.Core.Path.{_≡_}
 use mathlib.Core.Bool.{cond}
 use mathlib.Core.List.{List, [], _∷_, _++_, map}

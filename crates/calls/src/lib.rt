@@ -169,8 +169,8 @@ fn control(card: Card, m: &mut [u8]) -> Queued
 // The event call.
 fn event(card: Card, m: &mut [u8], code: u32, data: u32) -> Queued
     requires { ⌜ Fit card ⌝ }
-    ensures { λ r. ⌜ (stepOf card (rules.Event code «data») (now (m .entry)) ≡ leaves (r .card) (r .answer) (r .count) [] [] (now (m .exit)))
-        × Fit (r .card) ⌝ }
+    ensures { λ r. ⌜ (stepOf card (rules.Event code «data») (now (m .entry))
+        ≡ leaves (r .card) (r .answer) (r .count) [] [] (now (m .exit))) × Fit (r .card) ⌝ }
 {
     let before = card.parts;
     let told = event::event(live::of_card(card), before, m, code, data);

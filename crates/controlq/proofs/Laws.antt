@@ -506,7 +506,8 @@ module _ (c : Card) (m : List ℕ) where
       unfolding restOf deviceOf
       control-broken cause h = rw (control-by, long, lives, h)
 
-      pub control-next : (n : ℕ) → checkIn ≡ Check.New n → (n ≡ 0 → ⊥) → stepOf c Control m ≡ ordered countersOf (nextOrder c m) (deviceOf c) m
+      pub control-next : (n : ℕ) → checkIn ≡ Check.New n → (n ≡ 0 → ⊥)
+          → stepOf c Control m ≡ ordered countersOf (nextOrder c m) (deviceOf c) m
       unfolding restOf
       control-next zero h z = absurd (z refl)
       control-next (suc n) h z = rw (control-by, long, lives, h)

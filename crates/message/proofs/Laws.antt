@@ -91,7 +91,8 @@ unfolding takingOf
 taken-by v m head o h = ap (walkedTaking (v .direction) m head) h
 
 -- of the addresses a status takes eight
-pub status-take : (m as′ : List ℕ) (code latency : ℕ) → putAt m (take 8 as′) (statusBytes code latency) ≡ putAt m as′ (statusBytes code latency)
+pub status-take : (m as′ : List ℕ) (code latency : ℕ)
+    → putAt m (take 8 as′) (statusBytes code latency) ≡ putAt m as′ (statusBytes code latency)
 unfolding rules.bytesOf
 status-take m as′ code latency = putAt-take 8 m as′ (statusBytes code latency) (omega arith)
 

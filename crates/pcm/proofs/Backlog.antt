@@ -35,7 +35,10 @@ module _ (id backlog : ℕ) (c : Card) where
   unfolding deviceOf restOf
   remembers true h =
       let below = ltb-true id (c .parts .«stream_count») h in
-      rw (take-set-lt (c .parts .«stream_count») (c .parts .streams) id (withBacklog backlog (getD (c .parts .streams) id noStream)) below, stream-at (c .parts) id below)
+      rw (
+        take-set-lt (c .parts .«stream_count») (c .parts .streams) id (withBacklog backlog (getD (c .parts .streams) id noStream)) below,
+        stream-at (c .parts) id below,
+      )
   remembers false h =
       let past = ltb-false id (c .parts .«stream_count») h in
       rw (

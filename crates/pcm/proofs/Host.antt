@@ -7,7 +7,8 @@ use native.Mathlib.Omega.{arith}
 use lib.ListN.{length, take, drop, length-take, take-append-drop}
 use lib.Seq.{sets, sets-eq}
 
-pub host-after : (host₀ host : List ℕ) (n : ℕ) → n ≤ length host₀ → length host ≡ length host₀ → drop n host ≡ drop n host₀ → sets host₀ 0 (take n host) ≡ host
+pub host-after : (host₀ host : List ℕ) (n : ℕ) → n ≤ length host₀ → length host ≡ length host₀ → drop n host ≡ drop n host₀
+    → sets host₀ 0 (take n host) ≡ host
 host-after host₀ host n h l e =
     let k : length (take n host) ≡ n = rw length-take (omega arith) in
     rw (sets-eq (take n host) host₀ 0 (rw k (omega arith)), k, zero-add, ← e) (take-append-drop n host)

@@ -41,7 +41,8 @@ module _ (d : rules.Direction) (backlog : ℕ) (r : rules.Rest) (q : rules.Queue
   outcomeBy long is-live running =
       cond long (cond is-live (cond running passed (refused notRunning)) (refused notLive)) (refused lengthDiffers)
 
-  pub refused-transfer : (a : ℕ) → refusalOf r m (rules.streamNumber d) ≡ a → (a ≡ 0 → ⊥) → transferred (countersOf d) d backlog r q m host ≡ refused a
+  pub refused-transfer : (a : ℕ) → refusalOf r m (rules.streamNumber d) ≡ a → (a ≡ 0 → ⊥)
+      → transferred (countersOf d) d backlog r q m host ≡ refused a
   unfolding refusalOf transferred
   refused-transfer a h n = by (eqb (length m) (r .ram)) (live (r .registers)) (isRunning r (rules.streamNumber d)) h where
     by : (x y z : Bool) → byTests x y z ≡ a → outcomeBy x y z ≡ refused a

@@ -32,7 +32,8 @@ use Rattle.stream.specs.Queue.{laidOut, countersIn, workIn, wordsIn, wit
 -- ---- where it is
 
 -- the queue as the guest laid it out
-pub virtqueue-in : (c : Card) (d : Direction) (latency : ℕ) → virtqueueIn (laidOut (c .registers) d latency) ≡ virtqueueOf (restOf c) (directionOf d) latency
+pub virtqueue-in : (c : Card) (d : Direction) (latency : ℕ)
+    → virtqueueIn (laidOut (c .registers) d latency) ≡ virtqueueOf (restOf c) (directionOf d) latency
 unfolding restOf
 virtqueue-in c d latency = refl
 
@@ -92,7 +93,8 @@ module _ (f : Flow) (ws′ : List ℕ) (l : Live) (p : Parts) (ws other : List �
 -- what of a card the queue of a direction is: its counters, its message, its words
 module _ (l : Live) (p : Parts) (ws other : List ℕ) where
   pub with-live : (d : Direction) → let c = cardWith d l p ws other in
-      (c .registers ≡ l .registers) × (c .«ram_len» ≡ l .«ram_len») × (c .queues ≡ l .queues) × (workIn c d ≡ messageIn l d) × (wordsIn c d ≡ ws)
+      (c .registers ≡ l .registers) × (c .«ram_len» ≡ l .«ram_len») × (c .queues ≡ l .queues) × (workIn c d ≡ messageIn l d)
+      × (wordsIn c d ≡ ws)
   with-live Output = (refl, refl, refl, refl, refl)
   with-live Input = (refl, refl, refl, refl, refl)
 

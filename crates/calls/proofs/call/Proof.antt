@@ -105,7 +105,8 @@ returns-4 : tie.Need-returns-4
 returns-4 c =
     let p = c .before .before .before .before .before in
     let e = p .play in
-    let o : c .queue-outcome2 .result ≡ queueOutcome (e .result .answer) (e .result .count) (e .result .card) = c .queue-outcome2 .ensures in
+    let q = c .queue-outcome2 in
+    let o : q .result ≡ queueOutcome (e .result .answer) (e .result .count) (e .result .card) = q .ensures in
     rw (p .before .before .before .before .request3 .given .1, o) (record { says = e .ensures .0; fit = e .ensures .1 }, refl)
 
 same-length-4 : tie.Need-same-length-4
@@ -118,7 +119,8 @@ returns-5 : tie.Need-returns-5
 returns-5 c =
     let p = c .before .before .before .before .before in
     let e = p .capture in
-    let o : c .queue-outcome3 .result ≡ queueOutcome (e .result .answer) (e .result .count) (e .result .card) = c .queue-outcome3 .ensures in
+    let q = c .queue-outcome3 in
+    let o : q .result ≡ queueOutcome (e .result .answer) (e .result .count) (e .result .card) = q .ensures in
     rw (p .before .before .before .before .request4 .given .1, o) (record { says = e .ensures .0; fit = e .ensures .1 }, e .ensures .2)
 
 same-length-6 : tie.Need-same-length-6
@@ -126,9 +128,11 @@ same-length-6 c = search needs
 
 returns-6 : tie.Need-returns-6
 returns-6 c =
-    let e = c .before .before .before .event in
-    let o : c .queue-outcome4 .result ≡ queueOutcome (e .result .answer) (e .result .count) (e .result .card) = c .queue-outcome4 .ensures in
-    rw (c .before .before .before .before .before .before .request5 .given .1, o) (record { says = e .ensures .0; fit = e .ensures .1 }, refl)
+    let p = c .before .before .before in
+    let e = p .event in
+    let q = c .queue-outcome4 in
+    let o : q .result ≡ queueOutcome (e .result .answer) (e .result .count) (e .result .card) = q .ensures in
+    rw (p .before .before .before .request5 .given .1, o) (record { says = e .ensures .0; fit = e .ensures .1 }, refl)
 
 pub call-spec : {M : Type 1} → statement M
 call-spec =

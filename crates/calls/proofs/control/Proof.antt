@@ -39,8 +39,8 @@ returns c =
     let s = lent p .before .before .before .before .before in
     let a = s .args in
     rw (c .joined .ensures)
-    (control-whole (a .card) (s .pre) _ (lent p .of-card .ensures) (a .m .now) _ _ _ (p .control .result .live) (p .control .result .parts) _ _
-    (p .control .ensures))
+    (control-whole (a .card) (s .pre) _ (lent p .of-card .ensures) (a .m .now) _ _ _ (p .control .result .live)
+    (p .control .result .parts) _ _ (p .control .ensures))
 
 pub control-spec : {M : Type 1} → statement M
 control-spec =

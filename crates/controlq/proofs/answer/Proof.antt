@@ -139,7 +139,9 @@ same-length-6 : tie.Need-same-length-6
 same-length-6 c = search needs
 
 returns-3 : tie.Need-returns-3
-returns-3 c pw cw f = let k = c .before .before .before .before .before .before in left k change.Remap pw cw (told k _ (c .enum-told .given .1))
+returns-3 c pw cw f =
+    let k = c .before .before .before .before .before .before in
+    left k change.Remap pw cw (told k _ (c .enum-told .given .1))
 
 same-length-7 : tie.Need-same-length-7
 same-length-7 c = search needs

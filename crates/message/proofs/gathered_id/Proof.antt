@@ -19,7 +19,8 @@ number32-requires : tie.Need-number32-requires
 number32-requires c κs = search needs
 
 returns : tie.Need-returns
-returns c = rw (c .number32 .ensures, c .before .before .before .gather .ensures) (le-of-four _ (rw (length-map, length-take) (omega arith)))
+returns c =
+    rw (c .number32 .ensures, c .before .before .before .gather .ensures) (le-of-four _ (rw (length-map, length-take) (omega arith)))
 
 pub gathered-id-spec : {M : Type 1} → statement M
 gathered-id-spec =

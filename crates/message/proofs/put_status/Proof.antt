@@ -51,11 +51,18 @@ put32-requires-2 c κs = search needs
 same-length-3 : tie.Need-same-length-3
 same-length-3 c = search needs
 
+-- from behind the latency to behind the code; from behind the last range to the start
+abbrev code-put : tie.After-slice-known5 → tie.After-put32
+code-put c = c .before .before .before .before .before .before .before
+
+abbrev start : tie.After-range-at → tie.Start
+start c = c .before .before .before .before .before .before .before
+
 returns-3 : tie.Need-returns-3
 returns-3 c =
-    let at-put32 = c .before .before .before .before .before .before .before in
+    let at-put32 = code-put c in
     let at-range = at-put32 .before .before .before .before .before in
-    let a = at-range .before .before .before .before .before .before .before .args in
+    let a = start at-range .args in
     c .before .before .put322 .ensures
     ∙ rw (at-put32 .put32 .ensures) (status-last (a .m .now) (a .list .now) (a .reply .first) (a .reply .count)
     (at-range .range-at .result) (a .code) (a .latency) (omega arith) (at-range .range-at .ensures) (omega arith))

@@ -35,7 +35,9 @@ returns c =
     let s = at-place .before .before in
     let a = s .args in
     let f = s .pre .0 in
-    let heads = heads-join (length (a .ring .now)) (a .ring .now) (a .line .start) (a .line .count) (a .head .0) refl (f .front) (s .pre .1) (omega arith) in
+    let l = a .line in
+    let heads =
+    heads-join (length (a .ring .now)) (a .ring .now) (l .start) (l .count) (a .head .0) refl (f .front) (s .pre .1) (omega arith) in
     let more : a .line .count + 1 ≡ suc (a .line .count) = omega arith in
     rw (length-set (a .ring .now) (at-place .place-behind .result) (c .before .number .result)) (
       rw (at-place .place-behind .ensures .0, c .before .number .ensures, more) heads,
