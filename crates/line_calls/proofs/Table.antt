@@ -24,14 +24,18 @@ use Rattle.line_calls.specs.Streams.{Streams}
 use Rattle.line_calls.specs.Table.{streams, Ready, Absent, Table}
 use Rattle.rules.proofs.Anew.{clears-by}
 
--- a stream that is not on the queue of a direction
+and-false : (x : Bool) → (x && false) ≡ false
+and-false true = refl
+and-false false = refl
+
+-- a stream that does not run on the queue of a direction
 module _ (n : Streams) (b : Device Queue) (m : List ℕ) (ready : Ready b m) (host : List ℕ) (id backlog : ℕ) where
-  absent-untouched : (d : Direction) → isOn (virtqueueOf n (b .rest) d 0) id ≡ false
+  absent-untouched : (d : Direction) → runsOn n (b .rest) d id ≡ false
       → transferredOf n (card n) d id backlog b m host ≡ untouched (plain notRunning) (b .rest .registers) (queueFor d b) m
   unfolding transferredOf
   absent-untouched d off = rw (eq-eqb (length m) (b .rest .ram) (ready .lent), ready .is-live, off)
 
-  absent : (d : Direction) → isOn (virtqueueOf n (b .rest) d 0) id ≡ false → Absent n (transferOf d id host backlog) b m
+  absent : (d : Direction) → runsOn n (b .rest) d id ≡ false → Absent n (transferOf d id host backlog) b m
   unfolding transferStep remembering
   absent output off =
       let e = absent-untouched output off in
@@ -40,9 +44,12 @@ module _ (n : Streams) (b : Device Queue) (m : List ℕ) (ready : Ready b m) (ho
       let e = absent-untouched input off in
       record { answer = rw e; count = rw e; memory = rw e; state = rw e }
 
-and-false : (x : Bool) → (x && false) ≡ false
-and-false true = refl
-and-false false = refl
+  -- .. not being on it
+  elsewhere : (d : Direction) → isOn (virtqueueOf n (b .rest) d 0) id ≡ false → Absent n (transferOf d id host backlog) b m
+  elsewhere d off = absent d (rw off)
+
+  stopped : (d : Direction) → isRunning (b .rest) id ≡ false → Absent n (transferOf d id host backlog) b m
+  stopped d off = absent d (rw off (and-false (isOn (virtqueueOf n (b .rest) d 0) id)))
 
 -- past the last, or before the first
 beyond : (first count id : ℕ) → count ≤ id - first → (leb first id && ltb (id - first) count) ≡ false
@@ -86,10 +93,11 @@ table =
       second-output = refl;
       first-input = refl;
       pcm-info = λ p x y z e. rw e;
-      play-of-input = λ n b m host id backlog r l. absent n b m r host id backlog output (beyond 0 (n .outputs) id (omega arith));
-      capture-of-output = λ n b m host id backlog r l. absent n b m r host id backlog input (below (n .outputs) (n .inputs) id l);
+      not-running = λ n b m host d id backlog r e. stopped n b m r host id backlog d e;
+      play-of-input = λ n b m host id backlog r l. elsewhere n b m r host id backlog output (beyond 0 (n .outputs) id (omega arith));
+      capture-of-output = λ n b m host id backlog r l. elsewhere n b m r host id backlog input (below (n .outputs) (n .inputs) id l);
       capture-of-none = λ n b m host id backlog r l.
-          absent n b m r host id backlog input (beyond (n .outputs) (n .inputs) id (omega arith));
+          elsewhere n b m r host id backlog input (beyond (n .outputs) (n .inputs) id (omega arith));
       too-many = too-many;
       reset = λ n b m. rw (clears-by output (b .rest .registers) 0 18 1, clears-by input (b .rest .registers) 0 18 1) (refl, refl);
       base-write = λ n b m page l s k.

@@ -50,6 +50,10 @@ pub record Table : Type 0 where
       (p : Parts) (x y z : Stream)
       → p .streams ≡ x ∷ y ∷ z ∷ []
       → itemsBy (directionNumber (streams 2 1)) listing.Streams p ≡ pcmItemOf 0 x ∷ pcmItemOf 0 y ∷ pcmItemOf 1 z ∷ []
+  -- "stream absent or not Running"
+  pub not-running :
+      (n : Streams) (b : Device Queue) (m host : List ℕ) (d : Direction) (id backlog : ℕ)
+      → Ready b m → isRunning (b .rest) id ≡ false → Absent n (transferOf d id host backlog) b m
   -- "A stream of the other direction counts as absent."
   pub play-of-input :
       (n : Streams) (b : Device Queue) (m host : List ℕ) (id backlog : ℕ)
