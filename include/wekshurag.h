@@ -16,7 +16,7 @@
  *     Nobody else, no other thread and no device, writes it during the call.
  *   - The card is one that wekshurag_power_up made, left by the calls since, or a copy of one. Calls on one card do not run at the
  *     same time.
- *   - 64 KiB of stack. Measured: wekshurag_control takes 9,544 bytes, event 1,616, play and capture 1,272, power_up 824, write 392, the
+ *   - 64 KiB of stack. Measured: wekshurag_control takes 7,608 bytes, event 1,532, play and capture 1,288, power_up 808, write 188, the
  *     others under 100 (c/stack_test.c). Nothing recurses; but this is measured, not proved.
  * Nothing else is asked: every number and every byte is safe.
  */

@@ -259,39 +259,42 @@ fn follow(
     let mut count = size as u32;
     let mut deeper: u32 = 1;
     let end = 'walk: loop {
-        // One that names an indirect table is not counted, but after 34 it is a fault as well: its
-        // table has at least one more.
-        if left == 0 {
-            break 'walk End::Faulted(Fault::TooMany);
-        }
-        if count <= number.number() as u32 {
-            break 'walk End::Faulted(Fault::PastTable);
-        }
-        let d = Descriptor::read(m, at, number);
-        if d.is_indirect() {
-            if deeper == 0 {
-                break 'walk End::Faulted(Fault::Nested);
+        // the descriptors of one table, up to the one that names another
+        loop {
+            // One that names an indirect table is not counted, but after 34 it is a fault as well: its
+            // table has at least one more.
+            if left == 0 {
+                break 'walk End::Faulted(Fault::TooMany);
             }
-            if let End::Faulted(fault) = enter(m.len(), indirect, d) {
+            if count <= number.number() as u32 {
+                break 'walk End::Faulted(Fault::PastTable);
+            }
+            let d = Descriptor::read(m, at, number);
+            if d.is_indirect() {
+                if deeper == 0 {
+                    break 'walk End::Faulted(Fault::Nested);
+                }
+                if let End::Faulted(fault) = enter(m.len(), indirect, d) {
+                    break 'walk End::Faulted(fault);
+                }
+                number = DescriptorNumber::of(0);
+                at = d.at;
+                count = d.len / 16;
+                deeper = 0;
+                continue 'walk;
+            }
+            let step = joined(list, chain, d);
+            chain = step.chain;
+            let stop = step.end;
+            if let End::Faulted(fault) = stop {
                 break 'walk End::Faulted(fault);
             }
-            number = DescriptorNumber::of(0);
-            at = d.at;
-            count = d.len / 16;
-            deeper = 0;
-            continue 'walk;
+            left -= 1;
+            if !d.has_next() {
+                break 'walk End::Whole;
+            }
+            number = d.next;
         }
-        let step = joined(list, chain, d);
-        chain = step.chain;
-        let stop = step.end;
-        if let End::Faulted(fault) = stop {
-            break 'walk End::Faulted(fault);
-        }
-        left -= 1;
-        if !d.has_next() {
-            break 'walk End::Whole;
-        }
-        number = d.next;
     };
     Walked { end, chain }
 }

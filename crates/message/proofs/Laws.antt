@@ -47,9 +47,9 @@ id-first m x xs h =
     rw e (id-of m (x .at .0) (x .len - 4) (places xs))
 
 -- a status is its code, then its latency
-pub status-put : (code latency : ℕ) → put 4 (put 4 (replicate 8 0) 0 code) 4 latency ≡ statusBytes code latency
+pub io-status-put : (code latency : ℕ) → put 4 (put 4 (replicate 8 0) 0 code) 4 latency ≡ statusBytes code latency
 unfolding put rules.bytesOf
-status-put code latency = refl
+io-status-put code latency = refl
 
 -- a status in eight addresses in a row is two numbers
 status-at : (m : List ℕ) (b code latency : ℕ) → putAt m (upFrom b 8) (statusBytes code latency) ≡ put 4 (put 4 m b code) (b + 4) latency
