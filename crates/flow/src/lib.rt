@@ -147,7 +147,7 @@ fn advanced(f: Flow, n: usize) -> Flow
     next
 }
 
-fn either(a: bool, b: bool) -> bool
+pub fn either(a: bool, b: bool) -> bool
     ensures { λ r. ⌜ r ≡ a || b ⌝ }
 {
     if a {

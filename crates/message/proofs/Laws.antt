@@ -121,7 +121,7 @@ no-ranges-fit len ws f head =
     }
 
 -- only where both tests hold is a message well-formed
-both-tests : (a b : Bool) → cond a (cond b rules.wellFormed rules.refused) rules.silent ≡ rules.wellFormed → (a ≡ true) × (b ≡ true)
+pub both-tests : (a b : Bool) → cond a (cond b rules.wellFormed rules.refused) rules.silent ≡ rules.wellFormed → (a ≡ true) × (b ≡ true)
 both-tests true true w = (refl, refl)
 both-tests true false w = absurd (false≢true (ap isWell w))
 both-tests false b w = absurd (false≢true (ap isWell w))

@@ -86,7 +86,7 @@ fn stream_number(d: Direction) -> u32
 }
 
 // The request's first four bytes, zeros where it has fewer: one number where the first range has them all.
-fn stream_id(m: &[u8], list: &[u64], request: Ranges) -> u32
+pub fn stream_id(m: &[u8], list: &[u64], request: Ranges) -> u32
     ensures { λ r. ⌜ r ≡ idOf (now (m .entry)) (rangesOf (now (list .entry)) request) ⌝ }
 {
     if request.count == 0 {
@@ -109,7 +109,7 @@ fn gathered_id(m: &[u8], list: &[u64], request: Ranges) -> u32
 }
 
 // Whether both sides have the lengths that the direction asks.
-fn is_sized(d: Direction, request: u32, reply: u32) -> bool
+pub fn is_sized(d: Direction, request: u32, reply: u32) -> bool
     ensures { λ r. ⌜ r ≡ sized (directionOf d) request reply ⌝ }
 {
     match d {

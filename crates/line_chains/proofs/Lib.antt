@@ -1,0 +1,2 @@
+-- What the judgements of a chain come to.
+pub mod Laws

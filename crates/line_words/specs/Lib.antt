@@ -1,0 +1,3 @@
+-- The words of a stream queue with lines.
+pub mod Slots
+pub mod Joined
