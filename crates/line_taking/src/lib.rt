@@ -71,7 +71,14 @@ fn count_taken(p: Progress) -> Progress
 }
 
 // An entry that is answered at once.
-fn bounce(m: &mut [u8], words: &[u64], list: &[u64], q: LineQueue, p: Progress, chain: Taken) -> Progress
+fn bounce(
+    m: &mut [u8],
+    words: &[u64],
+    list: &[u64],
+    q: LineQueue,
+    p: Progress,
+    chain: Taken,
+) -> Progress
     requires { ⌜ FitTaken (length (now m)) (now list) chain × FitSlots (virtqueueOf q) (length (now m)) (now words) ⌝ }
     ensures { λ r. ⌜ Takes (virtqueueOf q)
         (taken (card (virtqueueOf q)) (virtqueueOf q) (chain .head .0) (atOnce (takingIn (now (list .entry)) chain)))
@@ -91,7 +98,14 @@ fn bounce(m: &mut [u8], words: &[u64], list: &[u64], q: LineQueue, p: Progress, 
 }
 
 // The entry at `head` is taken: it joins its line, or is answered at once.
-fn take(m: &mut [u8], words: &mut [u64], list: &mut [u64], q: LineQueue, p: Progress, head: DescriptorNumber) -> Progress
+fn take(
+    m: &mut [u8],
+    words: &mut [u64],
+    list: &mut [u64],
+    q: LineQueue,
+    p: Progress,
+    head: DescriptorNumber,
+) -> Progress
     requires { ⌜ FitSlots (virtqueueOf q) (length (now m)) (now words) × Space (virtqueueOf q) (now words) × (68 ≤ length (now list)) ⌝ }
     ensures { λ r. ⌜ Takes (virtqueueOf q)
         (taken (card (virtqueueOf q)) (virtqueueOf q) (head .0) (arrivalOf (virtqueueOf q) (now (m .entry)) (head .0)))
@@ -107,7 +121,13 @@ fn take(m: &mut [u8], words: &mut [u64], list: &mut [u64], q: LineQueue, p: Prog
 }
 
 // The next new entry, unless the queue broke; a bad head is not taken.
-fn take_next(m: &mut [u8], words: &mut [u64], list: &mut [u64], q: LineQueue, p: Progress) -> Progress
+fn take_next(
+    m: &mut [u8],
+    words: &mut [u64],
+    list: &mut [u64],
+    q: LineQueue,
+    p: Progress,
+) -> Progress
     requires { ⌜ FitSlots (virtqueueOf q) (length (now m)) (now words) × Space (virtqueueOf q) (now words) × (68 ≤ length (now list)) ⌝ }
     ensures { λ r. ⌜ Takes (virtqueueOf q) (next (card (virtqueueOf q)) (virtqueueOf q))
         (now (words .entry)) (now (m .entry)) p (now (words .exit)) (now (m .exit)) r ⌝ }
@@ -127,7 +147,13 @@ fn take_next(m: &mut [u8], words: &mut [u64], list: &mut [u64], q: LineQueue, p:
 }
 
 // All new entries, `new` in number, which the queue has room for.
-pub fn take_all(m: &mut [u8], words: &mut [u64], q: LineQueue, counters: Counters, new: u16) -> Progress
+pub fn take_all(
+    m: &mut [u8],
+    words: &mut [u64],
+    q: LineQueue,
+    counters: Counters,
+    new: u16,
+) -> Progress
     requires { ⌜ FitSlots (virtqueueOf q) (length (now m)) (now words)
         × (sumOf lengthOf (linesOf (queueSize (virtqueueOf q)) (q .streams) (now words)) + new ≤ queueSize (virtqueueOf q)) ⌝ }
     ensures { λ r. ⌜ Takes (virtqueueOf q) (takingRun (card (virtqueueOf q)) (virtqueueOf q) new)

@@ -118,7 +118,6 @@ unfolding slotOf
 slot-long size i ws h = part-long (size * i) size ws h
 
 module _ (size id : ℕ) (ws ys : List ℕ) (room : size * id + size ≤ length ws) (l : length ys ≡ size) where
-
   pub slot-here : slotOf size (withSlot size id ws ys) id ≡ ys
   unfolding slotOf
   slot-here = put-here (size * id) size ws ys room l

@@ -18,7 +18,7 @@ same-length : tie.Need-same-length
 same-length c = search needs
 
 returns : tie.Need-returns
-returns c = 
+returns c =
     let s = c .before .before .before in
     let a = s .before .before .before .before .before .before .before .args in
     let d = directionOf (a .q .queue .direction) in

@@ -35,7 +35,7 @@ part-push-end c = let e = open-inside _ _ _ (c .before .before .pre) in rw (c .s
 
 push-requires : tie.Need-push-requires
 unfolding slotOf
-push-requires c κs = 
+push-requires c κs =
     let b = c .before in
     let a = b .before .before .args in
     let e = between (b .slot-words .result * a .line) (b .slot-words .result) in
@@ -46,7 +46,7 @@ same-length c = search needs
 
 returns : tie.Need-returns
 unfolding slotOf
-returns c = 
+returns c =
     let p = c .before .before in
     let b = p .before .before in
     let s = b .before .before in

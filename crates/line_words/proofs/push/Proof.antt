@@ -50,7 +50,7 @@ same-length : tie.Need-same-length
 same-length c = search needs
 
 returns : tie.Need-returns
-returns c = 
+returns c =
     let stored = c .before .before in
     let j = stored .before .before .before .before in
     let l = j .before .before in

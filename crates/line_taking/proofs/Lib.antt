@@ -1,0 +1,2 @@
+-- Taking in the rules' terms.
+pub mod Laws
