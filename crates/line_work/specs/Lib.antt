@@ -1,0 +1,2 @@
+-- The line of a stream that is worked or ended.
+pub mod Work
