@@ -26,8 +26,8 @@ use Rattle.registers.proofs.Keeps.{by-cond}
 use Rattle.line_chains.specs.Queue.{refusedOf}
 use Rattle.line_words.specs.Joined.{Open, Joined}
 use Rattle.line_words.specs.Slots.{slotWords, slotOf, marksIn, ringIn, lineOf, linesOf, queueIn, FitSlots}
-use Rattle.line_words.proofs.Lines.{lines-long, line-at}
-use Rattle.line_words.proofs.Parts.{slot-room, slot-long}
+use Rattle.line_words.proofs.Lines.{lines-long, line-at, slot-inside}
+use Rattle.line_words.proofs.Parts.{slot-long}
 use Rattle.line_taking.specs.Progress.{runWith, runIn, halted, joined, bouncedBy, Space, Takes}
 use Rattle.line_taking.specs.declared.Progress.{Progress}
 
@@ -84,7 +84,7 @@ sum-changed f [] i x d h = omega arith
 sum-changed f (y ∷ l) zero x d h = omega arith
 sum-changed f (y ∷ l) (suc i) x d h = let e = sum-changed f l i x d h in omega (arith, e)
 
-heads-long : (size : ℕ) (ring : List ℕ) (s n : ℕ) → length (headsFrom size ring s n) ≡ n
+pub heads-long : (size : ℕ) (ring : List ℕ) (s n : ℕ) → length (headsFrom size ring s n) ≡ n
 unfolding headsFrom
 heads-long size ring s zero = refl
 heads-long size ring s (suc n) = rw (heads-long size ring (placeBehind size s 1) n) (omega arith)
@@ -125,7 +125,7 @@ module _ (v : Virtqueue) (len i : ℕ) (ws : List ℕ) (fit : FitSlots v len ws)
   slot = slotOf size ws i
 
   long : length slot ≡ size
-  long = let e = slot-room size i (v .streams) there in slot-long size i ws (omega (arith, e, fit .words))
+  long = slot-long size i ws (slot-inside v len i ws fit there)
 
   ring-long : length (ringIn slot) ≡ queueSize v
   ring-long = rw (length-take, length-drop, long) (omega arith)

@@ -39,5 +39,5 @@ module _ (v : Virtqueue) (i : ℕ) (ws : List ℕ) (o : Open v i ws) where
           p .line,
           line-at (queueSize v) (v .streams) ws i (o .there),
         );
-        fit = λ len f. slots-fit v len i ws ys (o .there) f l (p .fit len (f .slot i (o .there)));
+        fit = λ len f. slots-fit v len i ws f (o .there) ys l (p .fit len (f .slot i (o .there)));
       }

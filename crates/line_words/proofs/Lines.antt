@@ -60,8 +60,7 @@ module _ (N n : ℕ) (ws : List ℕ) where
 
 -- ---- what holds of the slots
 
-module _ (v : Virtqueue) (len i : ℕ) (ws ys : List ℕ) (there : i < v .streams) (fit : FitSlots v len ws)
-    (l : length ys ≡ slotWords (queueSize v)) where
+module _ (v : Virtqueue) (len i : ℕ) (ws : List ℕ) (fit : FitSlots v len ws) (there : i < v .streams) where
   abbrev size : ℕ
   size = slotWords (queueSize v)
 
@@ -69,8 +68,8 @@ module _ (v : Virtqueue) (len i : ℕ) (ws ys : List ℕ) (there : i < v .stream
   slot-inside = let e = slot-room size i (v .streams) there in omega (arith, e, fit .words)
 
   -- with another fit slot
-  pub slots-fit : FitSlot len ys → FitSlots v len (withSlot size i ws ys)
-  slots-fit f =
+  pub slots-fit : (ys : List ℕ) → length ys ≡ size → FitSlot len ys → FitSlots v len (withSlot size i ws ys)
+  slots-fit ys l f =
       record {
         words = rw (put-long (size * i) size ws ys slot-inside l) (fit .words);
         slot = λ j h. by j h (ltb j i) refl (ltb i j) refl;

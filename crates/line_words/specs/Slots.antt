@@ -1,9 +1,7 @@
 -- The words of a stream queue with lines: a slot for each of its streams, and in a slot the chain that is remembered, the marks and the
 -- ring of the waiting heads. `queueIn` is the queue of the rules that they stand for, beside its counters.
-use mathlib.Core.Path.{_≡_}
 use mathlib.Core.List.{List, map}
-use mathlib.Core.Option.{some}
-use Prim.Native.Nat.{ℕ, _+_, _-_, _*_, _%_, _≤_, _<_}
+use Prim.Native.Nat.{ℕ, _+_, _-_, _*_, _≤_, _<_}
 use lib.ListN.{length, take, drop}
 use Rattle.ranges.specs.Ranges.{upFrom}
 use Rattle.card.specs.Fit.{FitMessage}
@@ -13,11 +11,8 @@ use Rattle.marks.specs.Marks as marks
 use Rattle.meaning.specs.Card.{messageOf}
 use Rattle.waiting.specs.Waiting.{headsIn, FitLine}
 use Rattle.waiting.specs.declared.Line as waiting
-use Rattle.device.specs.Account.{Each}
-use Rattle.device.specs.Device as rules
 use Rattle.queue_lines.specs.Chains.{Virtqueue, queueSize}
-use Rattle.queue_lines.specs.Counters.{Line, Queue, sumOf, lengthOf, lineIn}
-use Rattle.queue_lines.specs.Turn.{Waits}
+use Rattle.queue_lines.specs.Counters.{Line, Queue}
 
 -- ---- a slot
 
@@ -61,22 +56,3 @@ queueIn v ws c = record { taken = c .taken; completed = c .completed; lines = li
 pub record FitSlots (v : Virtqueue) (len : ℕ) (ws : List ℕ) : Type 0 where
   pub words : slotWords (queueSize v) * v .streams ≤ length ws
   pub slot : (i : ℕ) → i < v .streams → FitSlot len (slotOf (slotWords (queueSize v)) ws i)
-
--- ---- what holds of a queue between calls, as the rules keep it
-
--- a message in work has a head of the table, and something of its payload waits; so do all heads of those behind it
-pub record FitIn (v : Virtqueue) (l : Line) : Type 0 where
-  pub begun : (w : rules.Message) → l .begun ≡ some w → (w .taking .head < queueSize v) × Waits (v .direction) w
-  pub heads : Each (λ (head : ℕ). head < queueSize v) (l .heads)
-
-pub record Between (v : Virtqueue) (q : Queue) : Type 0 where
-  pub wraps : q .completed < 65536
-  -- in all lines together are as many as were taken and not completed, modulo 65,536
-  pub balanced : (q .taken + (65536 - q .completed)) % 65536 ≡ sumOf lengthOf (q .lines)
-  pub few : sumOf lengthOf (q .lines) ≤ queueSize v
-  pub line : (i : ℕ) → FitIn v (lineIn i q)
-
--- what holds of words and counters between calls
-pub record FitLines (v : Virtqueue) (len : ℕ) (ws : List ℕ) (c : Counters) : Type 0 where
-  pub slots : FitSlots v len ws
-  pub between : Between v (queueIn v ws c)

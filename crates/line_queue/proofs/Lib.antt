@@ -1,0 +1,4 @@
+-- A job on a stream queue with lines, in the rules' terms.
+pub mod Lent
+pub mod Counted
+pub mod Laws

@@ -1,0 +1,3 @@
+-- A job on a stream queue with lines.
+pub mod Between
+pub mod Runs
