@@ -9,9 +9,6 @@ use borrow.Author.Tests.{ltb-false}
 use lib.Dec.{eqb, ltb}
 use lib.ListN.{length, take, drop, getD, set, length-set, length-append}
 use lib.Seq.{getD-set-same}
-use Rattle.counts.specs.declared.PageNumber.{PageNumber}
-use Rattle.flow.specs.declared.Job.{Job}
-use Rattle.flow.specs.declared.Job.the-variants.{Transfer, Release}
 use Rattle.registers.proofs.Keeps.{by-cond}
 use Rattle.ring.specs.Layout.{endAt}
 use Rattle.ring.specs.Rules.{baseOf, indexOf, foundOf, headAt, newOf}
@@ -20,18 +17,15 @@ use Rattle.ring.specs.declared.Head.{Head}
 use Rattle.device.specs.Answers.{going}
 use Rattle.device.specs.Counters.{further}
 use Rattle.device.specs.Device.{Direction, output, input, queueNumber, Taking, Message, Ending, released, finished, illFormed}
-use Rattle.device.specs.Transfer.{Run, begun, isNil, isWell}
+use Rattle.device.specs.Transfer.{Run, isNil, isWell}
 use Rattle.registers.specs.Map.{sizeOf}
 use Rattle.queue_lines.specs.Chains.{Virtqueue, queueSize, Arrival, inLine, atOnce, arrivalOf, readingOf}
 use Rattle.queue_lines.specs.Claim.{card}
 use Rattle.queue_lines.specs.Counters.{Line, Queue, noLine, frontOf, sumOf, lengthOf, ifBegun, lineIn}
 use Rattle.queue_lines.specs.Rules.{times, fresh, onward, posted, taken, met, next, completed, opened, onFront, leftOf, moved, worked}
-use Rattle.queue_lines.specs.Rules.{transferStep, releaseStep, lineRun, takingRun, transferRun, releaseRun, found, onFound, transferred}
-use Rattle.queue_lines.specs.Rules.{emptied}
-use Rattle.queue_lines.proofs.Lists.{times-keeps, sumOf-set}
+use Rattle.queue_lines.specs.Rules.{transferStep, releaseStep, takingRun, found}
+use Rattle.queue_lines.proofs.Lists.{sumOf-set}
 use Rattle.queue_lines.proofs.Natural.{Fits, arrival-fits}
-use Rattle.line_queue.specs.Between.{Between}
-use Rattle.line_queue.specs.Runs.{ranOf}
 
 small : (d : Direction) → sizeOf (queueNumber d) ≤ 256
 unfolding sizeOf
@@ -48,7 +42,7 @@ both-counted : (t c n : ℕ) → c < 65536 → (t + (65536 - c)) % 65536 ≡ n �
 both-counted t c n w e = omega arith
 
 module _ (v : Virtqueue) where
-  abbrev total : Queue → ℕ
+  abbrev pub total : Queue → ℕ
   total q = sumOf lengthOf (q .lines)
 
   -- where so many more may still be taken
@@ -122,13 +116,13 @@ module _ (v : Virtqueue) where
       by-cond (λ (s : Run Queue). Counted n (s .queue)) (going (r .stop))
       (λ e. met-counted n (headAt (r .mem) (v .page) (queueSize v) (card v .place (r .queue))) r k) (λ e. fewer n (r .queue) k)
 
-  taking-counted : (n : ℕ) (r : Run Queue) → Counted n (r .queue) → Counted 0 (takingRun (card v) v n r .queue)
+  pub taking-counted : (n : ℕ) (r : Run Queue) → Counted n (r .queue) → Counted 0 (takingRun (card v) v n r .queue)
   unfolding takingRun times
   taking-counted zero r k = k
   taking-counted (suc n) r k = taking-counted n (next (card v) v r) (next-counted n r k)
 
   -- the check lets no more be taken than there is room for
-  abbrev Room : Queue → Check → Type 0
+  abbrev pub Room : Queue → Check → Type 0
   Room q Check.Idle = Unit {0}
   Room q (Check.Broken cause) = Unit {0}
   Room q (Check.New n) = total q + n ≤ queueSize v
@@ -199,47 +193,14 @@ module _ (v : Virtqueue) where
       front-counted none [] r idle e k = k
       front-counted none (head ∷ heads) r idle e k = opened-counted head heads (readingOf v i (r .mem) head) r idle e k
 
-    transfer-counted : (r : Run Queue) → Counted 0 (r .queue) → Counted 0 (transferStep (card v) v i r .queue)
+    pub transfer-counted : (r : Run Queue) → Counted 0 (r .queue) → Counted 0 (transferStep (card v) v i r .queue)
     unfolding transferStep
     transfer-counted r k =
         by-cond (λ (s : Run Queue). Counted 0 (s .queue)) (ltb 0 (r .room))
         (λ e. front-counted (worked (card v) v i) worked-counted (lineIn i (r .queue) .begun) (lineIn i (r .queue) .heads) r refl refl k) (λ e. k)
 
-    release-counted : (r : Run Queue) → Counted 0 (r .queue) → Counted 0 (releaseStep (card v) v i r .queue)
+    pub release-counted : (r : Run Queue) → Counted 0 (r .queue) → Counted 0 (releaseStep (card v) v i r .queue)
     unfolding releaseStep
     release-counted r k =
         front-counted (completed (card v) v i released) (completed-counted released) (lineIn i (r .queue) .begun) (lineIn i (r .queue) .heads) r
         refl refl k
-
-    line-counted : (step : Run Queue → Run Queue) → ((r : Run Queue) → Counted 0 (r .queue) → Counted 0 (step r .queue)) → (n : ℕ) (r : Run Queue)
-        → Counted n (r .queue) → Counted 0 (lineRun (card v) v i step (takingRun (card v) v n r) .queue)
-    line-counted step keeps n r k =
-        let s = takingRun (card v) v n r in
-        let u = taking-counted n r k in
-        by-cond (λ (s : Run Queue). Counted 0 (s .queue)) (going (s .stop))
-        (λ e. times-keeps (λ (s : Run Queue). Counted 0 (s .queue)) step keeps (card v .queued i (s .queue)) s u) (λ e. u)
-
-    -- ---- a whole job
-
-    found-counted : (run : ℕ → Run Queue → Run Queue) (r : Run Queue)
-        → ((n : ℕ) → Counted n (r .queue) → Counted 0 (run n r .queue)) → (c : Check) → Room (r .queue) c → Counted 0 (r .queue)
-        → Counted 0 (onFound (card v) v run r c .queue)
-    found-counted run r keeps Check.Idle room k = k
-    found-counted run r keeps (Check.Broken cause) room k = k
-    found-counted run r keeps (Check.New n) room k =
-        keeps n (record { wraps = k .wraps; balanced = k .balanced; few = room; lines = k .lines })
-
-    ran-counted : (job : Job) (q : Queue) (m host : List ℕ) → Counted 0 q → Counted 0 (ranOf job v i q m host .queue)
-    unfolding transferred transferRun emptied releaseRun
-    ran-counted Transfer q m host k =
-        found-counted (transferRun (card v) v i) (begun q m host) (λ n. line-counted (transferStep (card v) v i) transfer-counted n (begun q m host)) (found (card v) v q m)
-        (room-found q m) k
-    ran-counted Release q m host k =
-        found-counted (releaseRun (card v) v i) (begun q m []) (λ n. line-counted (releaseStep (card v) v i) release-counted n (begun q m [])) (found (card v) v q m)
-        (room-found q m) k
-
-    pub ran-between : (job : Job) (q : Queue) (m host : List ℕ) → length (q .lines) ≡ v .streams → Between v q
-        → Between v (ranOf job v i q m host .queue)
-    ran-between job q m host l b =
-        let k = ran-counted job q m host (record { wraps = b .wraps; balanced = b .balanced; few = omega (arith, b .few); lines = l }) in
-        record { wraps = k .wraps; balanced = k .balanced; few = omega (arith, k .few) }

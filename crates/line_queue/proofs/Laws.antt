@@ -40,7 +40,8 @@ use Rattle.line_work.specs.Work.{lifted, jobStep, stationOf, inFront, Works}
 use Rattle.line_work.specs.declared.Front.{Front}
 use Rattle.line_queue.specs.Between.{Between, FitLines}
 use Rattle.line_queue.specs.Runs.{frontIn, progressOf, ranOf, WorksSlot, WorksLine, Ran}
-use Rattle.line_queue.proofs.Counted.{room-found, ran-between}
+use Rattle.line_queue.proofs.Counted.{room-found}
+use Rattle.line_queue.proofs.Between.{ran-between}
 use Rattle.line_queue.proofs.Lent.{found-lent}
 
 -- ---- a slot
@@ -180,7 +181,7 @@ module _ (v : Virtqueue) (i : ℕ) (ws m host : List ℕ) (c : Counters) where
     unfolding runWith queueIn
     left-between ws′ m′ host′ r e =
         rw (ap (λ (x : Run Queue). x .queue) e)
-        (ran-between v i there job (queueIn v ws c) m host (lines-long (queueSize v) (v .streams) ws) (fit .between))
+        (ran-between v i there (queueIn v ws c) (lines-long (queueSize v) (v .streams) ws) (fit .between) job m host)
 
     pub ran-idle : found (card v) v (queueIn v ws c) m ≡ Check.Idle → Ran v i job ws m host c ws m host (fresh c)
     ran-idle e = record { run = ran-found job Check.Idle e; fit = fit; long = refl; host-long = refl; read = λ d. refl }
