@@ -1,7 +1,7 @@
 -- What holds between calls holds after a job: the rules keep it.
-use mathlib.Core.Path.{_≡_, refl, sym}
+use mathlib.Core.Path.{_≡_}
 use mathlib.Core.List.{List, []}
-use Prim.Native.Nat.{ℕ, _+_, _≤_, _<_}
+use Prim.Native.Nat.{ℕ, _<_}
 use native.Mathlib.Omega.{arith}
 use lib.ListN.{length}
 use Rattle.flow.specs.declared.Job.{Job}
@@ -13,7 +13,8 @@ use Rattle.device.specs.Transfer.{Run, begun}
 use Rattle.queue_lines.specs.Chains.{Virtqueue}
 use Rattle.queue_lines.specs.Claim.{card}
 use Rattle.queue_lines.specs.Counters.{Queue}
-use Rattle.queue_lines.specs.Rules.{lineRun, takingRun, transferStep, releaseStep, transferRun, releaseRun, found, onFound, transferred, emptied}
+use Rattle.queue_lines.specs.Rules.{lineRun, takingRun, transferStep, releaseStep, transferRun, releaseRun, found, onFound}
+use Rattle.queue_lines.specs.Rules.{transferred, emptied}
 use Rattle.queue_lines.proofs.Lists.{times-keeps}
 use Rattle.line_queue.specs.Between.{Between}
 use Rattle.line_queue.specs.Runs.{ranOf}
@@ -69,7 +70,8 @@ module _ (v : Virtqueue) (i : ℕ) (there : i < v .streams) where
         found-kept (transferRun (card v) v i) (begun q m host) (λ n. line-kept (transferStep (card v) v i) transfer-kept n (begun q m host))
         (found (card v) v q m) (room-found v q m) (begun-kept m host)
     ran-kept Release m host =
-        let k = found-kept (releaseRun (card v) v i) (begun q m []) (λ n. line-kept (releaseStep (card v) v i) release-kept n (begun q m []))
+        let k = found-kept (releaseRun (card v) v i) (begun q m [])
+        (λ n. line-kept (releaseStep (card v) v i) release-kept n (begun q m []))
         (found (card v) v q m) (room-found v q m) (begun-kept m []) in
         record { counted = k .counted; fine = k .fine }
 

@@ -1,6 +1,5 @@
 -- In all lines together are as many messages as were taken and not completed: the rules keep it.
-use mathlib.Core.Path.{_≡_, _∙_, refl, sym, ap}
-use mathlib.Core.Bool.{Bool, true, false, cond}
+use mathlib.Core.Path.{_≡_, _∙_, refl}
 use mathlib.Core.List.{List, [], _∷_, _++_}
 use mathlib.Core.Option.{Option, none, some}
 use Prim.Native.Nat.{ℕ, zero, suc, _+_, _-_, _%_, _≤_, _<_}
@@ -21,7 +20,7 @@ use Rattle.device.specs.Transfer.{Run, isNil, isWell}
 use Rattle.registers.specs.Map.{sizeOf}
 use Rattle.queue_lines.specs.Chains.{Virtqueue, queueSize, Arrival, inLine, atOnce, arrivalOf, readingOf}
 use Rattle.queue_lines.specs.Claim.{card}
-use Rattle.queue_lines.specs.Counters.{Line, Queue, noLine, frontOf, sumOf, lengthOf, ifBegun, lineIn}
+use Rattle.queue_lines.specs.Counters.{Line, Queue, noLine, frontOf, sumOf, lengthOf, lineIn}
 use Rattle.queue_lines.specs.Rules.{times, fresh, onward, posted, taken, met, next, completed, opened, onFront, leftOf, moved, worked}
 use Rattle.queue_lines.specs.Rules.{transferStep, releaseStep, takingRun, found}
 use Rattle.queue_lines.proofs.Lists.{sumOf-set}
@@ -92,7 +91,8 @@ module _ (v : Virtqueue) where
 
   -- ---- taking
 
-  taken-counted : (n head : ℕ) (a : Arrival) (r : Run Queue) → Fits v a → Counted (suc n) (r .queue) → Counted n (taken (card v) v head a r .queue)
+  taken-counted : (n head : ℕ) (a : Arrival) (r : Run Queue) → Fits v a → Counted (suc n) (r .queue)
+      → Counted n (taken (card v) v head a r .queue)
   unfolding posted
   taken-counted n head (inLine i) r there k =
       let l = lineIn i (r .queue) in
@@ -174,7 +174,8 @@ module _ (v : Virtqueue) where
 
     -- what is done with a message in work keeps the count
     module _ (go : Message → Run Queue → Run Queue)
-        (keeps : (w : Message) (r : Run Queue) → lineIn i (r .queue) .begun ≡ some w → Counted 0 (r .queue) → Counted 0 (go w r .queue)) where
+        (keeps : (w : Message) (r : Run Queue) → lineIn i (r .queue) .begun ≡ some w → Counted 0 (r .queue)
+        → Counted 0 (go w r .queue)) where
       opened-counted : (head : ℕ) (heads : List ℕ) (t : Taking) (r : Run Queue) → lineIn i (r .queue) .begun ≡ none
           → lineIn i (r .queue) .heads ≡ head ∷ heads → Counted 0 (r .queue) → Counted 0 (opened (card v) v i go t r .queue)
       unfolding opened
@@ -197,10 +198,12 @@ module _ (v : Virtqueue) where
     unfolding transferStep
     transfer-counted r k =
         by-cond (λ (s : Run Queue). Counted 0 (s .queue)) (ltb 0 (r .room))
-        (λ e. front-counted (worked (card v) v i) worked-counted (lineIn i (r .queue) .begun) (lineIn i (r .queue) .heads) r refl refl k) (λ e. k)
+        (λ e. front-counted (worked (card v) v i) worked-counted (lineIn i (r .queue) .begun) (lineIn i (r .queue) .heads) r refl refl k)
+        (λ e. k)
 
     pub release-counted : (r : Run Queue) → Counted 0 (r .queue) → Counted 0 (releaseStep (card v) v i r .queue)
     unfolding releaseStep
     release-counted r k =
-        front-counted (completed (card v) v i released) (completed-counted released) (lineIn i (r .queue) .begun) (lineIn i (r .queue) .heads) r
+        front-counted (completed (card v) v i released) (completed-counted released)
+        (lineIn i (r .queue) .begun) (lineIn i (r .queue) .heads) r
         refl refl k

@@ -1,6 +1,6 @@
 -- The messages of all lines have heads of the table, and something of each message in work waits: the rules keep it.
 use mathlib.Core.Path.{_≡_, _∙_, refl, sym, ap}
-use mathlib.Core.Bool.{Bool, true, false, true≢false}
+use mathlib.Core.Bool.{true, false, true≢false}
 use mathlib.Core.List.{List, [], _∷_, _++_}
 use mathlib.Core.Option.{Option, none, some}
 use Prim.Native.Nat.{ℕ, _+_, _<_}
@@ -23,8 +23,8 @@ use Rattle.device.proofs.Cases.{none-some}
 use Rattle.queue_lines.specs.Chains.{Virtqueue, queueSize, Arrival, inLine, atOnce, arrivalOf, readingOf}
 use Rattle.queue_lines.specs.Claim.{card}
 use Rattle.queue_lines.specs.Counters.{Line, Queue, noLine, frontOf, lineIn}
-use Rattle.queue_lines.specs.Rules.{fresh, onward, posted, taken, met, next, completed, opened, onFront, leftOf, moved, worked, transferStep}
-use Rattle.queue_lines.specs.Rules.{releaseStep, takingRun}
+use Rattle.queue_lines.specs.Rules.{fresh, onward, posted, taken, met, next, completed, opened, onFront, leftOf, moved, worked}
+use Rattle.queue_lines.specs.Rules.{transferStep, releaseStep, takingRun}
 use Rattle.queue_lines.specs.Turn.{Waits}
 use Rattle.queue_lines.proofs.Lists.{times-keeps, changed-keeps, drop-taken}
 use Rattle.queue_lines.proofs.Natural.{reading-head}
@@ -142,7 +142,8 @@ module _ (v : Virtqueue) where
           record {
             well = b .well;
             some-left =
-                ap isNil (sym (drop-drop (length xs) (w .done) (payloadOf (v .direction) (w .taking))) ∙ drop-taken (r .room) (leftOf (card v) v w))
+                ap isNil (sym (drop-drop (length xs) (w .done) (payloadOf (v .direction) (w .taking)))
+                ∙ drop-taken (r .room) (leftOf (card v) v w))
                 ∙ e;
           }
 

@@ -21,7 +21,6 @@ use Rattle.ring.specs.Rules.{checkOf}
 use Rattle.ring.specs.declared.Cause.{Cause}
 use Rattle.ring.specs.declared.Check.{Check}
 use Rattle.ring.specs.declared.Stop.{Stop}
-use Rattle.waiting.specs.Waiting.{headsIn}
 use Rattle.device.specs.Answers.{going}
 use Rattle.device.specs.Device as device
 use Rattle.device.specs.Transfer.{Run, begun}
@@ -87,7 +86,8 @@ module _ (s s′ : List ℕ) (t : Front) (k : Marked s s′ t) where
   marked-run lines i m host = rw (k .chain, k .ring, k .message, k .line)
 
 module _ (v : Virtqueue) (i : ℕ) (job : Job) (s m host : List ℕ) (p : Progress) (fit : FitSlot (length m) s) where
-  pub works-slot : (t : Front) → t ≡ frontAt s p → (s₁ s′ m′ host′ : List ℕ) (r : Front) → Works v i job s m host t s₁ m′ host′ r → Marked s₁ s′ r
+  pub works-slot : (t : Front) → t ≡ frontAt s p → (s₁ s′ m′ host′ : List ℕ) (r : Front)
+      → Works v i job s m host t s₁ m′ host′ r → Marked s₁ s′ r
       → WorksSlot v i job s m host p s′ m′ host′ (progressOf (r .flow))
   works-slot t told s₁ s′ m′ host′ r w k =
       record {
@@ -118,7 +118,8 @@ module _ (v : Virtqueue) (i : ℕ) (job : Job) (ws m host : List ℕ) (p : Progr
     slot = slotOf (slotWords (queueSize v)) ws i
 
     going-line : p .stop ≡ Stop.Going
-        → times (jobStep job v i) (lengthOf (lineOf slot)) (runIn v ws p m host) ≡ lineRun (card v) v i (jobStep job v i) (runIn v ws p m host)
+        → times (jobStep job v i) (lengthOf (lineOf slot)) (runIn v ws p m host)
+        ≡ lineRun (card v) v i (jobStep job v i) (runIn v ws p m host)
     unfolding runWith
     going-line h = rw (h, line-at (queueSize v) (v .streams) ws i there)
 

@@ -1,19 +1,19 @@
 -- A Release does the same whatever host is lent, and leaves it as it is.
-use mathlib.Core.Path.{_≡_, _∙_, refl, sym, ap}
-use mathlib.Core.List.{List, []}
+use mathlib.Core.Path.{_≡_, _∙_, refl, ap}
+use mathlib.Core.List.{List}
 use Prim.Native.Nat.{ℕ}
 use Rattle.ring.specs.Rules.{headAt}
 use Rattle.ring.specs.declared.Check.{Check}
 use Rattle.ring.specs.declared.Head.{Head}
 use Rattle.device.specs.Answers.{going}
 use Rattle.device.specs.Device.{Taking, released}
-use Rattle.device.specs.Transfer.{Run, begun, isWell}
+use Rattle.device.specs.Transfer.{Run, isWell}
 use Rattle.device.proofs.Cases.{map-cond}
 use Rattle.queue_lines.specs.Chains.{Virtqueue, queueSize, Arrival, inLine, atOnce, arrivalOf, readingOf}
 use Rattle.queue_lines.specs.Claim.{card}
 use Rattle.queue_lines.specs.Counters.{Queue}
-use Rattle.queue_lines.specs.Rules.{Front, vacant, unread, working, posted, taken, met, next, completed, opened, onFront, releaseStep, lineRun}
-use Rattle.queue_lines.specs.Rules.{takingRun, releaseRun, onFound, times}
+use Rattle.queue_lines.specs.Rules.{Front, vacant, unread, working, posted, taken, met, next, completed, opened, onFront}
+use Rattle.queue_lines.specs.Rules.{releaseStep, lineRun, takingRun, releaseRun, onFound}
 use Rattle.queue_lines.proofs.Lists.{times-alike}
 use Rattle.line_queue.specs.Runs.{lent}
 
@@ -30,7 +30,8 @@ module _ (v : Virtqueue) (host : List ℕ) where
   next-lent : (r : Run Queue) → next (card v) v (lent host r) ≡ lent host (next (card v) v r)
   unfolding next
   next-lent r =
-      map-cond (lent host) (going (r .stop)) (λ e. met-lent (headAt (r .mem) (v .page) (queueSize v) (card v .place (r .queue))) r) (λ e. refl)
+      map-cond (lent host) (going (r .stop))
+      (λ e. met-lent (headAt (r .mem) (v .page) (queueSize v) (card v .place (r .queue))) r) (λ e. refl)
 
   taking-lent : (n : ℕ) (r : Run Queue) → takingRun (card v) v n (lent host r) ≡ lent host (takingRun (card v) v n r)
   unfolding takingRun

@@ -35,7 +35,8 @@ progressOf f = record { counters = f .counters; moved = f .moved; stop = f .stop
 
 -- ---- the work on a line, in its slot: beside any other lines
 
-pub record WorksSlot (v : Virtqueue) (i : ℕ) (job : Job) (s m host : List ℕ) (p : Progress) (s′ m′ host′ : List ℕ) (r : Progress) : Type 0 where
+pub record WorksSlot (v : Virtqueue) (i : ℕ) (job : Job) (s m host : List ℕ) (p : Progress) (s′ m′ host′ : List ℕ) (r : Progress)
+    : Type 0 where
   pub run : (lines : List Line) → i < length lines → getD lines i noLine ≡ lineOf s
       → runWith (set lines i (lineOf s′)) r m′ host′ ≡ times (jobStep job v i) (lengthOf (lineOf s)) (runWith lines p m host)
   pub fit : FitSlot (length m) s′
@@ -44,7 +45,8 @@ pub record WorksSlot (v : Virtqueue) (i : ℕ) (job : Job) (s m host : List ℕ)
   pub read : v .direction ≡ input → host′ ≡ host
 
 -- .. and in all words
-pub record WorksLine (v : Virtqueue) (i : ℕ) (job : Job) (ws m host : List ℕ) (p : Progress) (ws′ m′ host′ : List ℕ) (r : Progress) : Type 0 where
+pub record WorksLine (v : Virtqueue) (i : ℕ) (job : Job) (ws m host : List ℕ) (p : Progress) (ws′ m′ host′ : List ℕ) (r : Progress)
+    : Type 0 where
   pub run : runIn v ws′ r m′ host′ ≡ lineRun (card v) v i (jobStep job v i) (runIn v ws p m host)
   pub fit : FitSlots v (length m) ws′
   pub long : length m′ ≡ length m

@@ -1,8 +1,8 @@
 -- An entry taken, in the rules' terms; the lines that it can join, and how many are then in line.
-use mathlib.Core.Path.{_≡_, _∙_, refl, sym, ap}
-use mathlib.Core.Bool.{Bool, true, false, cond}
+use mathlib.Core.Path.{_≡_, refl, ap}
+use mathlib.Core.Bool.{false}
 use mathlib.Core.List.{List, [], _∷_, _++_}
-use Prim.Native.Nat.{ℕ, zero, suc, _+_, _-_, _*_, _≤_, _<_}
+use Prim.Native.Nat.{ℕ, zero, suc, _+_, _-_, _≤_, _<_}
 use native.Mathlib.Omega.{arith}
 use lib.ListN.{length, take, drop, getD, set, length-append, length-take, length-drop}
 use Rattle.ring.specs.Rules.{headAt, headOf}
@@ -18,10 +18,10 @@ use Rattle.device.specs.Device.{Taking}
 use Rattle.device.specs.Transfer.{Run}
 use Rattle.queue_lines.specs.Chains.{Virtqueue, queueSize, Arrival, inLine, atOnce, arrivalOf}
 use Rattle.queue_lines.specs.Claim.{card}
-use Rattle.queue_lines.specs.Counters.{Line, Queue, noLine, sumOf, lengthOf, ifBegun}
+use Rattle.queue_lines.specs.Counters.{Queue, noLine, sumOf, lengthOf}
 use Rattle.queue_lines.specs.Rules.{posted, taken, met, next, takingRun}
 use Rattle.queue_lines.proofs.Lists.{times-none, times-more}
-use Rattle.queue_lines.proofs.Natural.{Fits, arrival-fits}
+use Rattle.queue_lines.proofs.Natural.{arrival-fits}
 use Rattle.registers.proofs.Keeps.{by-cond}
 use Rattle.line_chains.specs.Queue.{refusedOf}
 use Rattle.line_words.specs.Joined.{Open, Joined}
@@ -110,7 +110,8 @@ module _ (v : Virtqueue) where
   pub next-sum : (r : Run Queue) → inLines (next (card v) v r) ≤ inLines r + 1
   unfolding next
   next-sum r =
-      by-cond (λ (s : Run Queue). inLines s ≤ inLines r + 1) (going (r .stop)) (λ e. met-sum (headAt (r .mem) (v .page) (queueSize v) (card v .place (r .queue))) r) (λ e. omega arith)
+      by-cond (λ (s : Run Queue). inLines s ≤ inLines r + 1) (going (r .stop))
+      (λ e. met-sum (headAt (r .mem) (v .page) (queueSize v) (card v .place (r .queue))) r) (λ e. omega arith)
 
 -- ---- a line that can be joined
 
@@ -136,7 +137,8 @@ module _ (v : Virtqueue) (len i : ℕ) (ws : List ℕ) (fit : FitSlots v len ws)
       let member = sum-member lengthOf (linesOf (queueSize v) (v .streams) ws) i noLine
       (rw (lines-long (queueSize v) (v .streams) ws) there) in
       let l = rw (line-at (queueSize v) (v .streams) ws i there) at member in
-      let heads = heads-long (length (ringIn slot)) (ringIn slot) (marks.lineIn (marksIn slot) .start) (marks.lineIn (marksIn slot) .count) in
+      let line = marks.lineIn (marksIn slot) in
+      let heads = heads-long (length (ringIn slot)) (ringIn slot) (line .start) (line .count) in
       omega (arith, l, heads)
 
   pub open-line : Space v ws → Open v i ws

@@ -12,7 +12,7 @@ use Rattle.device.specs.Device.{oneTaken}
 use Rattle.device.specs.Transfer.{Run}
 use Rattle.queue_lines.specs.Chains.{Virtqueue, queueSize}
 use Rattle.queue_lines.specs.Counters.{Line, Queue, sumOf, lengthOf}
-use Rattle.line_words.specs.Slots.{linesOf, queueIn, FitSlots}
+use Rattle.line_words.specs.Slots.{linesOf, FitSlots}
 use Rattle.line_taking.specs.declared.Progress.{Progress}
 
 -- the run of a queue with these lines: memory and the host buffer as they are now; the first `moved` of the host's bytes are done
@@ -58,7 +58,8 @@ abbrev pub Space : Virtqueue → List ℕ → Type 0
 Space v ws = sumOf lengthOf (linesOf (queueSize v) (v .streams) ws) < queueSize v
 
 -- what a step of taking does, for any host buffer: the rules' step; words, memory and progress before, then after
-pub record Takes (v : Virtqueue) (step : Run Queue → Run Queue) (ws m : List ℕ) (p : Progress) (ws′ m′ : List ℕ) (r : Progress) : Type 0 where
+pub record Takes (v : Virtqueue) (step : Run Queue → Run Queue) (ws m : List ℕ) (p : Progress) (ws′ m′ : List ℕ) (r : Progress)
+    : Type 0 where
   pub run : (host : List ℕ) → runIn v ws′ r m′ host ≡ step (runIn v ws p m host)
   pub fit : FitSlots v (length m) ws′
   pub moved : r .moved ≡ p .moved

@@ -1,11 +1,9 @@
 // Taking on a stream queue with lines (order 8): "Each play, capture or Release, naming its stream, first takes all
 // new entries".
 ghost use mathlib.Core.Path.{_≡_};
-ghost use mathlib.Core.Bool.{true};
 ghost use Prim.Native.Nat.{_+_, _≤_};
 ghost use lib.ListN.{length};
 ghost use Rattle.message.specs.Message.{takingIn, FitTaken};
-ghost use Rattle.device.specs.Answers.{going};
 ghost use Rattle.queue_lines.specs.Chains.{atOnce, arrivalOf, queueSize};
 ghost use Rattle.queue_lines.specs.Claim.{card};
 ghost use Rattle.queue_lines.specs.Counters.{sumOf, lengthOf};

@@ -1,7 +1,7 @@
 -- The lines of a queue, by the slots of its words.
-use mathlib.Core.Path.{_≡_, _∙_, sym, refl, ap}
+use mathlib.Core.Path.{_≡_, _∙_, refl, ap}
 use mathlib.Core.Bool.{Bool, true, false}
-use mathlib.Core.List.{List, [], _∷_, map}
+use mathlib.Core.List.{List, map}
 use mathlib.Core.Logic.{_⊎_, inl, inr}
 use Prim.Native.Nat.{ℕ, zero, suc, _+_, _-_, _*_, _≤_, _<_}
 use native.Mathlib.Omega.{arith}
@@ -11,7 +11,7 @@ use lib.ListN.{length, getD, set, length-map}
 use Rattle.ranges.specs.Ranges.{upFrom}
 use Rattle.ranges.proofs.Laws.{length-upFrom}
 use Rattle.queue_lines.specs.Chains.{Virtqueue, queueSize}
-use Rattle.queue_lines.specs.Counters.{Line, noLine}
+use Rattle.queue_lines.specs.Counters.{noLine}
 use Rattle.line_words.specs.Slots.{slotWords, slotOf, lineOf, linesOf, FitSlot, FitSlots}
 use Rattle.line_words.proofs.Parts.{withSlot, slot-here, slot-other, slot-room, put-long}
 
@@ -56,7 +56,8 @@ module _ (N n : ℕ) (ws : List ℕ) where
   line-set i ys room l =
       map-one (λ (j : ℕ). lineOf (slotOf (slotWords N) ws j)) (λ (j : ℕ). lineOf (slotOf (slotWords N) (withSlot (slotWords N) i ws ys) j))
       0 n i i (omega arith) (λ j o. ap lineOf (slot-other (slotWords N) i ws ys room l j o))
-      ∙ ap (λ z. set (map (λ (j : ℕ). lineOf (slotOf (slotWords N) ws j)) (upFrom 0 n)) i (lineOf z)) (slot-here (slotWords N) i ws ys room l)
+      ∙ ap (λ z. set (map (λ (j : ℕ). lineOf (slotOf (slotWords N) ws j)) (upFrom 0 n)) i (lineOf z))
+      (slot-here (slotWords N) i ws ys room l)
 
 -- ---- what holds of the slots
 

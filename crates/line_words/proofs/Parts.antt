@@ -1,15 +1,15 @@
 -- A part of a list put back: it stands there, and what lies before and behind it is as it was. So for the parts of a slot, and for
 -- a slot of the words.
-use mathlib.Core.Path.{_≡_, _∙_, sym, refl, ap}
+use mathlib.Core.Path.{_≡_, _∙_, sym, ap}
 use mathlib.Core.List.{List, [], _∷_, _++_}
 use mathlib.Core.Logic.{_⊎_, inl, inr}
 use Prim.Native.Nat.{ℕ, zero, suc, _+_, _-_, _*_, _≤_, _<_}
 use native.Mathlib.Nat.{mul-le-mul-left}
 use native.Mathlib.Omega.{arith}
-use lib.ListN.{length, take, drop, length-take, length-drop}
+use lib.ListN.{length, take, drop, length-drop}
 use lib.Seq.{length-take-le, take-take, drop-drop, take-nil, take-at, drop-at}
-use borrow.Rule.Slice.PartMut.{putMid, postOf, take-put, drop-put, same-len-mid, mid-len}
-use Rattle.line_words.specs.Slots.{slotWords, slotOf, chainIn, marksIn, ringIn}
+use borrow.Rule.Slice.PartMut.{putMid, postOf, take-put, drop-put, same-len-mid}
+use Rattle.line_words.specs.Slots.{slotOf, chainIn, marksIn, ringIn}
 
 part-below : (n j a : ℕ) (xs : List ℕ) → j + n ≤ a → take n (drop j (take a xs)) ≡ take n (drop j xs)
 part-below n zero a xs h = take-take n a xs (omega arith)

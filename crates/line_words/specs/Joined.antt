@@ -9,7 +9,7 @@ use Rattle.waiting.specs.Waiting.{FitLine}
 use Rattle.device.specs.Device.{oneTaken}
 use Rattle.queue_lines.specs.Chains.{Virtqueue, queueSize}
 use Rattle.queue_lines.specs.Counters.{countersOf}
-use Rattle.line_words.specs.Slots.{slotWords, slotOf, chainIn, marksIn, ringIn, lineOf, queueIn, FitSlot, FitSlots}
+use Rattle.line_words.specs.Slots.{slotWords, slotOf, marksIn, ringIn, lineOf, queueIn, FitSlot, FitSlots}
 
 -- a slot whose line is not full
 pub record Roomy (s : List ℕ) : Type 0 where

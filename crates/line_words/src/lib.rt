@@ -1,7 +1,6 @@
 // The words of a stream queue with lines (order 8): a slot for each of its streams. In a slot stand the chain that
 // is remembered, the marks, and the ring of the waiting heads.
 ghost use mathlib.Core.Path.{_≡_};
-ghost use lib.ListN.{length};
 ghost use Rattle.line_chains.specs.Queue.{virtqueueOf};
 ghost use Rattle.queue_lines.specs.Chains.{queueSize};
 ghost use Rattle.line_words.specs.Slots.{slotWords};

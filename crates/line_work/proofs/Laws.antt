@@ -2,14 +2,12 @@
 use mathlib.Core.Path.{_≡_, _∙_, refl, sym, ap}
 use mathlib.Core.Logic.{_≢_}
 use mathlib.Core.Bool.{Bool, true, false, true≢false}
-use mathlib.Core.List.{List, [], _∷_}
-use Prim.Native.Nat.{ℕ, _-_, _≤_, _<_}
+use mathlib.Core.List.{List, _∷_}
+use Prim.Native.Nat.{ℕ, _-_, _<_}
 use native.Mathlib.Omega.{arith}
 use borrow.Author.Tests.{ltb-true, ltb-false, lt-ltb, le-ltb, ne-eqb}
-use lib.Dec.{ltb}
 use lib.ListN.{length}
-use Rattle.card.specs.Fit.{FitMessage}
-use Rattle.flow.specs.Flow.{runOf, reachesOf, jobWorked, FitFlow}
+use Rattle.flow.specs.Flow.{runOf, reachesOf, jobWorked}
 use Rattle.flow.specs.declared.Flow.{Flow}
 use Rattle.flow.specs.declared.Job.{Job}
 use Rattle.flow.specs.declared.Job.the-variants.{Transfer, Release}
@@ -17,7 +15,7 @@ use Rattle.message.specs.Message.{formIn, takingIn, answeredOf}
 use Rattle.message.specs.declared.Form.{Form}
 use Rattle.message.specs.declared.Form.the-variants.{WellFormed, Refused, Silent, Unwalked}
 use Rattle.message.specs.declared.Taken.{Taken}
-use Rattle.waiting.specs.Waiting.{headsIn, headsFrom, FitLine}
+use Rattle.waiting.specs.Waiting.{headsIn, headsFrom}
 use Rattle.device.specs.Device as device
 use Rattle.device.specs.Transfer.{Run, isWell, completed}
 use Rattle.queue_lines.specs.Chains.{Virtqueue, readingOf}
@@ -25,9 +23,8 @@ use Rattle.queue_lines.specs.Counters.{Line, Queue}
 use Rattle.queue_lines.specs.Rules.{times}
 use Rattle.queue_lines.proofs.Lists.{times-fixed}
 use Rattle.line_chains.specs.Queue.{single, refusedOf}
-use Rattle.line_words.specs.Slots.{chainIn, marksIn, ringIn}
-use Rattle.line_work.specs.Work.{Station, lifted, jobStep, readRun, openRun, opened, begunFlow, refusedFlow, stationOf, Aside, Opens}
-use Rattle.line_work.specs.Work.{FitFront}
+use Rattle.line_words.specs.Slots.{chainIn, ringIn}
+use Rattle.line_work.specs.Work.{Station, lifted, jobStep, readRun, openRun, opened, begunFlow, refusedFlow, stationOf, Aside}
 use Rattle.line_work.specs.declared.Front.{Front}
 use Rattle.line_work.proofs.Lift.{reachable, step-up, step-none}
 
@@ -94,7 +91,8 @@ module _ (v : Virtqueue) (i : ℕ) (job : Job) (s m host : List ℕ) (t : Front)
   pub turn-up : (s′ m′ : List ℕ) (o : Front) (m″ host″ : List ℕ) (f : Flow) → reachesOf job (t .flow .moved) (length host) ≡ true
       → stationOf s′ o m′ host ≡ opened v i (stationOf s t m host)
       → runOf (chainIn s′) f m″ host″ ≡ jobWorked job (single v) (runOf (chainIn s′) (o .flow) m′ host)
-      → lifted lines i (stationOf s′ (record { flow = f; line = o .line }) m″ host″) ≡ jobStep job v i (lifted lines i (stationOf s t m host))
+      → lifted lines i (stationOf s′ (record { flow = f; line = o .line }) m″ host″)
+      ≡ jobStep job v i (lifted lines i (stationOf s t m host))
   turn-up s′ m′ o m″ host″ f reach e w =
       ap (λ (r : Run device.Queue). lifted lines i (record { heads = headsIn (ringIn s′) (o .line); run = r })) w
       ∙ ap (λ (z : Station). lifted lines i (record { heads = z .heads; run = jobWorked job (single v) (z .run) })) e

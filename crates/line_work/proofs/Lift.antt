@@ -3,7 +3,7 @@ use mathlib.Core.Path.{_≡_, _∙_, refl, sym, ap}
 use mathlib.Core.Bool.{Bool, true, false, cond, true≢false}
 use mathlib.Core.List.{List, [], _∷_}
 use mathlib.Core.Option.{Option, none, some}
-use Prim.Native.Nat.{ℕ, _+_, _<_}
+use Prim.Native.Nat.{ℕ, _<_}
 use lib.Dec.{ltb}
 use lib.ListN.{length, take, drop, getD, set}
 use lib.Seq.{getD-set-same, set-set, drop-drop}
@@ -18,11 +18,11 @@ use Rattle.device.proofs.Cases.{map-cond}
 use Rattle.queue_lines.specs.Chains.{Virtqueue, readingOf}
 use Rattle.queue_lines.specs.Claim.{card}
 use Rattle.queue_lines.specs.Counters.{Line, Queue, noLine, frontOf}
-use Rattle.queue_lines.specs.Rules.{Front, working, withQueue, fresh, onward, posted, completed, opened as openedBy, onFront, leftOf, moved, worked}
+use Rattle.queue_lines.specs.Rules.{withQueue, fresh, onward, posted, completed, opened as openedBy, onFront, leftOf, moved, worked}
 use Rattle.queue_lines.specs.Rules.{transferStep, releaseStep}
 use Rattle.queue_lines.proofs.Lists.{drop-taken}
 use Rattle.line_chains.specs.Queue.{single}
-use Rattle.line_work.specs.Work.{Station, lifted, jobStep, begunRun, readRun, openRun, openBy, opened}
+use Rattle.line_work.specs.Work.{Station, lifted, jobStep, begunRun, readRun, openBy, opened}
 
 -- a job can go on
 abbrev pub reachable : Job → ℕ → Bool
@@ -85,7 +85,8 @@ module _ (v : Virtqueue) (lines : List Line) (i : ℕ) (there : i < length lines
         let u = moved-up heads w r busy in
         rw (left-moved heads w r busy)
         (map-cond (up heads) (isNil (drop (r .room) (leftOf (card v) v w)))
-        (λ e. rw u (completed-up heads (onward (length (take (r .room) (leftOf (card v) v w))) w) m (still-busy heads w r busy) device.finished))
+        (λ e. rw u (completed-up heads (onward (length (take (r .room) (leftOf (card v) v w))) w) m
+        (still-busy heads w r busy) device.finished))
         (λ e. u))
 
     worked-up : (job : Job) → reachable job (r .room) ≡ true → jobOn job w (up heads r) ≡ up heads (jobWorked job (single v) r)
@@ -115,7 +116,8 @@ module _ (v : Virtqueue) (lines : List Line) (i : ℕ) (there : i < length lines
   unfolding openedBy readRun
   read-up job head heads t r reach = rw (begun-up head heads t r) (by (isWell (t .form))) where
     by : (b : Bool)
-        → cond b (jobOn job (fresh t) (up heads (begunRun t r))) (completed (card v) v i device.illFormed (fresh t) (up heads (begunRun t r)))
+        → cond b (jobOn job (fresh t) (up heads (begunRun t r)))
+        (completed (card v) v i device.illFormed (fresh t) (up heads (begunRun t r)))
         ≡ up heads (jobWorked job (single v) (cond b (begunRun t r)
         (single-rules.completed ops (single v) device.illFormed (begunRun t r))))
     by true = worked-up heads (fresh t) (begunRun t r) refl job reach

@@ -1,7 +1,6 @@
 // The line of one stream on its queue (order 8): its front is read, worked or ended, and so on until the line is
 // empty, or a transfer has no room.
 ghost use mathlib.Core.Path.{_≡_};
-ghost use mathlib.Core.Bool.{true};
 ghost use Prim.Native.Nat.{_≤_};
 ghost use lib.ListN.{length};
 ghost use Rattle.card.specs.Fit.{FitMessage};
@@ -65,7 +64,8 @@ fn begin(f: Flow, chain: Taken) -> Flow
 
 // A front that was read: a well-formed message is in work, an ill-formed one completed at once.
 fn enter(m: &mut [u8], list: &[u64], q: LineQueue, f: Flow, chain: Taken) -> Flow
-    requires { ⌜ (f .message .count ≡ 0) × FitTaken (length (now m)) (now list) chain × FitMessage (length (now m)) (now list) (f .message) ⌝ }
+    requires { ⌜ (f .message .count ≡ 0) × FitTaken (length (now m)) (now list) chain
+        × FitMessage (length (now m)) (now list) (f .message) ⌝ }
     ensures { λ r. ⌜ Steps (readRun (virtqueueOf q) (takingIn (now (list .entry)) chain))
         (now (list .entry)) (now (m .entry)) f (now (list .entry)) (now (m .exit)) r ⌝ }
 {

@@ -7,9 +7,9 @@ use Rattle.ranges.proofs.Laws.{rangesOf-none}
 use Rattle.ranges.specs.declared.Range.{Range}
 use Rattle.ranges.specs.Ranges.{rangesOf}
 use borrow.Author.Needs.{needs}
-use mathlib.Core.Bool.{false, true, false≢true}
+use mathlib.Core.Bool.{false, false≢true}
 use mathlib.Core.List.{List}
-use mathlib.Core.Path.{_≡_, _∙_, sym, refl, ap}
+use mathlib.Core.Path.{_≡_, _∙_, sym, ap}
 use Rattle.line_chains.proofs.Laws.{walked-whole, arrived-by, in-line, at-once, judged-fit}
 use Rattle.line_chains.proofs.arrive.Statement.{statement}
 use Rattle.line_chains.proofs.arrive.Tie as tie
@@ -18,8 +18,11 @@ use Rattle.line_chains.proofs.arrive.Tie as tie
 abbrev start : tie.After-walk → tie.Start
 start c = c .before .before .before .before
 
+abbrev placed : tie.After-place-of-arg → tie.After-walk
+placed c = c .before .before .before .before .before .before .before .before
+
 abbrev walk-of : tie.After-place-of → tie.After-walk
-walk-of c = c .before .before .before .before .before .before .before .before .before
+walk-of c = placed (c .before)
 
 abbrev request : tie.After-walk → List Range
 request c = rangesOf (c .walk .last .1 .0) (c .walk .result .chain .request)
@@ -31,7 +34,8 @@ reply c = rangesOf (c .walk .last .1 .0) (c .walk .result .chain .reply)
 whole-walk : (c : tie.After-place-of) → let w = walk-of c in let a = start w .args in
     whole (request w) (reply w) ≡ walked (virtqueueOf (a .q)) (a .m .now) (a .head .0)
 whole-walk c =
-    let w = walk-of c .walk in walked-whole (w .last .1 .0) (w .result) _ (c .before .before .before .before .before .enum-told .given .1) (w .ensures .0)
+    let w = walk-of c .walk in
+    walked-whole (w .last .1 .0) (w .result) _ (c .before .before .before .before .before .enum-told .given .1) (w .ensures .0)
 
 walk-requires : tie.Need-walk-requires
 walk-requires c κs = search needs
@@ -64,7 +68,7 @@ enum-told : tie.Need-enum-told
 enum-told c = search needs
 
 place-of-requires : tie.Need-place-of-requires
-place-of-requires c κs = let w = c .before .before .before .before .before .before .before .before in w .walk .ensures .1 .request
+place-of-requires c κs = placed c .walk .ensures .1 .request
 
 enum-known-line : tie.Need-enum-known-line
 enum-known-line c = search needs
@@ -99,7 +103,8 @@ returns-3 c =
     let a = start w .args in
     let v = virtqueueOf (a .q) in (
       rw (c .form-by .ensures)
-          (at-once v (a .m .now) (a .head .0) (request w) (reply w) (ap placeIn (sym (c .before .before .enum-told2 .given .1)) ∙ o .place-of .ensures)
+          (at-once v (a .m .now) (a .head .0) (request w) (reply w)
+          (ap placeIn (sym (c .before .before .enum-told2 .given .1)) ∙ o .place-of .ensures)
           ∙ arrived-by v (a .m .now) (a .head .0) _ (whole-walk o)),
       judged-fit (a .m .now) (w .walk .last .1 .0) (w .walk .result .chain) _ (a .head) false (w .walk .ensures .1) (c .form-by .ensures)
           (λ e. absurd (false≢true e)),

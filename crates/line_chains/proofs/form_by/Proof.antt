@@ -5,6 +5,9 @@ use mathlib.Core.Path.{_∙_, sym}
 use Rattle.line_chains.proofs.form_by.Statement.{statement}
 use Rattle.line_chains.proofs.form_by.Tie as tie
 
+abbrev start : tie.Else2 → tie.Start
+start c = c .before .before .before .before .before .before
+
 all-inside-requires : tie.Need-all-inside-requires
 all-inside-requires c κs = search needs
 
@@ -23,7 +26,7 @@ returns-3 : tie.Need-returns-3
 returns-3 c =
     rw (
       sym (c .before .before .before .before .all-inside .ensures) ∙ not-false _ (c .before .before .before .if1 .left),
-      ← (c .before .before .before .before .before .before .before .pre),
+      ← (start (c .before) .pre),
       le-leb _ _ (c .before .if2 .left),
       c .if3 .taken,
     )
@@ -32,7 +35,7 @@ returns-4 : tie.Need-returns-4
 returns-4 c =
     rw (
       sym (c .before .before .before .before .all-inside .ensures) ∙ not-false _ (c .before .before .before .if1 .left),
-      ← (c .before .before .before .before .before .before .before .pre),
+      ← (start (c .before) .pre),
       le-leb _ _ (c .before .if2 .left),
       c .if3 .left,
     )

@@ -2,14 +2,13 @@
 use Rattle.chain.specs.Walk.{faulted, whole}
 use Rattle.line_chains.specs.Queue.{virtqueueOf}
 use Rattle.message.proofs.Laws.{no-ranges-fit}
-use Rattle.queue_lines.specs.Chains.{walked}
 use Rattle.ranges.proofs.Laws.{rangesOf-none}
 use Rattle.ranges.specs.declared.Range.{Range}
 use Rattle.ranges.specs.Ranges.{rangesOf}
 use borrow.Author.Needs.{needs}
 use mathlib.Core.Bool.{and-eq-true-iff}
 use mathlib.Core.List.{List}
-use mathlib.Core.Path.{_≡_, _∙_, sym}
+use mathlib.Core.Path.{_∙_, sym}
 use Rattle.line_chains.proofs.Laws.{walked-whole, read-by, of-line, judged-fit}
 use Rattle.line_chains.proofs.read.Statement.{statement}
 use Rattle.line_chains.proofs.read.Tie as tie
@@ -18,8 +17,11 @@ use Rattle.line_chains.proofs.read.Tie as tie
 abbrev start : tie.After-walk → tie.Start
 start c = c .before .before .before .before
 
+abbrev judged : tie.After-form-by-arg → tie.After-walk
+judged c = c .before .before .before .before .before .before .before .before .before .before
+
 abbrev walk-of : tie.After-form-by → tie.After-walk
-walk-of c = c .before .before .before .before .before .before .before .before .before .before .before
+walk-of c = judged (c .before)
 
 abbrev request : tie.After-walk → List Range
 request c = rangesOf (c .walk .last .1 .0) (c .walk .result .chain .request)
@@ -61,7 +63,7 @@ is-of-line-requires : tie.Need-is-of-line-requires
 is-of-line-requires c κs = search needs
 
 form-by-requires : tie.Need-form-by-requires
-form-by-requires c κs = c .before .before .before .before .before .before .before .before .before .before .walk .ensures .1 .reply
+form-by-requires c κs = judged c .walk .ensures .1 .reply
 
 same-length-2 : tie.Need-same-length-2
 same-length-2 c = search needs
@@ -72,12 +74,13 @@ returns-2 c =
     let a = start w .args in
     let g = w .walk .ensures .1 in
     let v = virtqueueOf (a .q) in
-    let i = c .before .before .is-of-line in (
-      of-line v (a .m .now) (a .head .0) (request w) (reply w) (a .line) _ _ (i .result) (c .form-by .result) (g .request) (g .reply) (i .ensures)
-          (c .form-by .ensures)
+    let o = c .before .before in
+    let i = o .is-of-line in (
+      of-line v (a .m .now) (a .head .0) (request w) (reply w) (a .line) _ _ (i .result) (c .form-by .result) (g .request)
+          (g .reply) (i .ensures) (c .form-by .ensures)
           ∙ read-by v (a .m .now) (a .head .0) (a .line) (whole (request w) (reply w))
           (walked-whole (w .walk .last .1 .0) (w .walk .result) _
-          (c .before .before .before .before .before .before .before .enum-told .given .1) (w .walk .ensures .0)),
+          (o .before .before .before .before .before .enum-told .given .1) (w .walk .ensures .0)),
       judged-fit (a .m .now) (w .walk .last .1 .0) (w .walk .result .chain) _ (a .head) (i .result) g (c .form-by .ensures)
           (λ e. and-eq-true-iff _ _ .0 (and-eq-true-iff _ _ .0 (sym (i .ensures) ∙ e) .0) .0),
     )

@@ -8,6 +8,9 @@ use Rattle.line_chains.proofs.Laws.{own-status}
 use Rattle.line_chains.proofs.refuse.Statement.{statement}
 use Rattle.line_chains.proofs.refuse.Tie as tie
 
+abbrev start : tie.After-status-of → tie.Start
+start c = c .before .before .before .before .before .before .before
+
 status-of-requires : tie.Need-status-of-requires
 status-of-requires c κs = search needs
 
@@ -20,7 +23,7 @@ same-length c = search needs
 returns : tie.Need-returns
 returns c =
     let s = c .before .before .before in
-    let a = s .before .before .before .before .before .before .before .args in
+    let a = start s .args in
     let d = directionOf (a .q .queue .direction) in
     let e : statusIn (s .status-of .result) ≡ statusOf d illFormed (formIn (a .taken .form)) =
     s .status-of .ensures ∙ own-status d (formIn (a .taken .form)) in

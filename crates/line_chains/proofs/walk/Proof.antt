@@ -18,7 +18,8 @@ same-length c = search needs
 returns : tie.Need-returns
 returns c =
     let w = c .before .before .walk in
-    (rw (c .before .before .before .address .ensures, c .before .before .before .before .before .queue-size .ensures) at (w .ensures .outcome), w .ensures .sound)
+    let size = c .before .before .before .before .before .queue-size in
+    (rw (c .before .before .before .address .ensures, size .ensures) at (w .ensures .outcome), w .ensures .sound)
 
 pub walk-spec : {M : Type 1} → statement M
 walk-spec =

@@ -4,7 +4,6 @@ use Rattle.line_words.specs.Slots.{queueIn}
 use Rattle.queue_lines.specs.Claim.{card}
 use Rattle.queue_lines.specs.Rules as rules
 use borrow.Author.Needs.{needs}
-use lib.ListN.{length}
 use mathlib.Core.Path.{_≡_, _∙_, sym}
 use native.Mathlib.Omega.{arith}
 use Rattle.line_queue.proofs.Laws.{found-by, room-new, ran-idle, ran-broken, ran-new}
@@ -14,6 +13,13 @@ use Rattle.line_queue.proofs.run.Tie as tie
 -- where the queue is checked
 abbrev start : tie.After-check-queue → tie.Start
 start c = c .before .before .before .before .before .before .before .before
+
+-- .. where all new entries were taken
+abbrev took : tie.After-work-words-arg3 → tie.After-take-all
+took c = c .before .before .before .before .before .before .before
+
+abbrev found-at : tie.After-take-all → tie.After-check-queue
+found-at c = c .before .before .before .before .before .before
 
 -- the code's check is the rules'
 found-is : (c : tie.After-check-queue) → let a = start c .args in
@@ -59,13 +65,16 @@ take-all-requires c κs =
     let k = c .before .before .before .before .before in
     let s = start k in
     let a = s .args in
-    (s .pre .0 .slots, room-new (virtqueueOf (a .q)) (a .line) (a .words .now) (a .m .now) (a .host .now) (a .counters) _ (found-is k ∙ c .before .before .before .new .given .1))
+    let new = c .before .before .before .new in (
+      s .pre .0 .slots,
+      room-new (virtqueueOf (a .q)) (a .line) (a .words .now) (a .m .now) (a .host .now) (a .counters) _ (found-is k ∙ new .given .1),
+    )
 
 work-words-requires : tie.Need-work-words-requires
 work-words-requires c κs =
-    let t = c .before .before .before .before .before .before .before .take-all in
-    let s = start (c .before .before .before .before .before .before .before .before .before .before .before .before .before) in
-    (rw (t .ensures .long) (t .ensures .fit), s .pre .1, rw (t .ensures .moved) (omega arith))
+    let o = took c in
+    let t = o .take-all .ensures in
+    (rw (t .long) (t .fit), start (found-at o) .pre .1, rw (t .moved) (omega arith))
 
 same-length : tie.Need-same-length
 same-length c = search needs
@@ -103,7 +112,7 @@ same-length-5 c = search needs
 returns-3 : tie.Need-returns-3
 returns-3 c =
     let w = c .before .before .before .before .before .before in
-    let t = w .before .before .before .before .before .before .before .before in
+    let t = took (w .before) in
     let n = t .before .before .before .before in
     let k = n .before .before in
     let s = start k in

@@ -17,8 +17,11 @@ use Rattle.line_queue.proofs.work_slot.Tie as tie
 abbrev start : tie.After-front-of → tie.Start
 start c = c .before .before .before .before .before .before .before .before .before .before
 
-abbrev worked-at : tie.After-store-line → tie.After-work-line
-worked-at c = c .before .before .before .before .before .before .before .before .before .before .before .before .before .before
+abbrev told : tie.After-left → tie.After-work-line
+told c = c .before .before .before .before .before .before .before .before
+
+abbrev worked-at : tie.After-store → tie.After-work-line
+worked-at c = told (c .before .before)
 
 front-is : (c : tie.After-front-of) → let a = start c .args in c .front-of .result ≡ frontAt (a .slot .now) (a .p)
 front-is c =
@@ -72,7 +75,7 @@ part-store-start : tie.Need-part-store-start
 part-store-start c = search needs
 
 part-store-end : tie.Need-part-store-end
-part-store-end c = long-still (c .before .before .before .before .before .before .before .before)
+part-store-end c = long-still (told c)
 
 store-requires : tie.Need-store-requires
 store-requires c κs = search needs
@@ -85,7 +88,7 @@ part-store-line-start c = search needs
 
 part-store-line-end : tie.Need-part-store-line-end
 part-store-line-end c =
-    let w = c .before .before .before .before .before .before .before .before .before .before .before .before in
+    let w = worked-at (c .before .before) in
     let l : length (c .before .before .store .last .0) ≡ 11 = omega arith in
     rw (marks-long (w .work-line .last .1 .0) (c .before .before .store .last .0) (long-still w) l) (long-still w)
 
@@ -106,14 +109,16 @@ same-length-3 c = search needs
 
 returns : tie.Need-returns
 returns c =
-    let w = worked-at (c .before .before .before) in
+    let d = c .before .before .before in
+    let b = d .before .before .before .before in
+    let w = worked-at b in
     let f = w .before .before .before .before in
     let a = start f .args in
     let s₁ = w .work-line .last .1 .0 in
-    let one = c .before .before .before .before .before .before .before .store in
-    let two = c .before .before .before .store-line in
-    let l₁ : length (one .last .0) ≡ 11 = omega (arith, one .kept .0, c .before .before .before .before .before .before .before .before .store-arg .given .1) in
-    let l₂ : length (two .last .0) ≡ 11 = omega (arith, two .kept .0, c .before .before .before .before .store-line-arg .given .1) in
+    let one = b .store in
+    let two = d .store-line in
+    let l₁ : length (one .last .0) ≡ 11 = omega (arith, one .kept .0, b .before .store-arg .given .1) in
+    let l₂ : length (two .last .0) ≡ 11 = omega (arith, two .kept .0, d .before .store-line-arg .given .1) in
     let s₂ = withMarks s₁ (one .last .0) in
     let long₁ = long-still w in
     let long₂ : 79 ≤ length s₂ = rw (marks-long s₁ (one .last .0) long₁ l₁) long₁ in

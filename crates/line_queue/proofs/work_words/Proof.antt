@@ -1,5 +1,5 @@
 -- The slot of the line is put back; the others stay.
-use Prim.Native.Nat.{_+_, _-_, _*_}
+use Prim.Native.Nat.{_+_, _-_, _*_, _≤_}
 use Rattle.line_chains.specs.Queue.{virtqueueOf}
 use Rattle.line_words.proofs.Joins.{between}
 use Rattle.line_words.proofs.Lines.{slot-inside}
@@ -17,6 +17,11 @@ use Rattle.line_queue.proofs.work_words.Tie as tie
 abbrev start : tie.After-slot-words → tie.Start
 start c = c .before .before .before .before .before .before
 
+-- the slot lies in the words
+inside : (c : tie.After-slot-words) → let a = start c .args in let size = slotWords (queueSize (virtqueueOf (a .q))) in
+    size * a .line + size ≤ length (a .words .now)
+inside c = let s = start c in slot-inside (virtqueueOf (s .args .q)) _ _ _ (s .pre .0) (s .pre .1)
+
 enum-told : tie.Need-enum-told
 enum-told c = search needs
 
@@ -27,19 +32,20 @@ returns : tie.Need-returns
 returns c =
     let s = c .before .before .before .before .before in
     let a = s .args in
-    gone-line (virtqueueOf (a .q)) (a .line) (a .job) (a .words .now) (a .m .now) (a .host .now) (a .p) (s .pre .0) (rw (c .enum-told2 .given .1))
+    gone-line (virtqueueOf (a .q)) (a .line) (a .job) (a .words .now) (a .m .now) (a .host .now) (a .p) (s .pre .0)
+    (rw (c .enum-told2 .given .1))
 
 slot-words-requires : tie.Need-slot-words-requires
 slot-words-requires c κs = search needs
 
 mul-from : tie.Need-mul-from
-mul-from c = let s = start c in let e = slot-inside (virtqueueOf (s .args .q)) _ _ _ (s .pre .0) (s .pre .1) in rw (c .slot-words .ensures) (omega (arith, e))
+mul-from c = rw (c .slot-words .ensures) (omega (arith, inside c))
 
 add-to : tie.Need-add-to
-add-to c = let s = start c in let e = slot-inside (virtqueueOf (s .args .q)) _ _ _ (s .pre .0) (s .pre .1) in rw (c .slot-words .ensures) (omega (arith, e))
+add-to c = rw (c .slot-words .ensures) (omega (arith, inside c))
 
 mul-work-slot : tie.Need-mul-work-slot
-mul-work-slot c = let b = c .before in let s = start b in let e = slot-inside (virtqueueOf (s .args .q)) _ _ _ (s .pre .0) (s .pre .1) in rw (b .slot-words .ensures) (omega (arith, e))
+mul-work-slot c = rw (c .before .slot-words .ensures) (omega (arith, inside (c .before)))
 
 sub-work-slot : tie.Need-sub-work-slot
 sub-work-slot c = search needs
@@ -48,7 +54,7 @@ part-work-slot-start : tie.Need-part-work-slot-start
 part-work-slot-start c = search needs
 
 part-work-slot-end : tie.Need-part-work-slot-end
-part-work-slot-end c = let b = c .before in let s = start b in let e = slot-inside (virtqueueOf (s .args .q)) _ _ _ (s .pre .0) (s .pre .1) in rw (b .slot-words .ensures) (omega (arith, e))
+part-work-slot-end c = rw (c .before .slot-words .ensures) (omega (arith, inside (c .before)))
 
 work-slot-requires : tie.Need-work-slot-requires
 unfolding slotOf
@@ -56,7 +62,7 @@ work-slot-requires c κs =
     let b = c .before .before .before in
     let s = start b in
     let a = s .args in
-    let long = slot-long _ _ (a .words .now) (slot-inside (virtqueueOf (a .q)) _ _ (a .words .now) (s .pre .0) (s .pre .1)) in
+    let long = slot-long _ _ (a .words .now) (inside b) in
     rw (between (b .slot-words .result * a .line) (b .slot-words .result), b .slot-words .ensures)
     (rw long (omega arith), s .pre .0 .slot (a .line) (s .pre .1), s .pre .2)
 
@@ -81,9 +87,10 @@ returns-2 c =
     let e = between (b .slot-words .result * a .line) (b .slot-words .result) in
     let l : length (w .last .1 .0) ≡ slotWords (queueSize v) =
     rw (e, b .slot-words .ensures) at (w .kept .1 .0)
-    ∙ slot-long (slotWords (queueSize v)) (a .line) (a .words .now) (slot-inside v _ (a .line) (a .words .now) (s .pre .0) (s .pre .1)) in
+    ∙ slot-long (slotWords (queueSize v)) (a .line) (a .words .now) (inside b) in
     rw (e, b .slot-words .ensures)
-    (works-line v (a .line) (a .job) (a .words .now) (a .m .now) (a .host .now) (a .p) (s .pre .0) (s .pre .1) (b .before .enum-told .given .1)
+    (works-line v (a .line) (a .job) (a .words .now) (a .m .now) (a .host .now) (a .p) (s .pre .0) (s .pre .1)
+    (b .before .enum-told .given .1)
     (w .last .1 .0) _ _ (w .result) l (rw (e, b .slot-words .ensures) at (w .ensures)))
 
 pub work-words-spec : {M : Type 1} → statement M

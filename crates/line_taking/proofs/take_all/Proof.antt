@@ -63,7 +63,8 @@ loop-again c =
     let v = virtqueueOf (start (turn n) .args .q) in
     let t = n .take-next .ensures in
     let few = one-more v (l .words) (l .m) (l .p) _ _ (n .take-next .result) t in (
-      λ host. ap (takingRun (card v) v (l .left - 1)) (t .run host) ∙ sym (taking-more v (l .left) (l .left - 1) _ (omega arith)) ∙ l .inv .0 host,
+      λ host. ap (takingRun (card v) v (l .left - 1)) (t .run host)
+          ∙ sym (taking-more v (l .left) (l .left - 1) _ (omega arith)) ∙ l .inv .0 host,
       rw (l .inv .3) at (t .fit),
       omega (arith, few, l .inv .2),
       t .long ∙ l .inv .3,

@@ -66,7 +66,8 @@ returns-2 c =
     let a = s .args in
     record {
       run = λ host. rw (c .halt .ensures)
-          (next-broken (virtqueueOf (a .q)) (a .words .now) (a .m .now) host (a .p) (goes n) _ (sym (head-found n) ∙ c .before .before .cause .given .1));
+          (next-broken (virtqueueOf (a .q)) (a .words .now) (a .m .now) host (a .p) (goes n) _
+          (sym (head-found n) ∙ c .before .before .cause .given .1));
       fit = s .pre .0;
       moved = rw (c .halt .ensures);
       long = refl;
@@ -90,7 +91,8 @@ returns-3 c =
     let t = k .take .ensures in
     record {
       run = λ host. t .run host
-          ∙ sym (next-taken (virtqueueOf (a .q)) (a .words .now) (a .m .now) host (a .p) (goes n) _ (sym (head-found n) ∙ h .head .given .1));
+          ∙ sym (next-taken (virtqueueOf (a .q)) (a .words .now) (a .m .now) host (a .p) (goes n) _
+          (sym (head-found n) ∙ h .head .given .1));
       fit = t .fit;
       moved = t .moved;
       long = t .long;

@@ -1,5 +1,5 @@
 -- The slot is put back; the others stay.
-use Prim.Native.Nat.{_+_, _-_, _*_}
+use Prim.Native.Nat.{_-_, _*_}
 use Rattle.line_chains.specs.Queue.{virtqueueOf}
 use Rattle.line_words.specs.Slots.{slotWords, slotOf}
 use Rattle.queue_lines.specs.Chains.{queueSize}

@@ -64,7 +64,8 @@ returns c =
     let long : 79 ≤ length (withRing slot ring) = rw (ring-long slot ring (p .long) rl) (p .long) in
     pushed-by (s .args .head .0) slot _ ring (j .join .result)
     (marks-chain (withRing slot ring) marks long ml ∙ ring-chain slot ring (p .long) rl)
-    (ap messageIn (marks-here (withRing slot ring) marks long ml) ∙ stored .store-line .ensures .1 ∙ ap messageIn (ring-marks slot ring (p .long) rl))
+    (ap messageIn (marks-here (withRing slot ring) marks long ml) ∙ stored .store-line .ensures .1
+    ∙ ap messageIn (ring-marks slot ring (p .long) rl))
     (ap lineIn (marks-here (withRing slot ring) marks long ml) ∙ stored .store-line .ensures .0)
     (marks-ring (withRing slot ring) marks long ml ∙ ring-here slot ring (p .long) rl)
     (rw (← (l .line .ensures)) (j .join .ensures .0))

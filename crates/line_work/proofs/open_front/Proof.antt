@@ -1,19 +1,20 @@
 -- A message in work stays, an empty line too; else the front leaves its line and is read into the chain's words.
-use Prim.Native.Nat.{ℕ, _<_}
-use Rattle.flow.specs.Flow.{runOf}
+use Prim.Native.Nat.{ℕ}
 use Rattle.line_chains.specs.Queue.{virtqueueOf}
-use Rattle.line_words.proofs.Parts.{withChain, chain-long, chain-here, chain-marks, chain-ring}
-use Rattle.line_words.specs.Slots.{chainIn, ringIn}
-use Rattle.line_work.specs.Work.{Station}
+use Rattle.line_words.proofs.Parts.{chain-long, chain-here, chain-marks, chain-ring}
+use Rattle.line_words.specs.Slots.{ringIn}
 use Rattle.waiting.specs.Waiting.{headsIn}
 use borrow.Author.Needs.{needs}
-use lib.ListN.{length, drop}
+use lib.ListN.{length}
 use mathlib.Core.List.{List, _∷_}
 use mathlib.Core.Path.{_≡_, _∙_, refl, sym, ap}
 use native.Mathlib.Omega.{arith}
 use Rattle.line_work.proofs.Laws.{open-busy, open-vacant, open-read, aside-none}
 use Rattle.line_work.proofs.open_front.Statement.{statement}
 use Rattle.line_work.proofs.open_front.Tie as tie
+
+abbrev start : tie.After-struct-known2 → tie.Start
+start c = c .before .before .before .before .before .before .before
 
 returns : tie.Need-returns
 returns c =
@@ -30,10 +31,11 @@ returns c =
 
 returns-2 : tie.Need-returns-2
 returns-2 c =
-    let s = c .before .before .before .before .before .before .before .before in
+    let s = start (c .before) in
     let a = s .args in
     record {
-      run = λ host. open-vacant (virtqueueOf (a .q)) (a .line) (a .slot .now) (a .m .now) host (a .front) (c .before .before .before .if1 .left) (c .if2 .taken);
+      run = λ host. open-vacant (virtqueueOf (a .q)) (a .line) (a .slot .now) (a .m .now) host (a .front)
+          (c .before .before .before .if1 .left) (c .if2 .taken);
       message = s .pre .1;
       line = s .pre .2;
       moved = refl;
@@ -88,7 +90,7 @@ returns-3 c =
     let r = c .before .before .before .before in
     let w = r .before .before .before .before .before .before in
     let o = w .before .before .before in
-    let s = o .before .before .before .before .before .before .before .before in
+    let s = start (o .before) in
     let a = s .args in
     let v = virtqueueOf (a .q) in
     let slot = a .slot .now in

@@ -4,7 +4,7 @@ use Rattle.line_chains.specs.Queue.{virtqueueOf}
 use Rattle.line_work.specs.Work.{openRun}
 use Rattle.message.specs.Message.{takingIn}
 use borrow.Author.Needs.{needs}
-use mathlib.Core.Path.{_≡_, _∙_, ap}
+use mathlib.Core.Path.{_∙_, ap}
 use Rattle.line_work.proofs.Laws.{read-open}
 use Rattle.line_work.proofs.read_front.Statement.{statement}
 use Rattle.line_work.proofs.read_front.Tie as tie

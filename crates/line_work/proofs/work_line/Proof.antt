@@ -1,7 +1,6 @@
 -- What is left of the loop, run on the state now, is the whole loop run on the first state.
-use Prim.Native.Nat.{ℕ, _+_, _-_, _≤_, _<_}
+use Prim.Native.Nat.{_-_, _<_}
 use Rattle.device.specs.Device.{input}
-use Rattle.flow.specs.Flow.{reachesOf}
 use Rattle.line_chains.specs.Queue.{virtqueueOf}
 use Rattle.line_work.specs.Work.{lifted, jobStep, stationOf, Aside, FitFront}
 use Rattle.queue_lines.proofs.Lists.{times-none, times-more}
@@ -9,7 +8,6 @@ use Rattle.queue_lines.specs.Counters.{Line}
 use Rattle.queue_lines.specs.Rules.{times}
 use borrow.Author.Tests.{not-true, not-false}
 use lib.ListN.{length}
-use mathlib.Core.Bool.{true}
 use mathlib.Core.List.{List}
 use mathlib.Core.Path.{_≡_, _∙_, refl, sym, ap}
 use native.Mathlib.Omega.{arith}
@@ -34,14 +32,20 @@ abbrev μ-loop : tie.MeasureT-loop
 
 -- ---- places: a turn, the test of the host's reach in it, the front opened, the message worked
 
+abbrev begun : tie.After-struct-known2 Inv-loop μ-loop → tie.Start Inv-loop μ-loop
+begun c = c .before .before .before .before .before .before .before
+
 abbrev start : tie.At-loop Inv-loop μ-loop → tie.Start Inv-loop μ-loop
-start c = c .before .before .before .before .before .before .before .before
+start c = begun (c .before)
 
 abbrev turn : tie.After-reaches Inv-loop μ-loop → tie.At-loop Inv-loop μ-loop
 turn c = c .before .before .before
 
 abbrev tested : tie.After-open-front Inv-loop μ-loop → tie.After-reaches Inv-loop μ-loop
 tested c = c .before .before .before .before
+
+abbrev cut : tie.After-slot2 Inv-loop μ-loop → tie.After-open-front Inv-loop μ-loop
+cut c = c .before .before .before .before .before .before .before
 
 abbrev opened : tie.After-work Inv-loop μ-loop → tie.After-open-front Inv-loop μ-loop
 opened c = c .before .before .before .before .before .before .before .before .before .before
@@ -60,7 +64,7 @@ add-left : tie.Need-add-left Inv-loop μ-loop
 add-left c = omega arith
 
 loop-holds : tie.Need-loop-holds Inv-loop μ-loop
-loop-holds c = let s = c .before .before .before .before .before .before .before in (λ lines there. refl, s .pre .1, refl, refl, aside-none _, λ e. refl)
+loop-holds c = (λ lines there. refl, begun c .pre .1, refl, refl, aside-none _, λ e. refl)
 
 reaches-requires : tie.Need-reaches-requires Inv-loop μ-loop
 reaches-requires c κs = omega arith
@@ -104,13 +108,13 @@ part-work-start c = omega arith
 
 part-work-end : tie.Need-part-work-end Inv-loop μ-loop
 part-work-end c =
-    let o = c .before .before .before .before .before .before .before in
+    let o = cut c in
     let t = turn (tested o) in
     omega (arith, start t .pre .0, t .loop .inv .4 .long, o .open-front .kept .1 .0)
 
 work-requires : tie.Need-work-requires Inv-loop μ-loop
 work-requires c κs =
-    let o = c .before .before .before .before .before .before .before .before .before in
+    let o = cut (c .before .before) in
     let l = turn (tested o) .loop in
     let e = o .open-front .ensures in
     record { message = rw (e .long) (e .message); inside = rw (e .moved, l .inv .3) (l .inv .1 .flow .inside) }
@@ -133,7 +137,8 @@ loop-again c =
     let t = w .work .ensures in (
       λ lines there. ap (times (jobStep (a .job) v (a .line)) (l .left - 1))
           (turn-up v (a .line) (a .job) (l .slot) (l .m) (l .host) (l .at) lines there
-          (o .open-front .last .1 .0) (o .open-front .last .0) (o .open-front .result) (w .work .last .0) (w .work .last .1 .1 .0) (w .work .result)
+          (o .open-front .last .1 .0) (o .open-front .last .0) (o .open-front .result)
+          (w .work .last .0) (w .work .last .1 .1 .0) (w .work .result)
           (sym (r .reaches .ensures) ∙ not-false _ (o .before .before .before .if1 .left)) (e .run (l .host)) (t .run))
           ∙ sym (times-more (jobStep (a .job) v (a .line)) (l .left) (l .left - 1) _ (omega (arith, some-left o)))
           ∙ l .inv .0 lines there,
@@ -159,7 +164,8 @@ returns-2 c =
     let l = o .loop in
     let a = start o .args in
     record {
-      run = λ lines there. sym (times-none (jobStep (a .job) (virtqueueOf (a .q)) (a .line)) (l .left) _ (omega arith)) ∙ l .inv .0 lines there;
+      run = λ lines there. sym (times-none (jobStep (a .job) (virtqueueOf (a .q)) (a .line)) (l .left) _ (omega arith))
+          ∙ l .inv .0 lines there;
       fit = l .inv .1;
       long = l .inv .2;
       host-long = l .inv .3;
