@@ -16,7 +16,7 @@ use Rattle.flow.specs.Flow.{runOf}
 use Rattle.flow.specs.declared.Job.{Job}
 use Rattle.flow.specs.declared.Job.the-variants.{Transfer, Release}
 use Rattle.marks.specs.Marks.{messageIn, lineIn}
-use Rattle.meaning.specs.Card.{takingIn, messageOf}
+use Rattle.meaning.specs.Card.{takingOfMessage, messageOf}
 use Rattle.ring.specs.Rules.{checkOf}
 use Rattle.ring.specs.declared.Cause.{Cause}
 use Rattle.ring.specs.declared.Check.{Check}
@@ -48,7 +48,7 @@ use Rattle.line_queue.proofs.Lent.{found-lent}
 begun-count : (ws : List ℕ) (message : Message) → message .count ≤ 1 → ifBegun (messageOf ws message) ≡ message .count
 begun-count ws message h = by (eqb (message .count) 0) refl where
   by : (b : Bool) → eqb (message .count) 0 ≡ b
-      → ifBegun (cond b none (some (record { taking = takingIn ws message; done = message .done }))) ≡ message .count
+      → ifBegun (cond b none (some (record { taking = takingOfMessage ws message; done = message .done }))) ≡ message .count
   by true e = sym (eqb-true (message .count) 0 e)
   by false e = let n = eqb-false (message .count) 0 e in omega (arith, n)
 
