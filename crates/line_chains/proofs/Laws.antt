@@ -1,7 +1,7 @@
 -- What a walk and the tests behind it make of a chain, in the rules' terms.
 use mathlib.Core.Path.{_≡_, _∙_, refl, sym, ap}
 use mathlib.Core.Bool.{Bool, true, false, cond, _&&_, and-eq-true-iff}
-use mathlib.Core.List.{List}
+use mathlib.Core.List.{List, []}
 use mathlib.Core.Option.{none, some}
 use Prim.Native.Nat.{ℕ, _+_}
 use lib.Dec.{eqb, leb}
@@ -21,8 +21,8 @@ use Rattle.message.specs.Message.{formIn, FitTaken}
 use Rattle.message.specs.declared.Form.{Form}
 use Rattle.message.specs.declared.Form.the-variants.{WellFormed}
 use Rattle.message.proofs.Laws.{both-tests}
-use Rattle.queue_lines.specs.Chains.{Virtqueue, walked, judged, lineOf, isOn, inLine, atOnce, arrival, arrivalOf, reading, readingOf}
-use Rattle.line_chains.specs.Queue.{placeOf, ownStatus}
+use Rattle.queue_lines.specs.Chains.{Virtqueue, walked, judged, lineOf, isOn, Arrival, inLine, atOnce, arrival, arrivalOf, reading, readingOf}
+use Rattle.line_chains.specs.Queue.{joinedLine, placeOf, ownStatus}
 
 -- a walk that no fault ended
 pub walked-whole : (ws : List ℕ) (w : Walked) (o : Outcome) → w .end ≡ Whole → outcomeOf ws w ≡ o
@@ -42,22 +42,26 @@ module _ (v : Virtqueue) (m : List ℕ) (head : ℕ) where
 
   -- a whole chain goes by the line that its request names
   module _ (request reply : List Range) where
+    abbrev joining : Bool
+    joining = allInside (length m) request && leb 4 (total request) && isOn v (idOf m request)
+
+    -- answered at once, with this head and reply
+    abbrev refusal : ℕ → List Range → Arrival
+    refusal h r = atOnce (record { head = h; request = request; reply = r; form = judged m r false })
+
     pub in-line : (i : ℕ) → some i ≡ placeOf v m request → inLine i ≡ arrival v m head (whole request reply)
-    in-line i h = by (allInside (length m) request && leb 4 (total request) && isOn v (idOf m request)) h where
-      by : (b : Bool) → some i ≡ cond b (some (lineOf v (idOf m request))) none
-          → inLine i ≡ cond b (inLine (lineOf v (idOf m request)))
-          (atOnce (record { head = head; request = request; reply = reply; form = judged m reply false }))
+    in-line i h = by joining h where
+      by : (b : Bool) → some i ≡ joinedLine (cond b (inLine (lineOf v (idOf m request))) (refusal 0 []))
+          → inLine i ≡ cond b (inLine (lineOf v (idOf m request))) (refusal head reply)
       by true e = cc
       by false e = absurd (none-some i (sym e))
 
     pub at-once : none ≡ placeOf v m request
         → atOnce (record { head = head; request = request; reply = reply; form = judged m reply false })
         ≡ arrival v m head (whole request reply)
-    at-once h = by (allInside (length m) request && leb 4 (total request) && isOn v (idOf m request)) h where
-      by : (b : Bool) → none ≡ cond b (some (lineOf v (idOf m request))) none
-          → atOnce (record { head = head; request = request; reply = reply; form = judged m reply false })
-          ≡ cond b (inLine (lineOf v (idOf m request)))
-          (atOnce (record { head = head; request = request; reply = reply; form = judged m reply false }))
+    at-once h = by joining h where
+      by : (b : Bool) → none ≡ joinedLine (cond b (inLine (lineOf v (idOf m request))) (refusal 0 []))
+          → refusal head reply ≡ cond b (inLine (lineOf v (idOf m request))) (refusal head reply)
       by true e = absurd (none-some _ e)
       by false e = refl
 

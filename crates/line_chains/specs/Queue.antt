@@ -1,18 +1,15 @@
 -- What the code's structs of a stream queue with lines stand for in its rules.
-use mathlib.Core.Bool.{cond, _&&_}
-use mathlib.Core.List.{List}
+use mathlib.Core.List.{List, []}
 use mathlib.Core.Option.{Option, none, some}
 use Prim.Native.Nat.{ℕ}
-use lib.Dec.{leb}
-use lib.ListN.{length}
-use Rattle.ranges.specs.Ranges.{total, allInside}
+use Rattle.chain.specs.Walk.{whole}
 use Rattle.ranges.specs.declared.Range.{Range}
 use Rattle.ring.specs.Rules.{Completion}
 use Rattle.device.specs.Device as device
-use Rattle.device.specs.Transfer.{idOf, statusOf}
+use Rattle.device.specs.Transfer.{statusOf}
 use Rattle.message.specs.Message.{directionOf, takingIn, FitTaken, answeredOf}
 use Rattle.queue_lines.specs.Chains as rules
-use Rattle.queue_lines.specs.Chains.{Virtqueue, lineOf, isOn, inLine, atOnce}
+use Rattle.queue_lines.specs.Chains.{Virtqueue, inLine, atOnce, arrival}
 use Rattle.line_chains.specs.declared.LineQueue.{LineQueue}
 use Rattle.line_chains.specs.declared.Place.{Place}
 use Rattle.line_chains.specs.declared.Place.the-variants as places
@@ -40,10 +37,14 @@ abbrev pub placeIn : Place → Option ℕ
 placeIn places.Nowhere = none
 placeIn (places.InLine i) = some i
 
--- the line that a request names, if it is one of the queue
+-- the line that an entry joins, if any
+abbrev pub joinedLine : rules.Arrival → Option ℕ
+joinedLine (inLine i) = some i
+joinedLine (atOnce t) = none
+
+-- .. by its request alone
 abbrev pub placeOf : Virtqueue → List ℕ → List Range → Option ℕ
-placeOf v m request =
-    cond (allInside (length m) request && leb 4 (total request) && isOn v (idOf m request)) (some (lineOf v (idOf m request))) none
+placeOf v m request = joinedLine (arrival v m 0 (whole request []))
 
 abbrev pub arrivalIn : List ℕ → Arrival → rules.Arrival
 arrivalIn ws (InLine i) = inLine i

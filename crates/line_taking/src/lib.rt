@@ -15,6 +15,7 @@ use card::Counters;
 use counts::DescriptorNumber;
 use line_chains::Arrival;
 use line_chains::LineQueue;
+use line_words::MARKS;
 use message::Taken;
 use ring::Cause;
 use ring::Head;
@@ -157,7 +158,7 @@ pub fn take_all(
     ensures { λ r. ⌜ Takes (virtqueueOf q) (takingRun (card (virtqueueOf q)) (virtqueueOf q) new)
         (now (words .entry)) (now (m .entry)) (fresh counters) (now (words .exit)) (now (m .exit)) r ⌝ }
 {
-    let mut list = [0u64; 68];
+    let mut list = [0u64; MARKS];
     let mut p = begin(counters);
     let mut left = new;
     while 0 < left {

@@ -11,7 +11,7 @@ use line_chains::LineQueue;
 // Where the marks and the ring stand in a slot.
 pub const MARKS: usize = 68;
 
-pub const RING: usize = 79;
+pub const RING: usize = MARKS + marks::WORDS;
 
 // How many words a slot of the queue has.
 pub fn slot_words(q: LineQueue) -> usize
