@@ -1,7 +1,8 @@
 /*
  * What a payload costs in the card, against memcpy of as many bytes, in one process and in alternating rounds: a play (capture) call that
  * works one message whole. Prints the best round of each in ns a call, their ratio, and what the card spends beside the copy. The message
- * has one descriptor for its payload, or as many as a payload scattered over pages of 4,096 bytes has.
+ * has one descriptor for its payload, or as many as a payload scattered over pages of 4,096 bytes has. Last, what a play of 1,920 bytes
+ * costs on a card with four outputs, with nothing in line beside it and with a message waiting on each of the three others, in turns.
  */
 #define _DEFAULT_SOURCE
 #include "card_adapter.h"
@@ -50,11 +51,11 @@ static void command(uint16_t n, const uint32_t *words, uint32_t count)
         fail("a command was refused");
 }
 
-static void set_up(void)
+static void set_up(uint32_t outputs)
 {
     static const uint32_t pages[4] = {CONTROL, 0, PLAY, CAPTURE};
     uint16_t n = 0;
-    if (dev_power_up(RAM) != 0)
+    if (dev_power_up_with(RAM, outputs) != 0)
         fail("power-up");
     dev_write(18, 1, 3);
     dev_write(4, 4, 0);
@@ -64,7 +65,11 @@ static void set_up(void)
         dev_write(8, 4, pages[i]);
     }
     dev_write(18, 1, 15);
-    for (uint32_t s = 0; s < 2; s++) {
+    put_index[0] = put_index[1] = 0;
+    put(PLAY * 4096 + 4096, 4, 0);
+    put(CAPTURE * 4096 + 1024, 4, 0);
+    put(CONTROL * 4096 + 1024, 4, 0);
+    for (uint32_t s = 0; s < outputs + 1; s++) {
         command(++n, (const uint32_t[]){0x101, s, 65536, 65536, 0, 0x00070502}, 6);
         command(++n, (const uint32_t[]){0x102, s}, 2);
         command(++n, (const uint32_t[]){0x104, s}, 2);
@@ -121,15 +126,71 @@ static void measure(uint32_t stream, uint32_t payload, uint32_t piece)
            stream ? "capture" : "play", payload, piece, card, copy, card / copy, card - copy);
 }
 
+/* The best round of a play of 1,920 bytes on stream 0. */
+static double best_play(int rounds)
+{
+    double best = 1e18;
+    size_t count;
+    for (int r = 0; r < rounds; r++) {
+        double from = now(), t;
+        for (int i = 0; i < CALLS; i++) {
+            put(PLAY * 4096u + 4096 + 2, 2, ++put_index[0]);
+            if (dev_play(ram, RAM, host, 1920, &count) != 0 || count != 1920)
+                fail("a payload was not worked");
+        }
+        t = (now() - from) / CALLS;
+        best = t < best ? t : best;
+    }
+    return best;
+}
+
+/* A message on each of streams 1 to 3, taken by a play without room; they wait. */
+static void put_waiting(void)
+{
+    size_t count, data = 200 * 4096u;
+    for (uint32_t s = 1; s < 4; s++) {
+        put(data + 16 * s, 4, s);
+        descriptor(PLAY * 4096u, 64 * s, data + 16 * s, 4, 1);
+        descriptor(PLAY * 4096u, 64 * s + 1, data + 4096, 1920, 1);
+        descriptor(PLAY * 4096u, 64 * s + 2, data + 2048, 8, 2);
+        put(PLAY * 4096u + 4096 + 4 + 2 * (put_index[0] % 256u), 2, 64 * s);
+        put_index[0]++;
+    }
+    put(PLAY * 4096u + 4096 + 2, 2, put_index[0]);
+    if (dev_play(ram, RAM, host, 0, &count) != 0 || count != 0)
+        fail("messages are not taken");
+    for (uint32_t i = 0; i < 256; i++)
+        put(PLAY * 4096u + 4096 + 4 + 2 * i, 2, 0);
+}
+
+static void lines(void)
+{
+    double alone = 1e18, beside = 1e18, t;
+    for (int turn = 0; turn < 10; turn++) {
+        set_up(4);
+        lay_out(0, 1920, 65536);
+        t = best_play(ROUNDS / 10);
+        alone = t < alone ? t : alone;
+        set_up(4);
+        lay_out(0, 1920, 65536);
+        put_waiting();
+        t = best_play(ROUNDS / 10);
+        beside = t < beside ? t : beside;
+    }
+    printf("play on stream 0 of four: alone %.1f ns, with a message waiting on each of the others %.1f ns, ratio %.3f\n", alone, beside,
+           beside / alone);
+}
+
 int main(void)
 {
     static const uint32_t payloads[] = {64, 480, 1920, 16384, 65536};
-    set_up();
+    set_up(1);
     for (uint32_t s = 0; s < 2; s++)
         for (size_t i = 0; i < sizeof payloads / sizeof *payloads; i++) {
             measure(s, payloads[i], 65536);
             if (payloads[i] > 4096)
                 measure(s, payloads[i], 4096);
         }
+    lines();
     return 0;
 }

@@ -3,11 +3,13 @@
  * virtio headers. Guest and monitor take turns in one thread: in a real monitor the guest runs in a virtual CPU, and the functions of
  * the first part are called where it leaves off.
  *
- *     monitor [PLAYED [CHIME]]
+ *     monitor [PLAYED [CHIME [VOICE]]]
  *
- * The guest sets the card up, plays 65,486 buffers of one silent frame and then a chime of one second in 100 buffers of 10 ms, in which
- * the 16-bit index of the ring rolls over; it is told that a jack was plugged in, records a tenth of a second, stops and releases. Every
- * byte played goes to the file PLAYED, the chime as a WAVE file to CHIME. Exits with 0 only if all went as it should.
+ * The card has two outputs, a chime on stream 0 and a voice on stream 1, and an input, stream 2. The guest sets the card up, plays 65,486
+ * buffers of one silent frame and then both at once in buffers of 10 ms, one second of the chime and 1.2 seconds of the voice, in which
+ * the 16-bit index of the ring rolls over. It stops and releases the chime while the last of the voice waits, and the voice is heard to
+ * its end. It is told that a jack was plugged in, records a tenth of a second, stops and releases. Every byte that stream 0 played goes to
+ * the file PLAYED, the chime and the voice as WAVE files to CHIME and VOICE: mixed by nobody. Exits with 0 only if all went as it should.
  */
 #include "wekshurag.h"
 #include "wekshurag_wave.h"
@@ -20,7 +22,18 @@
 #include <stdlib.h>
 #include <string.h>
 
-enum { PAGE = 4096, RAM = 1 << 20, RATE = 48000, FRAME = 4, PERIOD = RATE / 100 * FRAME };
+enum { PAGE = 4096, RAM = 1 << 20, RATE = 48000 };
+enum { CHIME, VOICE, OUTPUTS, MICROPHONE = OUTPUTS, STREAMS };
+enum { PERIOD = RATE / 100 * 4 }; /* bytes of 10 ms of stereo, in 16-bit samples */
+enum { CHIME_FRAMES = RATE, VOICE_FRAMES = RATE / 100 * 120, SILENT_FRAMES = 65486 };
+
+static const uint8_t channels[STREAMS] = {2, 1, 2};
+
+/* The bytes of 10 ms of a stream. */
+static uint32_t period(uint32_t stream)
+{
+    return PERIOD / 2u * channels[stream];
+}
 
 static void fail(const char *what)
 {
@@ -40,9 +53,13 @@ static struct wekshurag_card card;
 static uint8_t *ram; /* the guest's memory */
 static bool line;    /* the guest's interrupt line, as it was set last */
 static unsigned long interrupts;
-static uint8_t heard[1 << 20]; /* what was played, where a monitor has a sound device */
-static size_t heard_len;
-static uint32_t backlog; /* bytes that the sound device holds and has not sounded yet */
+
+/* What a stream played, where a monitor has a sound device for it; of that the bytes that the device holds and has not sounded yet. */
+static struct output {
+    uint8_t heard[1 << 19];
+    size_t len;
+    uint32_t backlog;
+} outputs[OUTPUTS];
 
 /* After every call: the line is a level, and this is where a monitor sets it (KVM_IRQ_LINE, an eventfd, ..). */
 static void set_line(void)
@@ -56,11 +73,11 @@ static void plug_in(void)
 {
     struct wekshurag_description d = {
         .jack_count = 1,
-        .output_count = 1,
-        .input_count = 1,
+        .output_count = OUTPUTS,
+        .input_count = STREAMS - OUTPUTS,
         .jacks = {{.nid = 1, .defconf = 0x0121401f}},
     };
-    for (uint32_t i = 0; i < 2; i++)
+    for (uint32_t i = 0; i < STREAMS; i++)
         d.streams[i] = (struct wekshurag_stream){.nid = 2 + i,
                                                  .formats = 1u << VIRTIO_SND_PCM_FMT_S16,
                                                  .rates = 1u << VIRTIO_SND_PCM_RATE_48000,
@@ -105,29 +122,37 @@ static void guest_writes(uint32_t offset, uint32_t width, uint32_t value)
     }
 }
 
-/* The host's clock: 10 ms of sound are due. Where the guest has less, the rest stays silence. The device has room for two periods: it has
- * sounded what is beyond them, and the guest is told what it still holds. */
-static size_t host_plays(void)
+/* A stream's clock: 10 ms of sound are due. Where the guest has less, or does not run the stream, the rest stays silence. The device has
+ * room for two periods: it has sounded what is beyond them, and the guest is told what it still holds. */
+static size_t host_plays(uint32_t stream)
 {
+    struct output *o = &outputs[stream];
     uint8_t host[PERIOD] = {0};
     struct wekshurag_result r;
-    if (backlog > 2 * PERIOD)
-        backlog = 2 * PERIOD;
-    r = wekshurag_play(&card, ram, RAM, host, sizeof host, backlog);
+    if (o->backlog > 2 * period(stream))
+        o->backlog = 2 * period(stream);
+    r = wekshurag_play(&card, stream, ram, RAM, host, period(stream), o->backlog);
     set_line();
-    if (r.answer != WEKSHURAG_DONE)
+    if (r.answer != WEKSHURAG_DONE && r.answer != WEKSHURAG_NOT_RUNNING)
         log_answer("play", r);
-    expect(r.count <= sizeof heard - heard_len, "more is played than the guest put");
-    memcpy(heard + heard_len, host, r.count);
-    heard_len += r.count;
-    backlog += (uint32_t)r.count;
+    expect(r.count <= sizeof o->heard - o->len, "more is played than the guest put");
+    memcpy(o->heard + o->len, host, r.count);
+    o->len += r.count;
+    o->backlog += (uint32_t)r.count;
     return r.count;
+}
+
+/* Each stream has a device and a clock of its own; the voice's is a little ahead of the chime's. */
+static size_t host_ticks(void)
+{
+    size_t voice = host_plays(VOICE);
+    return voice + host_plays(CHIME);
 }
 
 /* 10 ms of sound were recorded, and none wait behind them. What the guest has no place for is lost. */
 static size_t host_records(const uint8_t host[PERIOD])
 {
-    struct wekshurag_result r = wekshurag_capture(&card, ram, RAM, host, PERIOD, 0);
+    struct wekshurag_result r = wekshurag_capture(&card, MICROPHONE, ram, RAM, host, PERIOD, 0);
     set_line();
     if (r.answer != WEKSHURAG_DONE)
         log_answer("capture", r);
@@ -136,18 +161,20 @@ static size_t host_records(const uint8_t host[PERIOD])
 
 /* ======== a guest's driver ========================================================================================================= */
 
-/* A queue; the used ring stands behind the available ring, at the next multiple of 4 (docs/GUESTS.md), not on a page of its own. */
+/* A queue, whose messages have so many pieces each; the used ring stands behind the available ring, at the next multiple of 4
+ * (docs/GUESTS.md), not on a page of its own. */
 static struct queue {
-    uint16_t number, size, next, put, got;
+    uint16_t number, size, pieces, put, got;
     struct vring_desc *desc;
     struct vring_avail *avail;
     struct vring_used *used;
 } controlq, eventq, playq, captureq;
 
-static void lay_out(struct queue *q, uint16_t number, uint32_t page)
+static void lay_out(struct queue *q, uint16_t number, uint32_t page, uint16_t pieces)
 {
     uint8_t *base = ram + page * PAGE;
     q->number = number;
+    q->pieces = pieces;
     guest_writes(VIRTIO_PCI_QUEUE_SEL, 2, number);
     q->size = (uint16_t)guest_reads(VIRTIO_PCI_QUEUE_NUM, 2);
     q->desc = (struct vring_desc *)(void *)base;
@@ -162,17 +189,18 @@ struct piece {
     bool device_writes;
 };
 
-/* A message of n pieces. Messages come back in order, so descriptors go round too. */
-static void put(struct queue *q, const struct piece *pieces, uint16_t n)
+/* Message i, which has descriptors of its own: messages of different streams come back in any order. */
+static void put(struct queue *q, uint16_t i, const struct piece *pieces)
 {
-    q->avail->ring[q->put % q->size] = q->next % q->size;
-    for (uint16_t i = 0; i < n; i++, q->next++) {
-        struct vring_desc *d = &q->desc[q->next % q->size];
-        d->addr = (uint64_t)((const uint8_t *)pieces[i].at - ram);
-        d->len = pieces[i].len;
-        d->flags = (uint16_t)((pieces[i].device_writes ? VRING_DESC_F_WRITE : 0) | (i + 1 < n ? VRING_DESC_F_NEXT : 0));
-        d->next = (uint16_t)((q->next + 1) % q->size);
+    uint16_t head = (uint16_t)(i * q->pieces);
+    for (uint16_t j = 0; j < q->pieces; j++) {
+        struct vring_desc *d = &q->desc[head + j];
+        d->addr = (uint64_t)((const uint8_t *)pieces[j].at - ram);
+        d->len = pieces[j].len;
+        d->flags = (uint16_t)((pieces[j].device_writes ? VRING_DESC_F_WRITE : 0) | (j + 1 < q->pieces ? VRING_DESC_F_NEXT : 0));
+        d->next = (uint16_t)(head + j + 1);
     }
+    q->avail->ring[q->put % q->size] = head;
     q->avail->idx = ++q->put; /* across threads: a write barrier stands before this */
 }
 
@@ -181,22 +209,25 @@ static void ring(const struct queue *q)
     guest_writes(VIRTIO_PCI_QUEUE_NOTIFY, 2, q->number);
 }
 
-/* The length of the next message that came back. */
-static uint32_t get(struct queue *q)
+/* The next message that came back, by its head, and its length. */
+static uint16_t get(struct queue *q, uint32_t *len)
 {
+    const struct vring_used_elem *e = &q->used->ring[q->got % q->size];
     expect(q->used->idx != q->got, "a message did not come back");
-    return q->used->ring[q->got++ % q->size].len;
+    q->got++;
+    *len = e->len;
+    return (uint16_t)(e->id / q->pieces);
 }
 
 /* A request on the control queue: the status that came back, and behind it what was asked for. */
 static uint32_t request(const void *message, uint32_t len, void *answer, uint32_t room)
 {
     uint8_t *from = ram + 8 * PAGE, *to = from + 256;
-    uint32_t status;
+    uint32_t status, n;
     memcpy(from, message, len);
-    put(&controlq, (struct piece[]){{from, len, false}, {to, 4 + room, true}}, 2);
+    put(&controlq, 0, (struct piece[]){{from, len, false}, {to, 4 + room, true}});
     ring(&controlq);
-    expect(get(&controlq) >= 4, "a reply has no status");
+    expect(get(&controlq, &n) == 0 && n >= 4, "a reply has no status");
     memcpy(&status, to, 4);
     if (room)
         memcpy(answer, to + 4, room);
@@ -217,10 +248,10 @@ static void negotiate(void)
     offered = guest_reads(VIRTIO_PCI_HOST_FEATURES, 4);
     guest_writes(VIRTIO_PCI_GUEST_FEATURES, 4, offered & (1u << VIRTIO_RING_F_INDIRECT_DESC));
     guest_writes(VIRTIO_PCI_STATUS, 1, VIRTIO_CONFIG_S_ACKNOWLEDGE | VIRTIO_CONFIG_S_DRIVER | VIRTIO_CONFIG_S_FEATURES_OK);
-    lay_out(&controlq, 0, 1);
-    lay_out(&eventq, 1, 2);
-    lay_out(&playq, 2, 3);
-    lay_out(&captureq, 3, 5);
+    lay_out(&controlq, 0, 1, 2);
+    lay_out(&eventq, 1, 2, 1);
+    lay_out(&playq, 2, 3, 3);
+    lay_out(&captureq, 3, 5, 3);
     guest_writes(VIRTIO_PCI_STATUS, 1, 15);
     expect(guest_reads(VIRTIO_PCI_STATUS, 1) == 15, "the card did not take the features");
     printf("features %#x offered, status 0x0f; %u jack, %u streams, %u channel maps\n", offered, guest_reads(20, 4), guest_reads(24, 4),
@@ -233,9 +264,9 @@ static void start(uint32_t stream)
     struct virtio_snd_pcm_info info;
     struct virtio_snd_pcm_set_params p = {
         .hdr = {{VIRTIO_SND_R_PCM_SET_PARAMS}, stream},
-        .buffer_bytes = 4 * PERIOD,
-        .period_bytes = PERIOD,
-        .channels = 2,
+        .buffer_bytes = 4 * period(stream),
+        .period_bytes = period(stream),
+        .channels = channels[stream],
         .format = VIRTIO_SND_PCM_FMT_S16,
         .rate = VIRTIO_SND_PCM_RATE_48000,
     };
@@ -248,7 +279,13 @@ static void start(uint32_t stream)
     command(VIRTIO_SND_R_PCM_START, stream);
 }
 
-/* Where the guest keeps message i of a stream: header, sound, status. */
+static void stop(uint32_t stream)
+{
+    command(VIRTIO_SND_R_PCM_STOP, stream);
+    command(VIRTIO_SND_R_PCM_RELEASE, stream);
+}
+
+/* Where the guest keeps message i of the play or of the capture queue: header, sound, status. */
 struct slot {
     struct virtio_snd_pcm_xfer header;
     uint8_t sound[PERIOD];
@@ -257,53 +294,91 @@ struct slot {
 
 enum { SLOTS = 64 };
 
-static struct slot *slot(uint32_t stream, uint16_t i)
+static struct slot *slot(const struct queue *q, uint16_t i)
 {
-    return (struct slot *)(void *)(ram + (16 + 48 * stream) * PAGE) + i % SLOTS;
+    return (struct slot *)(void *)(ram + (16 + 48 * (q->number - playq.number)) * PAGE) + i;
 }
 
-/* The guest plays n bytes, in messages of `each`; the host's clock goes on until all have come back. The last one's latency. */
-static uint32_t play(const uint8_t *sound, size_t n, uint32_t each)
+/* What the guest has to play on a stream, in messages of `each`; of those it put, how many are not back yet, and the last one's latency. */
+static struct track {
+    const uint8_t *sound;
+    size_t left;
+    uint32_t each, waiting, latency;
+} tracks[OUTPUTS];
+
+static uint16_t idle[SLOTS], idles; /* the slots that are free */
+static uint16_t place[SLOTS];       /* the place in the ring of the message in a slot */
+static unsigned overtaken;          /* messages that came back in another place */
+
+static void load(uint32_t stream, const void *sound, size_t n, uint32_t each)
 {
-    uint32_t latency = 0;
-    while (n > 0) {
-        uint16_t batch = 0;
-        for (; batch < SLOTS && n > 0; batch++, sound += each, n -= each) {
-            struct slot *s = slot(0, playq.put);
-            s->header.stream_id = 0;
-            memcpy(s->sound, sound, each);
-            put(&playq, (struct piece[]){{&s->header, 4, false}, {s->sound, each, false}, {&s->status, 8, true}}, 3);
-        }
-        ring(&playq);
-        while (playq.used->idx != playq.put)
-            expect(host_plays() > 0, "the guest's sound is not played");
-        expect(line, "the guest is not told");
-        guest_reads(VIRTIO_PCI_ISR, 1);
-        for (; batch > 0; batch--) {
-            struct slot *s = slot(0, playq.got);
-            expect(get(&playq) == 8 && s->status.status == VIRTIO_SND_S_OK, "a buffer was not played");
-            latency = s->status.latency_bytes;
-        }
+    tracks[stream] = (struct track){.sound = sound, .left = n, .each = each};
+}
+
+/* A message of each stream in turn, while there is sound and a slot. */
+static void put_sound(void)
+{
+    for (uint32_t stream = CHIME; idles > 0 && tracks[CHIME].left + tracks[VOICE].left > 0; stream = (stream + 1) % OUTPUTS) {
+        struct track *t = &tracks[stream];
+        uint16_t i = idle[idles - 1];
+        struct slot *s = slot(&playq, i);
+        if (t->left == 0)
+            continue;
+        idles--;
+        place[i] = playq.put;
+        s->header.stream_id = stream;
+        memcpy(s->sound, t->sound, t->each);
+        put(&playq, i, (struct piece[]){{&s->header, 4, false}, {s->sound, t->each, false}, {&s->status, 8, true}});
+        t->sound += t->each, t->left -= t->each, t->waiting++;
     }
-    return latency;
+    ring(&playq);
+}
+
+/* The guest's interrupt handler: each message that came back is found by its head. */
+static void get_back(void)
+{
+    expect(line || playq.used->idx == playq.got, "the guest is not told");
+    guest_reads(VIRTIO_PCI_ISR, 1);
+    while (playq.used->idx != playq.got) {
+        uint32_t len;
+        uint16_t i = get(&playq, &len);
+        const struct slot *s = slot(&playq, i);
+        struct track *t = &tracks[s->header.stream_id];
+        expect(len == 8 && s->status.status == VIRTIO_SND_S_OK, "a buffer was not played");
+        t->latency = s->status.latency_bytes;
+        t->waiting--;
+        overtaken += place[i] != (uint16_t)(playq.got - 1);
+        idle[idles++] = i;
+    }
+}
+
+/* Both streams go on until all of this one has come back. */
+static void play_out(uint32_t stream)
+{
+    while (tracks[stream].left + tracks[stream].waiting > 0) {
+        put_sound();
+        expect(host_ticks() > 0, "the guest's sound is not played");
+        get_back();
+    }
 }
 
 /* The guest records n messages of 10 ms: a ramp, which it must find. */
 static void record(uint16_t n)
 {
     uint8_t host[PERIOD];
+    uint32_t len;
     for (uint16_t i = 0; i < n; i++) {
-        struct slot *s = slot(1, captureq.put);
-        s->header.stream_id = 1;
-        put(&captureq, (struct piece[]){{&s->header, 4, false}, {s->sound, PERIOD, true}, {&s->status, 8, true}}, 3);
+        struct slot *s = slot(&captureq, i);
+        s->header.stream_id = MICROPHONE;
+        put(&captureq, i, (struct piece[]){{&s->header, 4, false}, {s->sound, PERIOD, true}, {&s->status, 8, true}});
     }
     ring(&captureq);
     for (uint16_t i = 0; i < n; i++) {
-        struct slot *s = slot(1, captureq.got);
+        const struct slot *s = slot(&captureq, i);
         for (size_t j = 0; j < PERIOD; j++)
             host[j] = (uint8_t)(i + j);
         expect(host_records(host) == PERIOD, "the host's sound is not recorded");
-        expect(get(&captureq) == 8 + PERIOD && s->status.status == VIRTIO_SND_S_OK, "a buffer was not recorded");
+        expect(get(&captureq, &len) == i && len == 8 + PERIOD && s->status.status == VIRTIO_SND_S_OK, "a buffer was not recorded");
         expect(memcmp(s->sound, host, PERIOD) == 0, "the guest finds other sound than was recorded");
     }
     guest_reads(VIRTIO_PCI_ISR, 1);
@@ -314,27 +389,46 @@ static void jack(void)
 {
     struct virtio_snd_event *e = (struct virtio_snd_event *)(void *)(ram + 9 * PAGE);
     struct wekshurag_result r;
-    put(&eventq, (struct piece[]){{e, sizeof *e, true}}, 1);
+    uint32_t len;
+    put(&eventq, 0, (struct piece[]){{e, sizeof *e, true}});
     ring(&eventq);
     r = wekshurag_event(&card, ram, RAM, WEKSHURAG_JACK_CONNECTED, 0);
     set_line();
-    expect(r.answer == WEKSHURAG_DONE && get(&eventq) == 8, "the event did not arrive");
+    expect(r.answer == WEKSHURAG_DONE && get(&eventq, &len) == 0 && len == 8, "the event did not arrive");
     expect(e->hdr.code == VIRTIO_SND_EVT_JACK_CONNECTED && e->data == 0, "another event arrived");
     printf("event: jack %u connected\n", e->data);
     guest_reads(VIRTIO_PCI_ISR, 1);
 }
 
 /* Two notes that fade away, the second half a second behind the first: each a resonator that is struck once. */
-static void chime(int16_t sound[RATE][2])
+static void chime(int16_t sound[CHIME_FRAMES][2])
 {
     double a = 0, a1 = 0, b = 0, b1 = 0, t;
-    for (int i = 0; i < RATE; i++) {
+    for (int i = 0; i < CHIME_FRAMES; i++) {
         t = 1.9924330396378815 * a - 0.9998750078121744 * a1 + (i == 0 ? 800 : 0);
         a1 = a, a = t;
-        t = 1.9952190370876004 * b - 0.9999083375345938 * b1 + (i == RATE / 2 ? 800 : 0);
+        t = 1.9952190370876004 * b - 0.9999083375345938 * b1 + (i == CHIME_FRAMES / 2 ? 800 : 0);
         b1 = b, b = t;
         sound[i][0] = (int16_t)(a + b / 2);
         sound[i][1] = (int16_t)(a / 2 + b);
+    }
+}
+
+/* Two vowels, as in "father" and in "law": 120 pulses a second, through a resonator for each of three formants. */
+static void voice(int16_t sound[VOICE_FRAMES])
+{
+    static const double vowels[2][3][2] = {{{1.979183, 0.988288}, {1.965475, 0.985704}, {1.877841, 0.977993}},
+                                           {{1.984020, 0.989583}, {1.974953, 0.986995}, {1.880265, 0.977993}}};
+    double y[3][2] = {{0}};
+    for (int i = 0; i < VOICE_FRAMES; i++) {
+        double sum = 0;
+        for (int k = 0; k < 3; k++) {
+            const double *formant = vowels[i / (VOICE_FRAMES / 2)][k];
+            double t = formant[0] * y[k][0] - formant[1] * y[k][1] + (i % (RATE / 120) == 0 ? 1000 : 0);
+            y[k][1] = y[k][0], y[k][0] = t;
+            sum += t / (k + 1);
+        }
+        sound[i] = (int16_t)sum;
     }
 }
 
@@ -345,42 +439,60 @@ static void write_file(const char *path, const uint8_t *header, size_t header_le
     expect(f && fwrite(header, 1, header_len, f) == header_len && fwrite(sound, 1, n, f) == n && fclose(f) == 0, "a file can't be written");
 }
 
+static void write_wave(const char *path, uint32_t stream, const uint8_t *sound, size_t n)
+{
+    uint8_t header[WEKSHURAG_WAVE_HEADER];
+    expect(wekshurag_wave_header(WEKSHURAG_WAVE_FMT_S16, channels[stream], VIRTIO_SND_PCM_RATE_48000, n, header, sizeof header)
+               == WEKSHURAG_WAVE_DONE,
+           "no header for a WAVE file");
+    write_file(path, header, sizeof header, sound, n);
+}
+
 int main(int argc, char **argv)
 {
-    static const uint8_t silence[65486 * FRAME];
-    static int16_t sound[RATE][2];
-    const uint8_t *bell = (const uint8_t *)sound;
-    uint8_t header[WEKSHURAG_WAVE_HEADER];
-    uint32_t latency;
-    chime(sound);
+    static const uint8_t silence[SILENT_FRAMES][4];
+    static int16_t bell[CHIME_FRAMES][2], words[VOICE_FRAMES];
+    const struct output *o = &outputs[CHIME], *v = &outputs[VOICE];
+    chime(bell);
+    voice(words);
     plug_in();
     negotiate();
-    start(0);
-    play(silence, sizeof silence, FRAME);
-    printf("lead-in: %u buffers of one frame; the ring's index is %u\n", 65486u, playq.avail->idx);
-    latency = play(bell, sizeof sound, PERIOD);
-    printf("chime: %u buffers of 10 ms; the index rolled over to %u; latency %u bytes\n", (unsigned)(sizeof sound / PERIOD), playq.avail->idx,
-           latency);
-    expect(latency == 2 * PERIOD, "the guest is told another latency than the device has");
-    expect(heard_len == sizeof silence + sizeof sound && memcmp(heard, silence, sizeof silence) == 0
-               && memcmp(heard + sizeof silence, bell, sizeof sound) == 0,
-           "what is heard is not what the guest played");
+    for (uint16_t i = 0; i < SLOTS; i++)
+        idle[idles++] = i;
+    start(CHIME);
+    start(VOICE);
+    load(CHIME, silence, sizeof silence, sizeof silence[0]);
+    play_out(CHIME);
+    printf("lead-in: %u buffers of one frame; the ring's index is %u\n", (unsigned)SILENT_FRAMES, playq.avail->idx);
+    load(CHIME, bell, sizeof bell, period(CHIME));
+    load(VOICE, words, sizeof words, period(VOICE));
+    play_out(CHIME);
+    printf("chime and voice at once; the index rolled over to %u; latency %u and %u bytes\n", playq.avail->idx, tracks[CHIME].latency,
+           tracks[VOICE].latency);
+    expect(overtaken > 0, "every message came back in its turn");
+    stop(CHIME);
+    expect(tracks[VOICE].waiting == 20 && playq.used->idx == playq.got, "the voice does not wait while the chime is released");
+    play_out(VOICE);
+    printf("chime released while 20 buffers of the voice waited, which then were played; %u came back out of turn\n", overtaken);
+    for (uint32_t stream = 0; stream < OUTPUTS; stream++)
+        expect(tracks[stream].latency == 2 * period(stream), "the guest is told another latency than the device has");
+    expect(o->len == sizeof silence + sizeof bell && memcmp(o->heard, silence, sizeof silence) == 0
+               && memcmp(o->heard + sizeof silence, bell, sizeof bell) == 0,
+           "what is heard is not the chime that the guest played");
+    expect(v->len == sizeof words && memcmp(v->heard, words, sizeof words) == 0, "what is heard is not the voice that the guest played");
     jack();
-    start(1);
+    start(MICROPHONE);
     record(10);
     printf("captured: 10 buffers of 10 ms, as the host recorded them\n");
-    for (uint32_t stream = 0; stream < 2; stream++) {
-        command(VIRTIO_SND_R_PCM_STOP, stream);
-        command(VIRTIO_SND_R_PCM_RELEASE, stream);
-    }
-    printf("stopped and released; %zu bytes played, each as the guest put it; %lu interrupts\n", heard_len, interrupts);
-    expect(wekshurag_wave_header(WEKSHURAG_WAVE_FMT_S16, 2, VIRTIO_SND_PCM_RATE_48000, sizeof sound, header, sizeof header)
-               == WEKSHURAG_WAVE_DONE,
-           "no header for the chime");
+    stop(VOICE);
+    stop(MICROPHONE);
+    printf("stopped and released; %zu and %zu bytes played, each as the guest put it; %lu interrupts\n", o->len, v->len, interrupts);
     if (argc > 1)
-        write_file(argv[1], header, 0, heard, heard_len);
+        write_file(argv[1], o->heard, 0, o->heard, o->len);
     if (argc > 2)
-        write_file(argv[2], header, sizeof header, heard + sizeof silence, sizeof sound);
+        write_wave(argv[2], CHIME, o->heard + sizeof silence, sizeof bell);
+    if (argc > 3)
+        write_wave(argv[3], VOICE, v->heard, v->len);
     free(ram);
     return 0;
 }

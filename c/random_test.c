@@ -21,7 +21,7 @@
 
 enum { MAX_RAM = 98304, MAX_HOST = 12288, CANARY = 0xc5 };
 
-static unsigned long calls, seed = 20261116, seen[16], played, recorded, rung;
+static unsigned long calls, seed = 20261116, seen[16], played[6], recorded[6], rung;
 static uint64_t state;
 
 static void fail(const char *what)
@@ -90,6 +90,7 @@ static struct fenced card_pages, ram_pages, host_pages;
 static struct wekshurag_card *card;
 static uint8_t *ram;
 static size_t ram_len;
+static uint32_t outputs, inputs; /* how many streams the monitor described */
 static uint8_t ram_before[MAX_RAM], host_before[MAX_HOST], ram_copy[MAX_RAM], host_copy[MAX_HOST];
 
 /* ---- the monitor's calls, each checked ----------------------------------------------------------------------------------------------- */
@@ -123,6 +124,7 @@ static void write_register(uint64_t offset, uint64_t width, uint64_t value)
 /* A call on a queue: which one, the memory lent to it, and what else it takes. */
 struct call {
     char kind;
+    uint32_t stream;
     size_t host_len;
     uint32_t backlog, code, data;
 };
@@ -131,9 +133,9 @@ static struct wekshurag_result make(struct call c, struct wekshurag_card *on, ui
 {
     switch (c.kind) {
     case 'p':
-        return wekshurag_play(on, memory, memory_len, host, c.host_len, c.backlog);
+        return wekshurag_play(on, c.stream, memory, memory_len, host, c.host_len, c.backlog);
     case 'c':
-        return wekshurag_capture(on, memory, memory_len, host, c.host_len, c.backlog);
+        return wekshurag_capture(on, c.stream, memory, memory_len, host, c.host_len, c.backlog);
     case 'e':
         return wekshurag_event(on, memory, memory_len, c.code, c.data);
     default:
@@ -192,10 +194,11 @@ static struct wekshurag_result call(struct call c)
               "a copy of the card writes otherwise");
         check(wekshurag_interrupt_line(&copy) == wekshurag_interrupt_line(card), "a copy's line");
     }
-    if (c.kind == 'p')
-        played += r.count;
-    if (c.kind == 'c')
-        recorded += r.count;
+    check(c.stream < 6 || r.count == 0, "a stream that is absent counts");
+    if (c.kind == 'p' && r.count > 0)
+        played[c.stream] += r.count;
+    if (c.kind == 'c' && r.count > 0)
+        recorded[c.stream] += r.count;
     return r;
 }
 
@@ -278,13 +281,13 @@ static uint64_t somewhere(void)
 static void message(void)
 {
     static const uint32_t kinds[] = {1, 2, 0x100, 0x101, 0x102, 0x103, 0x104, 0x105, 0x200};
-    uint32_t kind = one_in(50) ? (uint32_t)any() : kinds[below(9)], len = 24, stream = below(2);
+    uint32_t kind = one_in(50) ? (uint32_t)any() : kinds[below(9)], len = 24, stream = below(outputs + inputs);
     uint64_t from = somewhere();
     put(from, 4, kind);
     put(from + 4, 4, one_in(20) ? any() : stream);
     if (kind == 1 || kind == 0x100 || kind == 0x200) {
-        put(from + 4, 4, one_in(20) ? any() : below(3));
-        put(from + 8, 4, one_in(20) ? any() : below(3));
+        put(from + 4, 4, one_in(20) ? any() : below(7));
+        put(from + 8, 4, one_in(20) ? any() : below(7));
         put(from + 12, 4, one_in(20) ? any() : kind == 0x100 ? 32 : 24);
         len = 16;
     } else if (kind == 2) {
@@ -337,14 +340,14 @@ static void guest(void)
     case 3:
     case 4:
         from = somewhere();
-        put(from, 4, one_in(50) ? any() : 0);
+        put(from, 4, one_in(50) ? any() : one_in(50) ? below(7) : below(outputs));
         offer(&queues[2], from, one_in(20) ? below(8) : 4 + n, somewhere(), one_in(20) ? below(20) : 8);
         break;
     case 5:
     case 6:
         from = somewhere();
         to = somewhere();
-        put(from, 4, one_in(50) ? any() : 1);
+        put(from, 4, one_in(50) ? any() : outputs + below(inputs + 1));
         offer(&queues[3], from, one_in(20) ? below(8) : 4, to, one_in(20) ? below(12) : n + 8);
         break;
     case 7:
@@ -392,8 +395,8 @@ static void set_up(void)
         write_register(8, 4, queues[i].page);
     }
     write_register(18, 1, 15);
-    run_stream(0);
-    run_stream(1);
+    for (uint32_t s = 0; s < outputs + inputs; s++)
+        run_stream(s);
 }
 
 static void power_up(void)
@@ -401,15 +404,15 @@ static void power_up(void)
     struct wekshurag_description d;
     uint8_t answer;
     memset(&d, 0, sizeof d);
-    d.output_count = 1;
-    d.input_count = !one_in(8);
+    d.output_count = outputs = 1 + below(4);
+    d.input_count = inputs = below(3);
     d.jack_count = below(5);
     d.chmap_count = below(5);
     for (unsigned i = 0; i < 4; i++) {
         d.jacks[i] = (struct wekshurag_jack){(uint32_t)any(), below(2), (uint32_t)any(), (uint32_t)any(), (uint8_t)below(2)};
         d.chmaps[i] = (struct wekshurag_chmap){.nid = (uint32_t)any(), .direction = (uint8_t)below(2), .channels = 2, .positions = {3, 4}};
     }
-    for (unsigned i = 0; i < 2; i++)
+    for (unsigned i = 0; i < 6; i++)
         d.streams[i] = (struct wekshurag_stream){(uint32_t)any(), 16, 1u << 5, 1u << 7, 1, 2};
     if (one_in(4))
         for (unsigned i = 0; i < 1 + below(4); i++)
@@ -441,16 +444,22 @@ static void session(void)
         case 1:
         case 2:
         case 3:
-            call((struct call){.kind = 'p', .host_len = one_in(10) ? 0 : below(MAX_HOST), .backlog = (uint32_t)any()});
+            call((struct call){.kind = 'p',
+                               .stream = one_in(30) ? (uint32_t)any() : below(outputs),
+                               .host_len = one_in(10) ? 0 : below(MAX_HOST),
+                               .backlog = (uint32_t)any()});
             break;
         case 4:
         case 5:
-            call((struct call){.kind = 'c', .host_len = one_in(10) ? 0 : below(MAX_HOST), .backlog = (uint32_t)any()});
+            call((struct call){.kind = 'c',
+                               .stream = one_in(30) ? (uint32_t)any() : outputs + below(inputs + 1),
+                               .host_len = one_in(10) ? 0 : below(MAX_HOST),
+                               .backlog = (uint32_t)any()});
             break;
         case 6:
             call((struct call){.kind = 'e',
                                .code = one_in(10) ? (uint32_t)any() : one_in(3) ? WEKSHURAG_PCM_XRUN : 0x1000 + below(2),
-                               .data = below(5)});
+                               .data = below(7)});
             break;
         default:
             registers();
@@ -478,7 +487,16 @@ int main(int argc, char **argv)
         printf(" %lu answered %u%s", seen[i], i, i < 12 ? "," : "");
         check(seen[i] > 0, "an answer that was never given");
     }
-    printf("; %lu bytes played, %lu recorded, %lu bells\n", played, recorded, rung);
-    check(played > 0 && recorded > 0 && rung > 0, "nothing flowed");
+    printf("; bytes played");
+    for (unsigned i = 0; i < 4; i++)
+        printf(" %lu,", played[i]);
+    printf(" recorded");
+    for (unsigned i = 1; i < 6; i++)
+        printf(" %lu,", recorded[i]);
+    printf(" by stream; %lu bells\n", rung);
+    for (unsigned i = 0; i < 6; i++)
+        check((i < 4 || played[i] == 0) && (i > 3 || played[i] > 0) && (i > 0 || recorded[i] == 0) && (i == 0 || recorded[i] > 0),
+              "what flowed on a stream");
+    check(rung > 0, "no bell");
     return 0;
 }

@@ -179,14 +179,21 @@ static bool chmap(void)
     return true;
 }
 
-static bool stream(size_t at, unsigned id)
+/* One more stream: an output stands behind the outputs so far and before the inputs, an input behind all. Those past the sixth, and
+ * outputs past the fourth, are only counted: the description is then refused. */
+static bool stream(size_t at, bool output)
 {
     uint64_t nid, features, formats, rates, min, max;
+    uint32_t place = described.output_count + (output ? 0 : described.input_count);
     if (!number(&at, UINT32_MAX, &nid) || !number(&at, UINT32_MAX, &features) || !number(&at, UINT64_MAX, &formats)
         || !number(&at, UINT64_MAX, &rates) || !number(&at, UINT8_MAX, &min) || !number(&at, UINT8_MAX, &max) || !at_end(at))
         return false;
-    described.streams[id] = (struct wekshurag_stream){(uint32_t)nid, (uint32_t)features, formats, rates, (uint8_t)min, (uint8_t)max};
-    if (id == 0)
+    if (output && place < 4)
+        memmove(&described.streams[place + 1], &described.streams[place], (5 - place) * sizeof *described.streams);
+    if (place < (output ? 4 : 6))
+        described.streams[place] =
+            (struct wekshurag_stream){(uint32_t)nid, (uint32_t)features, formats, rates, (uint8_t)min, (uint8_t)max};
+    if (output)
         described.output_count++;
     else
         described.input_count++;
@@ -212,7 +219,7 @@ static bool power(void)
 static bool call(void)
 {
     size_t at, bytes;
-    uint64_t a, b, value;
+    uint64_t a, b, value, id;
     const char *digits;
     if (begins("r ")) {
         at = 1;
@@ -238,22 +245,25 @@ static bool call(void)
     }
     if (begins("play ")) {
         at = 4;
-        if (!number(&at, MAX_HOST, &a) || !number(&at, UINT32_MAX, &b) || !at_end(at) || !powered)
+        if (!number(&at, UINT32_MAX, &id) || !number(&at, MAX_HOST, &a) || !number(&at, UINT32_MAX, &b) || !at_end(at) || !powered)
             return false;
         memset(host, 238, (size_t)a);
-        struct wekshurag_result r = wekshurag_play(&card, ram, ram_len, host, (size_t)a, (uint32_t)b);
+        struct wekshurag_result r = wekshurag_play(&card, (uint32_t)id, ram, ram_len, host, (size_t)a, (uint32_t)b);
         print_start(r);
         printf(" %" PRIu32, adler32(host, (size_t)a));
         print_end(r);
         return true;
     }
     if (begins("capture ")) {
-        at = word_end(8);
-        if (!hex(7, at, &digits, &bytes) || bytes > MAX_HOST || !number(&at, UINT32_MAX, &b) || !at_end(at) || !powered)
+        size_t from = 7;
+        if (!number(&from, UINT32_MAX, &id) || from >= line_len)
+            return false;
+        at = word_end(from + 1);
+        if (!hex(from, at, &digits, &bytes) || bytes > MAX_HOST || !number(&at, UINT32_MAX, &b) || !at_end(at) || !powered)
             return false;
         for (size_t i = 0; i < bytes; i++)
             host[i] = byte_at(digits, i);
-        print_call(wekshurag_capture(&card, ram, ram_len, host, bytes, (uint32_t)b));
+        print_call(wekshurag_capture(&card, (uint32_t)id, ram, ram_len, host, bytes, (uint32_t)b));
         return true;
     }
     at = 5;
@@ -310,9 +320,9 @@ static bool one_line(void)
     if (begins("map "))
         return chmap();
     if (begins("out "))
-        return stream(3, 0);
+        return stream(3, true);
     if (begins("in "))
-        return stream(2, 1);
+        return stream(2, false);
     if (begins("power "))
         return power();
     return call() || guest();

@@ -27,7 +27,7 @@ static struct {
     uint8_t *ram, *host;
     const uint8_t *bytes;
     size_t ram_len, host_len;
-    uint32_t backlog, code, data;
+    uint32_t stream, backlog, code, data;
     uint8_t answer;
     bool raised;
     struct wekshurag_read_result read;
@@ -54,10 +54,10 @@ static void make_call(void)
         c.result = wekshurag_control(c.card, c.ram, c.ram_len);
         break;
     case PLAY:
-        c.result = wekshurag_play(c.card, c.ram, c.ram_len, c.host, c.host_len, c.backlog);
+        c.result = wekshurag_play(c.card, c.stream, c.ram, c.ram_len, c.host, c.host_len, c.backlog);
         break;
     case CAPTURE:
-        c.result = wekshurag_capture(c.card, c.ram, c.ram_len, c.bytes, c.host_len, c.backlog);
+        c.result = wekshurag_capture(c.card, c.stream, c.ram, c.ram_len, c.bytes, c.host_len, c.backlog);
         break;
     default:
         c.result = wekshurag_event(c.card, c.ram, c.ram_len, c.code, c.data);
@@ -116,18 +116,18 @@ static struct wekshurag_result painted_control(struct wekshurag_card *card, uint
     return c.result;
 }
 
-static struct wekshurag_result painted_play(struct wekshurag_card *card, uint8_t *ram, size_t ram_len, uint8_t *host, size_t host_len,
-                                            uint32_t backlog)
+static struct wekshurag_result painted_play(struct wekshurag_card *card, uint32_t stream, uint8_t *ram, size_t ram_len, uint8_t *host,
+                                            size_t host_len, uint32_t backlog)
 {
-    c.card = card, c.ram = ram, c.ram_len = ram_len, c.host = host, c.host_len = host_len, c.backlog = backlog;
+    c.card = card, c.stream = stream, c.ram = ram, c.ram_len = ram_len, c.host = host, c.host_len = host_len, c.backlog = backlog;
     on_painted_stack(PLAY);
     return c.result;
 }
 
-static struct wekshurag_result painted_capture(struct wekshurag_card *card, uint8_t *ram, size_t ram_len, const uint8_t *host,
-                                               size_t host_len, uint32_t backlog)
+static struct wekshurag_result painted_capture(struct wekshurag_card *card, uint32_t stream, uint8_t *ram, size_t ram_len,
+                                               const uint8_t *host, size_t host_len, uint32_t backlog)
 {
-    c.card = card, c.ram = ram, c.ram_len = ram_len, c.bytes = host, c.host_len = host_len, c.backlog = backlog;
+    c.card = card, c.stream = stream, c.ram = ram, c.ram_len = ram_len, c.bytes = host, c.host_len = host_len, c.backlog = backlog;
     on_painted_stack(CAPTURE);
     return c.result;
 }

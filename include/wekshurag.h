@@ -16,8 +16,8 @@
  *     Nobody else, no other thread and no device, writes it during the call.
  *   - The card is one that wekshurag_power_up made, left by the calls since, or a copy of one. Calls on one card do not run at the
  *     same time.
- *   - 64 KiB of stack. Measured: wekshurag_control takes 7,608 bytes, event 1,532, play and capture 1,288, power_up 808, write 188, the
- *     others under 100 (c/stack_test.c). Nothing recurses; but this is measured, not proved.
+ *   - 64 KiB of stack. Measured: wekshurag_control takes 11,784 bytes, power_up 4,392, play and capture 1,704, event 1,660, write 138,
+ *     the others under 100 (c/stack_test.c). Nothing recurses; but this is measured, not proved.
  * Nothing else is asked: every number and every byte is safe.
  */
 #ifndef WEKSHURAG_H
@@ -46,7 +46,7 @@ enum wekshurag_answer {
     WEKSHURAG_WRONG_DIRECTION = 3,   /* the register can't be read, or written */
     WEKSHURAG_VALUE_TOO_WIDE = 4,    /* the value does not fit the width */
     WEKSHURAG_NOT_LIVE = 5,          /* the guest has not set DRIVER_OK and FEATURES_OK, or has to reset, or gave up */
-    WEKSHURAG_NOT_RUNNING = 6,       /* the stream is absent, or not Running */
+    WEKSHURAG_NOT_RUNNING = 6,       /* the stream is absent, of the other direction, or not Running */
     WEKSHURAG_EVENT_NOT_ALLOWED = 7, /* no such kind of event, jack or stream, or an XRUN that was not selected */
     WEKSHURAG_NO_EVENT_BUFFER = 8,   /* the guest has put no buffer for it; send it again later */
     WEKSHURAG_REGION_PAST_RAM = 9,   /* a broken queue: its rings pass the end of RAM */
@@ -67,25 +67,26 @@ enum wekshurag_queue {
 /*
  * A card. The monitor owns it: a static, on the stack or on the heap. Its words mean nothing to the monitor; it may be copied as a
  * whole, and a copy is a card of its own. Its pieces stand apart so that a call is lent no more than it may touch: what every call
- * touches, the parts, and for each stream's queue the chain that is in work.
+ * touches, the parts, and for each stream queue the lines of its streams: the chain in work and the messages that wait.
  */
-#define WEKSHURAG_CHAIN_WORDS 68
+#define WEKSHURAG_PLAY_WORDS 1340
+#define WEKSHURAG_CAPTURE_WORDS 286
 
 struct wekshurag_live {
-    uint64_t words[17];
+    uint64_t words[12];
 };
-WEKSHURAG_ASSERT(sizeof(struct wekshurag_live) == 136, "what every call touches");
+WEKSHURAG_ASSERT(sizeof(struct wekshurag_live) == 96, "what every call touches");
 
 struct wekshurag_board {
     struct wekshurag_live live;
-    uint64_t words[43];
+    uint64_t words[72];
 };
-WEKSHURAG_ASSERT(sizeof(struct wekshurag_board) == 480, "the same with the parts");
+WEKSHURAG_ASSERT(sizeof(struct wekshurag_board) == 672, "the same with the parts");
 
 struct wekshurag_card {
     struct wekshurag_board board;
-    uint64_t play_chain[WEKSHURAG_CHAIN_WORDS];
-    uint64_t capture_chain[WEKSHURAG_CHAIN_WORDS];
+    uint64_t play_lines[WEKSHURAG_PLAY_WORDS];
+    uint64_t capture_lines[WEKSHURAG_CAPTURE_WORDS];
 };
 
 /* ---- what a card is made of ------------------------------------------------------------------------------------------------ */
@@ -116,19 +117,19 @@ struct wekshurag_stream {
 };
 
 /*
- * The first so many of each list; what stands behind them is not looked at. The output stream comes first in `streams` (stream 0),
- * an input stream behind it (stream 1).
+ * The first so many of each list; what stands behind them is not looked at. The output streams come first in `streams`, from stream 0 on,
+ * the input streams right behind them.
  */
 struct wekshurag_description {
     uint32_t jack_count;   /* 0 to 4 */
     uint32_t chmap_count;  /* 0 to 4 */
-    uint32_t output_count; /* 1 */
-    uint32_t input_count;  /* 0 or 1 */
+    uint32_t output_count; /* 1 to 4 */
+    uint32_t input_count;  /* 0 to 2 */
     struct wekshurag_jack jacks[4];
     struct wekshurag_chmap chmaps[4];
-    struct wekshurag_stream streams[2];
+    struct wekshurag_stream streams[6];
 };
-WEKSHURAG_ASSERT(sizeof(struct wekshurag_description) == 256, "the description's size");
+WEKSHURAG_ASSERT(sizeof(struct wekshurag_description) == 384, "the description's size");
 
 /* ---- the archive's own functions: the functions below pass them the card's pieces, and nothing else ------------------------------ */
 
@@ -155,12 +156,12 @@ uint8_t wekshurag_card_power_up(struct wekshurag_board *board, const struct weks
 struct wekshurag_read_result wekshurag_card_read(struct wekshurag_live *live, uint64_t offset, uint64_t width);
 struct wekshurag_write_result wekshurag_card_write(struct wekshurag_live *live, uint64_t offset, uint64_t width, uint64_t value);
 bool wekshurag_card_interrupt_line(const struct wekshurag_live *live);
-struct wekshurag_result wekshurag_card_control(struct wekshurag_board *board, uint64_t *play_chain, size_t play_words,
-                                               uint64_t *capture_chain, size_t capture_words, uint8_t *ram, size_t ram_len);
-struct wekshurag_result wekshurag_card_play(struct wekshurag_live *live, uint64_t *chain, size_t words, uint8_t *ram, size_t ram_len,
-                                            uint8_t *host, size_t host_len, uint32_t backlog);
-struct wekshurag_result wekshurag_card_capture(struct wekshurag_live *live, uint64_t *chain, size_t words, uint8_t *ram, size_t ram_len,
-                                               uint8_t *host, size_t host_len, uint32_t backlog);
+struct wekshurag_result wekshurag_card_control(struct wekshurag_board *board, uint64_t *play_lines, size_t play_words,
+                                               uint64_t *capture_lines, size_t capture_words, uint8_t *ram, size_t ram_len);
+struct wekshurag_result wekshurag_card_play(struct wekshurag_live *live, uint64_t *lines, size_t words, uint8_t *ram, size_t ram_len,
+                                            uint8_t *host, size_t host_len, uint32_t stream, uint32_t backlog);
+struct wekshurag_result wekshurag_card_capture(struct wekshurag_live *live, uint64_t *lines, size_t words, uint8_t *ram, size_t ram_len,
+                                               uint8_t *host, size_t host_len, uint32_t stream, uint32_t backlog);
 struct wekshurag_result wekshurag_card_event(struct wekshurag_board *board, uint8_t *ram, size_t ram_len, uint32_t code, uint32_t data);
 
 /* ---- power-up ------------------------------------------------------------------------------------------------------------------ */
@@ -225,44 +226,46 @@ static inline bool wekshurag_interrupt_line(const struct wekshurag_card *card)
  * Works one message of the control queue. Call it when that queue is rung, again while it counts 1.
  *
  * Answers WEKSHURAG_DONE and 1, or 0 where no message was there; or WEKSHURAG_RAM_LENGTH, WEKSHURAG_NOT_LIVE, or a broken queue: a RELEASE
- * looks at its stream's queue too, and names it.
+ * takes what is new on its stream's queue and ends that stream's line, so it may name that queue.
  */
 static inline struct wekshurag_result wekshurag_control(struct wekshurag_card *card, uint8_t *ram, size_t ram_len)
 {
-    return wekshurag_card_control(&card->board, card->play_chain, WEKSHURAG_CHAIN_WORDS, card->capture_chain, WEKSHURAG_CHAIN_WORDS, ram,
+    return wekshurag_card_control(&card->board, card->play_lines, WEKSHURAG_PLAY_WORDS, card->capture_lines, WEKSHURAG_CAPTURE_WORDS, ram,
                                   ram_len);
 }
 
 /*
- * Hands sound that the guest plays to the host: up to host_len bytes, as many as the guest has put, in order. Call it on the host's own
- * clock. A message that does not fit goes on in the next call; it is completed in the call that hands over its last byte.
+ * Hands sound that the guest plays on a stream to the host: up to host_len bytes, as many as the guest has put for it, in order. Call it on
+ * the host's own clock, for each stream that is to sound. First all messages that are new on the queue are taken: each waits in the line of
+ * the stream that it names, also where host_len is 0; then this stream's line is worked, and no other. A message that does not fit goes on
+ * in the next call; it is completed in the call that hands over its last byte.
  *
  * `backlog` is how many bytes of this stream the host has taken and not sounded yet. Every message completed in this call tells it to the
- * guest as its latency; a RELEASE tells that of the last call that answered WEKSHURAG_DONE since the guest's last reset, or 0. A host that
- * does not know it says 0.
+ * guest as its latency; a RELEASE tells that of the stream's last call that answered WEKSHURAG_DONE since the guest's last reset, or 0. A
+ * host that does not know it says 0.
  *
  * Answers WEKSHURAG_DONE and the bytes handed over, which are the first of `host`; those behind them are as they were (fill them with
  * silence first). Or WEKSHURAG_RAM_LENGTH, WEKSHURAG_NOT_LIVE, WEKSHURAG_NOT_RUNNING, or a broken queue.
  */
-static inline struct wekshurag_result wekshurag_play(struct wekshurag_card *card, uint8_t *ram, size_t ram_len, uint8_t *host,
-                                                     size_t host_len, uint32_t backlog)
+static inline struct wekshurag_result wekshurag_play(struct wekshurag_card *card, uint32_t stream, uint8_t *ram, size_t ram_len,
+                                                     uint8_t *host, size_t host_len, uint32_t backlog)
 {
-    return wekshurag_card_play(&card->board.live, card->play_chain, WEKSHURAG_CHAIN_WORDS, ram, ram_len, host, host_len, backlog);
+    return wekshurag_card_play(&card->board.live, card->play_lines, WEKSHURAG_PLAY_WORDS, ram, ram_len, host, host_len, stream, backlog);
 }
 
 /*
- * Records the host_len bytes at `host` into what the guest has put for them. `host` is only read. `backlog` is how many bytes the host has
- * recorded and not handed in yet; the guest is told of it as for wekshurag_play.
+ * Records the host_len bytes at `host` into what the guest has put for them on a stream. `host` is only read. Messages are taken and wait
+ * as for wekshurag_play. `backlog` is how many bytes the host has recorded and not handed in yet; the guest is told of it as there.
  *
  * Answers WEKSHURAG_DONE and how many of the bytes, from the first on, were recorded; the rest had no place, and are the monitor's to keep
  * or to lose. Refusals as for wekshurag_play.
  */
-static inline struct wekshurag_result wekshurag_capture(struct wekshurag_card *card, uint8_t *ram, size_t ram_len, const uint8_t *host,
-                                                        size_t host_len, uint32_t backlog)
+static inline struct wekshurag_result wekshurag_capture(struct wekshurag_card *card, uint32_t stream, uint8_t *ram, size_t ram_len,
+                                                        const uint8_t *host, size_t host_len, uint32_t backlog)
 {
     /* The archive plays and records by one loop, to which the host's bytes are lent; its contract is that a capture only reads them. */
-    return wekshurag_card_capture(&card->board.live, card->capture_chain, WEKSHURAG_CHAIN_WORDS, ram, ram_len, (uint8_t *)host, host_len,
-                                  backlog);
+    return wekshurag_card_capture(&card->board.live, card->capture_lines, WEKSHURAG_CAPTURE_WORDS, ram, ram_len, (uint8_t *)host, host_len,
+                                  stream, backlog);
 }
 
 /* The events: `data` is the jack's number, or the stream's. */
@@ -302,7 +305,7 @@ static inline const char *wekshurag_answer_text(uint8_t answer)
     case WEKSHURAG_NOT_LIVE:
         return "the device is not live";
     case WEKSHURAG_NOT_RUNNING:
-        return "the stream is absent or not running";
+        return "the stream is absent, of the other direction, or not running";
     case WEKSHURAG_EVENT_NOT_ALLOWED:
         return "the event is not allowed";
     case WEKSHURAG_NO_EVENT_BUFFER:

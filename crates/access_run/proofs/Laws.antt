@@ -30,12 +30,12 @@ module _ (s : Session) (t : List ℕ) (i : ℕ) where
 -- ---- a line that was read and done, and its number
 
 module _ (s : Session) (number : ℕ) (a : Acted) (l : Line) (n : number ≡ next (s .lines)) (e : l ≡ lineOf (kept (s .line)))
-    (d : a ≡ actOf (s .card) l) where
+    (d : a ≡ actOf (s .live) l) where
   pub line-answer : answerText number (a .answer) (a .value) ≡ lineText s
   unfolding lineText
   line-answer = rw (d, e, n)
 
-  pub line-session : (c : Collected) → c ≡ emptyLine → record { card = a .card; line = c; lines = number } ≡ lineEnded s
+  pub line-session : (c : Collected) → c ≡ emptyLine → record { live = a .live; line = c; lines = number } ≡ lineEnded s
   unfolding lineEnded
   line-session c k = rw (d, e, n, k)
 

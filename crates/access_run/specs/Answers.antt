@@ -6,14 +6,14 @@ use Rattle.access_line.specs.Line.{lineOf}
 use Rattle.access_line.specs.declared.Line.{Line}
 use Rattle.access_line.specs.declared.Line.the-variants.{Read, Write, Unreadable}
 use Rattle.card.specs.Card.{cardOf, partsAtPower}
-use Rattle.card.specs.Rules.{readCard, writeCard}
-use Rattle.card.specs.declared.Card.{Card}
-use Rattle.card.specs.declared.ReadAnswer.{ReadAnswer}
-use Rattle.card.specs.declared.WriteAnswer.{WriteAnswer}
 use Rattle.decimal.specs.Write.{fieldOf}
 use Rattle.description.specs.Nothing.{nothingDescribed}
 use Rattle.description.specs.declared.Description.{Description}
 use Rattle.description.specs.declared.StreamInfo.{StreamInfo}
+use Rattle.live.specs.Live.{boardOf, readLive, writeLive}
+use Rattle.live.specs.declared.Live.{Live}
+use Rattle.live.specs.declared.LiveRead.{LiveRead}
+use Rattle.live.specs.declared.LiveWrite.{LiveWrite}
 use Rattle.lines.specs.Lines.{linesOf}
 use Rattle.access_run.specs.declared.Acted.{Acted}
 
@@ -36,20 +36,21 @@ panel =
       streams = set (nothingDescribed .streams) 0 output;
     }
 
-abbrev pub firstCard : Card
-firstCard = cardOf (partsAtPower panel) 65536
+-- its small state, on which alone reads and writes of registers stand (live, proofs/Laws: `read-in`, `write-in`)
+abbrev pub firstLive : Live
+firstLive = boardOf (cardOf (partsAtPower panel) 65536) .live
 
 -- ---- a line
 
 -- "answer, value (0 for a write); 99 for a line it can't read"
-abbrev pub actOf : Card → Line → Acted
-actOf c (Read offset width) =
-    let r : ReadAnswer = readCard c offset width in
-    record { card = r .card; answer = r .answer; value = r .value }
-actOf c (Write offset width v) =
-    let w : WriteAnswer = writeCard c offset width v in
-    record { card = w .card; answer = w .answer; value = 0 }
-actOf c Unreadable = record { card = c; answer = 99; value = 0 }
+abbrev pub actOf : Live → Line → Acted
+actOf l (Read offset width) =
+    let r : LiveRead = readLive l offset width in
+    record { live = r .live; answer = r .answer; value = r .value }
+actOf l (Write offset width v) =
+    let w : LiveWrite = writeLive l offset width v in
+    record { live = w .live; answer = w .answer; value = 0 }
+actOf l Unreadable = record { live = l; answer = 99; value = 0 }
 
 -- "Prints line number, answer, value": single spaces, 32, between the three, and a line feed, 10
 unfoldable pub answerText : ℕ → ℕ → ℕ → List ℕ
@@ -62,12 +63,12 @@ abbrev pub next : ℕ → ℕ
 next n = (n + 1) % 2 ^ 64
 
 -- the answers to lines on a card, after n lines before them: each line on the card that the one before it left
-unfoldable pub answers : Card → ℕ → List (List ℕ) → List ℕ
-answers c n [] = []
-answers c n (l ∷ ls) =
-    let a : Acted = actOf c (lineOf l) in
-    answerText (next n) (a .answer) (a .value) ++ answers (a .card) (next n) ls
+unfoldable pub answers : Live → ℕ → List (List ℕ) → List ℕ
+answers l n [] = []
+answers l n (t ∷ ts) =
+    let a : Acted = actOf l (lineOf t) in
+    answerText (next n) (a .answer) (a .value) ++ answers (a .live) (next n) ts
 
 -- all that is printed
 abbrev pub printed : List ℕ → List ℕ
-printed input = answers firstCard 0 (linesOf input)
+printed input = answers firstLive 0 (linesOf input)

@@ -8,28 +8,28 @@ use lib.Dec.{eqb, ltb}
 use lib.ListN.{take}
 use Rattle.access_line.specs.Line.{lineOf}
 use Rattle.access_line.specs.Collect.{emptyLine, withByte, kept}
-use Rattle.card.specs.Fit.{Fit}
 use Rattle.decimal.specs.Write.{Put}
-use Rattle.access_run.specs.Answers.{firstCard, actOf, answerText, next}
+use Rattle.live.specs.Live.{FitLive}
+use Rattle.access_run.specs.Answers.{firstLive, actOf, answerText, next}
 use Rattle.access_run.specs.declared.Acted.{Acted}
 use Rattle.access_run.specs.declared.Session.{Session}
 
 abbrev pub firstSession : Session
-firstSession = record { card = firstCard; line = emptyLine; lines = 0 }
+firstSession = record { live = firstLive; line = emptyLine; lines = 0 }
 
 -- the line collected is whole: what it does, and its answer
 abbrev pub acted : Session → Acted
-acted s = actOf (s .card) (lineOf (kept (s .line)))
+acted s = actOf (s .live) (lineOf (kept (s .line)))
 
 unfoldable pub lineEnded : Session → Session
-lineEnded s = record { card = acted s .card; line = emptyLine; lines = next (s .lines) }
+lineEnded s = record { live = acted s .live; line = emptyLine; lines = next (s .lines) }
 
 unfoldable pub lineText : Session → List ℕ
 lineText s = answerText (next (s .lines)) (acted s .answer) (acted s .value)
 
 -- one byte more: a line feed, 10, ends the line
 unfoldable pub fed : Session → ℕ → Session
-fed s b = cond (eqb b 10) (lineEnded s) (record { card = s .card; line = withByte (s .line) b; lines = s .lines })
+fed s b = cond (eqb b 10) (lineEnded s) (record { live = s .live; line = withByte (s .line) b; lines = s .lines })
 
 unfoldable pub fedText : Session → ℕ → List ℕ
 fedText s b = cond (eqb b 10) (lineText s) []
@@ -56,8 +56,8 @@ blocksText s (b ∷ bs) = blockText s b ++ blocksText (foldl fed s b) bs
 
 -- ---- what is promised of a part of the input
 
--- the session and its text are these, the text written into a buffer from a place on; and the card is fit for the next part
+-- the session and its text are these, the text written into a buffer from a place on; and the small state is fit for the next part
 pub record Takes (s : Session) (t before : List ℕ) (at : ℕ) (after : List ℕ) (r : Session) (end : ℕ) : Type 0 where
   pub session : r ≡ s
   pub text : Put t before at after end
-  pub fit : Fit (r .card)
+  pub fit : FitLive (r .live)

@@ -1,21 +1,21 @@
 // The access program of 01: the lines of standard input are register reads and writes on one card;
 // each is answered by a line of standard output. The input is taken in blocks; what a block says is done
-// on the card, and its answers are left in a buffer, which `run` writes out.
+// on the card's small state, and its answers are left in a buffer, which `run` writes out.
 ghost use mathlib.Core.Path.{_≡_};
 ghost use mathlib.Core.List.{foldl};
 ghost use Prim.Native.Nat.{_+_, _*_, _≤_};
 ghost use lib.ListN.{length, take};
-ghost use Rattle.card.specs.Fit.{Fit};
+ghost use Rattle.live.specs.Live.{FitLive};
 ghost use Rattle.decimal.specs.Write.{Put};
 ghost use Rattle.access_run.specs.Answers.{panel, actOf, answerText};
 ghost use Rattle.access_run.specs.Session.{firstSession, lineEnded, lineText, fed, fedText, blockText, restText, takenText, Takes};
 use access_line::Collected;
 use access_line::Line;
-use card::Card;
 use description::Description;
 use description::StreamInfo;
 use libc::STDIN_FILENO;
 use libc::STDOUT_FILENO;
+use live::Live;
 
 // The answer to a line that can't be read.
 const UNREADABLE: u8 = 99;
@@ -27,16 +27,16 @@ const RAM_LENGTH: usize = 65536;
 // is read.
 const BLOCKS: u64 = 18446744073709551615;
 
-// What a line did: the card after it, and what is printed.
+// What a line did: the small state after it, and what is printed.
 struct Acted {
-    card: Card,
+    live: Live,
     answer: u8,
     value: u32,
 }
 
-// The card, the line that is being collected, and how many lines came before it.
+// The card's small state, the line that is being collected, and how many lines came before it.
 struct Session {
-    card: Card,
+    live: Live,
     line: Collected,
     lines: u64,
 }
@@ -81,43 +81,44 @@ fn description() -> Description
 
 // The card at power-up, and no line yet.
 fn first_session() -> Session
-    ensures { λ r. ⌜ (r ≡ firstSession) × Fit (r .card) ⌝ }
+    ensures { λ r. ⌜ (r ≡ firstSession) × FitLive (r .live) ⌝ }
 {
-    let powered = card::power_up(description(), RAM_LENGTH);
-    let card = powered.card;
+    let powered = live::power_up(description(), RAM_LENGTH);
+    let board = powered.board;
+    let live = board.live;
     Session {
-        card: card,
+        live: live,
         line: Collected::empty(),
         lines: 0,
     }
 }
 
 // One line, done on the card.
-fn act(card: Card, line: Line) -> Acted
-    requires { ⌜ Fit card ⌝ }
-    ensures { λ r. ⌜ (r ≡ actOf card line) × Fit (r .card) ⌝ }
+fn act(live: Live, line: Line) -> Acted
+    requires { ⌜ FitLive live ⌝ }
+    ensures { λ r. ⌜ (r ≡ actOf live line) × FitLive (r .live) ⌝ }
 {
     match line {
         Line::Read(offset, width) => {
-            let read = live::read_register(card, offset, width);
-            let after = read.card;
+            let read = live::read(live, offset, width);
+            let after = read.live;
             Acted {
-                card: after,
+                live: after,
                 answer: read.answer,
                 value: read.value,
             }
         }
         Line::Write(offset, width, value) => {
-            let written = live::write_register(card, offset, width, value);
-            let after = written.card;
+            let written = live::write(live, offset, width, value);
+            let after = written.live;
             Acted {
-                card: after,
+                live: after,
                 answer: written.answer,
                 value: 0,
             }
         }
         Line::Unreadable => Acted {
-            card: card,
+            live: live,
             answer: UNREADABLE,
             value: 0,
         },
@@ -137,18 +138,18 @@ fn put_answer(out: &mut [u8], at: usize, number: u64, answer: u8, value: u32) ->
 
 // The line collected is whole: it is done and answered.
 fn end_line(session: Session, out: &mut [u8], at: usize) -> Turn
-    requires { ⌜ Fit (session .card) × (at + 63 ≤ length (now out)) ⌝ }
+    requires { ⌜ FitLive (session .live) × (at + 63 ≤ length (now out)) ⌝ }
     ensures { λ r. ⌜ Takes (lineEnded session) (lineText session) (now (out .entry)) at (now (out .exit)) (r .session) (r .end)
         × (r .end ≤ at + 63) ⌝ }
 {
-    let card = session.card;
+    let live = session.live;
     let line = session.line;
     let number = std::num::wrapping_add_u64(session.lines, 1);
-    let acted = act(card, line.line());
+    let acted = act(live, line.line());
     let end = put_answer(out, at, number, acted.answer, acted.value);
-    let after = acted.card;
+    let after = acted.live;
     let next = Session {
-        card: after,
+        live: after,
         line: Collected::empty(),
         lines: number,
     };
@@ -160,7 +161,7 @@ fn end_line(session: Session, out: &mut [u8], at: usize) -> Turn
 
 // One byte of the input: a line feed ends a line.
 fn feed(session: Session, b: u8, out: &mut [u8], at: usize) -> Turn
-    requires { ⌜ Fit (session .card) × (at + 63 ≤ length (now out)) ⌝ }
+    requires { ⌜ FitLive (session .live) × (at + 63 ≤ length (now out)) ⌝ }
     ensures { λ r. ⌜ Takes (fed session b) (fedText session b) (now (out .entry)) at (now (out .exit)) (r .session) (r .end)
         × (r .end ≤ at + 63) ⌝ }
 {
@@ -178,7 +179,7 @@ fn feed(session: Session, b: u8, out: &mut [u8], at: usize) -> Turn
 
 // A block of input, whose answers go to the start of `out`.
 fn with_block(session: Session, bytes: &[u8], out: &mut [u8]) -> Turn
-    requires { ⌜ Fit (session .card) × (63 * length (now bytes) ≤ length (now out)) ⌝ }
+    requires { ⌜ FitLive (session .live) × (63 * length (now bytes) ≤ length (now out)) ⌝ }
     ensures { λ r. ⌜ Takes (foldl fed session (now (bytes .entry))) (blockText session (now (bytes .entry)))
         (now (out .entry)) 0 (now (out .exit)) (r .session) (r .end)
         × (r .end ≤ length (now (out .exit))) ⌝ }
@@ -198,7 +199,7 @@ fn with_block(session: Session, bytes: &[u8], out: &mut [u8]) -> Turn
 
 // The input has ended: what follows the last line feed is a line if it is not empty.
 fn finish(session: Session, out: &mut [u8]) -> usize
-    requires { ⌜ Fit (session .card) × (63 ≤ length (now out)) ⌝ }
+    requires { ⌜ FitLive (session .live) × (63 ≤ length (now out)) ⌝ }
     ensures { λ r. ⌜ Put (restText session) (now (out .entry)) 0 (now (out .exit)) r × (r ≤ 63) ⌝ }
 {
     let line = session.line;
@@ -211,7 +212,7 @@ fn finish(session: Session, out: &mut [u8]) -> usize
 
 // One read of the input into `block`, done and answered; nothing read is its end.
 fn take_block(session: Session, block: &mut [u8], out: &mut [u8]) -> Taken
-    requires { ⌜ Fit (session .card) × (63 + 63 * length (now block) ≤ length (now out)) ⌝ }
+    requires { ⌜ FitLive (session .live) × (63 + 63 * length (now block) ≤ length (now out)) ⌝ }
     ensures { λ r. ⌜ Takes (foldl fed session (take (r .count) (now (block .exit)))) (takenText session (r .count) (now (block .exit)))
         (now (out .entry)) 0 (now (out .exit)) (r .session) (r .end)
         × (r .end ≤ length (now (out .exit))) ⌝ }

@@ -1,4 +1,4 @@
--- Parts with one of them replaced are fit, and so is a card with other parts that are.
+-- Parts with one of them replaced are fit.
 use mathlib.Core.Path.{_≡_, refl, _∙_}
 use mathlib.Core.Bool.{Bool, true, false}
 use mathlib.Core.List.{List}
@@ -9,9 +9,8 @@ use lib.Dec.{eqb, ltb}
 use lib.ListN.{length, getD, set, length-set}
 use lib.Seq.{getD-set-same, getD-set-other, set-out}
 use Rattle.card.specs.Card.{noStream}
-use Rattle.card.specs.Fit.{Fit, FitParts}
-use Rattle.card.specs.Setters.{withJackAt, withStreamAt, withParts}
-use Rattle.card.specs.declared.Card.{Card}
+use Rattle.card.specs.Fit.{FitParts}
+use Rattle.card.specs.Setters.{withJackAt, withStreamAt}
 use Rattle.card.specs.declared.Jack.{Jack}
 use Rattle.card.specs.declared.Parts.{Parts}
 use Rattle.card.specs.declared.Stream.{Stream}
@@ -22,9 +21,12 @@ fit-with-jack p i j f =
       jacks = f .jacks;
       maps = f .maps;
       streams = f .streams;
+      outputs = f .outputs;
+      some = f .some;
+      inputs = f .inputs;
       four-jacks = length-set (p .jacks) i j ∙ f .four-jacks;
       four-maps = f .four-maps;
-      two-streams = f .two-streams;
+      six-streams = f .six-streams;
       states = f .states;
     }
 
@@ -48,11 +50,11 @@ module _ (i : ℕ) (s : Stream) (b : s .state ≤ 5) where
         jacks = f .jacks;
         maps = f .maps;
         streams = f .streams;
+        outputs = f .outputs;
+        some = f .some;
+        inputs = f .inputs;
         four-jacks = f .four-jacks;
         four-maps = f .four-maps;
-        two-streams = length-set (p .streams) i s ∙ f .two-streams;
+        six-streams = length-set (p .streams) i s ∙ f .six-streams;
         states = states-with (p .streams) (f .states);
       }
-
-pub fit-with-parts : (c : Card) (p : Parts) → Fit c → FitParts p → Fit (withParts p c)
-fit-with-parts c p f g = record { registers = f .registers; parts = g; four = f .four; play = f .play; capture = f .capture }

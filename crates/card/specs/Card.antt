@@ -1,14 +1,14 @@
 -- The card's state and its parts.
+use mathlib.Core.Bool.{true}
 use mathlib.Core.List.{map}
 use Prim.Native.Nat.{ℕ, _+_}
-use lib.ListN.{replicate, set}
+use lib.ListN.{replicate}
 use Rattle.description.specs.declared.Description.{Description}
 use Rattle.description.specs.declared.JackInfo.{JackInfo}
 use Rattle.description.specs.declared.MapInfo.{MapInfo}
 use Rattle.description.specs.declared.StreamInfo.{StreamInfo}
 use Rattle.ranges.specs.Ranges.{noRanges}
 use Rattle.registers.specs.declared.Config.{Config}
-use Rattle.registers.specs.declared.Registers.{Registers}
 use Rattle.registers.specs.Rules.{powerOn}
 use Rattle.card.specs.declared.Card.{Card}
 use Rattle.card.specs.declared.Counters.{Counters}
@@ -72,23 +72,24 @@ partsAtPower d =
       «jack_count» = d .«jack_count»;
       «map_count» = d .«map_count»;
       «stream_count» = d .«output_count» + d .«input_count»;
+      «output_count» = d .«output_count»;
       jacks = map jackAtPower (d .jacks);
       maps = d .maps;
       streams = map freshStream (d .streams);
     }
 
--- a card of these parts, as at power-up
+-- a card of these parts, as at power-up: no line has a message, whatever the words hold
 abbrev pub cardOf : Parts → ℕ → Card
 cardOf p len =
     record {
       «ram_len» = len;
       registers = powerOn;
       queues = replicate 4 noCounters;
-      play = noMessage;
-      capture = noMessage;
       parts = p;
-      «play_words» = replicate 68 0;
-      «capture_words» = replicate 68 0;
+      «play_dropped» = true;
+      «capture_dropped» = true;
+      «play_words» = replicate 1340 0;
+      «capture_words» = replicate 286 0;
     }
 
 -- no part at all
@@ -98,9 +99,10 @@ noParts =
       «jack_count» = 0;
       «map_count» = 0;
       «stream_count» = 0;
+      «output_count» = 0;
       jacks = replicate 4 (jackAtPower noJackInfo);
       maps = replicate 4 noMapInfo;
-      streams = replicate 2 noStream;
+      streams = replicate 6 noStream;
     }
 
 abbrev pub configOf : Card → Config

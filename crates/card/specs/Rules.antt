@@ -1,6 +1,6 @@
 -- 01, The card at power-up and Registers: what power-up and the register entries do to the whole card.
 use mathlib.Core.List.{map}
-use mathlib.Core.Bool.{cond}
+use mathlib.Core.Bool.{true, cond, _||_}
 use Prim.Native.Nat.{ℕ}
 use lib.Dec.{eqb}
 use lib.ListN.{set, replicate}
@@ -12,7 +12,7 @@ use Rattle.registers.specs.declared.Effect.{Effect}
 use Rattle.registers.specs.declared.Effect.the-variants.{Nothing, Reset, Based, Rung}
 use Rattle.registers.specs.declared.Read.{Read}
 use Rattle.registers.specs.declared.Written.{Written}
-use Rattle.card.specs.Card.{cardOf, partsAtPower, noParts, noCounters, noMessage, freshStream, configOf}
+use Rattle.card.specs.Card.{cardOf, partsAtPower, noParts, noCounters, freshStream, configOf}
 use Rattle.card.specs.Setters.{withRegisters}
 use Rattle.card.specs.declared.Card.{Card}
 use Rattle.card.specs.declared.Jack.{Jack}
@@ -51,35 +51,37 @@ partsReset p =
       «jack_count» = p .«jack_count»;
       «map_count» = p .«map_count»;
       «stream_count» = p .«stream_count»;
+      «output_count» = p .«output_count»;
       jacks = map jackReset (p .jacks);
       maps = p .maps;
       streams = map streamReset (p .streams);
     }
 
--- "counters and messages in work are cleared, streams are Fresh, remaps undone"
+-- "counters and messages in work are cleared, streams are Fresh, remaps undone"; order 8: "What drops 01's message in work drops the
+-- lines."
 unfoldable pub resetCard : Card → Card
 resetCard c =
     record {
       «ram_len» = c .«ram_len»;
       registers = c .registers;
       queues = replicate 4 noCounters;
-      play = noMessage;
-      capture = noMessage;
       parts = partsReset (c .parts);
+      «play_dropped» = true;
+      «capture_dropped» = true;
       «play_words» = c .«play_words»;
       «capture_words» = c .«capture_words»;
     }
 
--- a base write: "zero that queue's counters and drop its message in work"
+-- a base write: "zero that queue's counters and drop its message in work", so its lines
 unfoldable pub basedCard : ℕ → Card → Card
 basedCard q c =
     record {
       «ram_len» = c .«ram_len»;
       registers = c .registers;
       queues = set (c .queues) q noCounters;
-      play = cond (eqb q 2) noMessage (c .play);
-      capture = cond (eqb q 3) noMessage (c .capture);
       parts = c .parts;
+      «play_dropped» = eqb q 2 || c .«play_dropped»;
+      «capture_dropped» = eqb q 3 || c .«capture_dropped»;
       «play_words» = c .«play_words»;
       «capture_words» = c .«capture_words»;
     }

@@ -1,12 +1,10 @@
 -- A card with one of its fields replaced, and its parts with one of them replaced.
-use mathlib.Core.List.{List}
 use Prim.Native.Nat.{ℕ}
 use lib.ListN.{set}
 use Rattle.registers.specs.declared.Registers.{Registers}
 use Rattle.card.specs.declared.Card.{Card}
 use Rattle.card.specs.declared.Counters.{Counters}
 use Rattle.card.specs.declared.Jack.{Jack}
-use Rattle.card.specs.declared.Message.{Message}
 use Rattle.card.specs.declared.Parts.{Parts}
 use Rattle.card.specs.declared.Stream.{Stream}
 
@@ -16,9 +14,9 @@ withRegisters r c =
       «ram_len» = c .«ram_len»;
       registers = r;
       queues = c .queues;
-      play = c .play;
-      capture = c .capture;
       parts = c .parts;
+      «play_dropped» = c .«play_dropped»;
+      «capture_dropped» = c .«capture_dropped»;
       «play_words» = c .«play_words»;
       «capture_words» = c .«capture_words»;
     }
@@ -30,38 +28,11 @@ withCounters q v c =
       «ram_len» = c .«ram_len»;
       registers = c .registers;
       queues = set (c .queues) q v;
-      play = c .play;
-      capture = c .capture;
       parts = c .parts;
+      «play_dropped» = c .«play_dropped»;
+      «capture_dropped» = c .«capture_dropped»;
       «play_words» = c .«play_words»;
       «capture_words» = c .«capture_words»;
-    }
-
--- the message in work of a stream's queue, and the words of its chain
-abbrev pub withPlay : Message → List ℕ → Card → Card
-withPlay w ws c =
-    record {
-      «ram_len» = c .«ram_len»;
-      registers = c .registers;
-      queues = c .queues;
-      play = w;
-      capture = c .capture;
-      parts = c .parts;
-      «play_words» = ws;
-      «capture_words» = c .«capture_words»;
-    }
-
-abbrev pub withCapture : Message → List ℕ → Card → Card
-withCapture w ws c =
-    record {
-      «ram_len» = c .«ram_len»;
-      registers = c .registers;
-      queues = c .queues;
-      play = c .play;
-      capture = w;
-      parts = c .parts;
-      «play_words» = c .«play_words»;
-      «capture_words» = ws;
     }
 
 abbrev pub withParts : Parts → Card → Card
@@ -70,9 +41,9 @@ withParts p c =
       «ram_len» = c .«ram_len»;
       registers = c .registers;
       queues = c .queues;
-      play = c .play;
-      capture = c .capture;
       parts = p;
+      «play_dropped» = c .«play_dropped»;
+      «capture_dropped» = c .«capture_dropped»;
       «play_words» = c .«play_words»;
       «capture_words» = c .«capture_words»;
     }
@@ -85,6 +56,7 @@ withJackAt i j p =
       «jack_count» = p .«jack_count»;
       «map_count» = p .«map_count»;
       «stream_count» = p .«stream_count»;
+      «output_count» = p .«output_count»;
       jacks = set (p .jacks) i j;
       maps = p .maps;
       streams = p .streams;
@@ -96,6 +68,7 @@ withStreamAt i s p =
       «jack_count» = p .«jack_count»;
       «map_count» = p .«map_count»;
       «stream_count» = p .«stream_count»;
+      «output_count» = p .«output_count»;
       jacks = p .jacks;
       maps = p .maps;
       streams = set (p .streams) i s;

@@ -1,15 +1,13 @@
-// The card: its state as one struct by value, and power-up. The state holds numbers, arrays and structs
-// only, so that it can cross to C.
+// The card: its state, and its parts at power-up. The state holds numbers, arrays and structs only, so that
+// it can cross to C.
 ghost use mathlib.Core.Path.{_≡_};
 ghost use mathlib.Core.List.{map};
-ghost use Rattle.card.specs.Card.{noMessage, noParams, freshStream, jackAtPower, partsAtPower, noParts, cardOf};
-ghost use Rattle.card.specs.Rules.{poweredOf};
-ghost use Rattle.card.specs.Fit.{Fit, FitParts};
+ghost use Rattle.card.specs.Card.{noMessage, noParams, freshStream, jackAtPower, partsAtPower, noParts};
+ghost use Rattle.card.specs.Fit.{FitParts};
 ghost use Rattle.card.specs.Setters.{withJackAt, withStreamAt};
 ghost use Rattle.description.specs.Lawful.{lawful};
 ghost use mathlib.Core.Bool.{true};
 ghost use Prim.Native.Nat.{_<_};
-ghost use Rattle.registers.specs.Rules.{raised};
 use counts::DescriptorNumber;
 use description::Description;
 use description::JackInfo;
@@ -18,6 +16,12 @@ use description::STREAMS;
 use description::StreamInfo;
 use ranges::Ranges;
 use registers::Registers;
+
+// The words of the lines of a queue: for each stream that it can have 79, and one for each of its entries
+// (256 on the play queue, 64 on the capture queue).
+pub const PLAY_WORDS: usize = 1340;
+
+pub const CAPTURE_WORDS: usize = 286;
 
 // What a WriteAnswer rings where no queue was rung.
 pub const NO_QUEUE: u8 = 255;
@@ -70,8 +74,8 @@ pub struct Counters {
     pub completed: u16,
 }
 
-// The message in work of a stream's queue: `count` is how many there are (0 or 1), `done` how many
-// bytes of its payload were moved. Its ranges stand in the words of its chain.
+// The message in work of a stream: `count` is how many there are (0 or 1), `done` how many bytes of its
+// payload were moved. Its ranges stand in the words of its queue.
 #[repr(C)]
 pub struct Message {
     pub count: u16,
@@ -81,12 +85,14 @@ pub struct Message {
     pub reply: Ranges,
 }
 
-// The parts that were described: the first so many of each list.
+// The parts that were described: the first so many of each list; of the streams the first `output_count`
+// are outputs.
 #[repr(C)]
 pub struct Parts {
     pub jack_count: usize,
     pub map_count: usize,
     pub stream_count: usize,
+    pub output_count: usize,
     pub jacks: [Jack; 4],
     pub maps: [MapInfo; 4],
     pub streams: [Stream; STREAMS],
@@ -105,7 +111,7 @@ impl Parts {
 
     // The parts with another stream at `i`.
     pub fn with_stream(self, i: usize, stream: Stream) -> Parts
-        requires { ⌜ i < 2 ⌝ }
+        requires { ⌜ i < 6 ⌝ }
         ensures { λ r. ⌜ r ≡ withStreamAt i stream self ⌝ }
     {
         let mut next = self;
@@ -114,18 +120,19 @@ impl Parts {
     }
 }
 
-// The queues' counters by their number, the messages in work of the play and the capture queue, and
-// the words of their chains: address and length of each range, at most 34.
+// The queues' counters by their number, and the words of the play and the capture queue: the lines of their
+// streams, the messages in work and the ranges of their chains. `play_dropped`: since its words were written
+// the lines of the play queue were dropped, so that every line is empty, whatever the words hold.
 #[repr(C)]
 pub struct Card {
     pub ram_len: usize,
     pub registers: Registers,
     pub queues: [Counters; 4],
-    pub play: Message,
-    pub capture: Message,
     pub parts: Parts,
-    pub play_words: [u64; 68],
-    pub capture_words: [u64; 68],
+    pub play_dropped: bool,
+    pub capture_dropped: bool,
+    pub play_words: [u64; PLAY_WORDS],
+    pub capture_words: [u64; CAPTURE_WORDS],
 }
 
 #[repr(C)]
@@ -211,10 +218,18 @@ fn jacks_at_power(infos: [JackInfo; 4]) -> [Jack; 4]
 fn streams_at_power(infos: [StreamInfo; STREAMS]) -> [Stream; STREAMS]
     ensures { λ r. ⌜ r ≡ map freshStream infos ⌝ }
 {
-    [fresh(infos[0]), fresh(infos[1])]
+    [
+        fresh(infos[0]),
+        fresh(infos[1]),
+        fresh(infos[2]),
+        fresh(infos[3]),
+        fresh(infos[4]),
+        fresh(infos[5]),
+    ]
 }
 
-fn parts_at_power(d: Description) -> Parts
+// The parts of a card that is made of a lawful description.
+pub fn parts_at_power(d: Description) -> Parts
     requires { ⌜ lawful d ≡ true ⌝ }
     ensures { λ r. ⌜ (r ≡ partsAtPower d) × FitParts r ⌝ }
 {
@@ -225,14 +240,16 @@ fn parts_at_power(d: Description) -> Parts
         jack_count: d.jack_count as usize,
         map_count: d.map_count as usize,
         stream_count: d.output_count as usize + d.input_count as usize,
+        output_count: d.output_count as usize,
         jacks: jacks_at_power(jacks),
         maps: maps,
         streams: streams_at_power(streams),
     }
 }
 
-fn no_parts() -> Parts
-    ensures { λ r. ⌜ r ≡ noParts ⌝ }
+// No part at all.
+pub fn no_parts() -> Parts
+    ensures { λ r. ⌜ (r ≡ noParts) × FitParts r ⌝ }
 {
     let jack = JackInfo {
         nid: 0,
@@ -259,51 +276,9 @@ fn no_parts() -> Parts
         jack_count: 0,
         map_count: 0,
         stream_count: 0,
+        output_count: 0,
         jacks: [jack_at_power(jack); 4],
         maps: [map; 4],
         streams: [fresh(stream); STREAMS],
     }
-}
-
-// A card of these parts, as at power-up.
-fn card_of(parts: Parts, ram_len: usize) -> Card
-    ensures { λ r. ⌜ r ≡ cardOf parts «ram_len» ⌝ }
-{
-    Card {
-        ram_len: ram_len,
-        registers: Registers::power_on(),
-        queues: [Counters {
-            taken: 0,
-            completed: 0,
-        }; 4],
-        play: no_message(),
-        capture: no_message(),
-        parts: parts,
-        play_words: [0; 68],
-        capture_words: [0; 68],
-    }
-}
-
-// Power-up: a card with `ram_len` bytes of memory, or answer 10.
-pub fn power_up(d: Description, ram_len: usize) -> Powered
-    ensures { λ r. ⌜ (r ≡ poweredOf d «ram_len») × Fit (r .card) ⌝ }
-{
-    if !description::is_lawful(d) {
-        return Powered {
-            answer: registers::BAD_DESCRIPTION,
-            card: card_of(no_parts(), 0),
-        };
-    }
-    Powered {
-        answer: registers::DONE,
-        card: card_of(parts_at_power(d), ram_len),
-    }
-}
-
-// Whether the interrupt line is raised.
-pub fn interrupt_line(card: Card) -> bool
-    ensures { λ r. ⌜ r ≡ raised (card .registers) ⌝ }
-{
-    let registers = card.registers;
-    registers.line()
 }

@@ -14,8 +14,8 @@ use Rattle.card.specs.Card.{noStream}
 use Rattle.card.specs.Fit.{FitParts}
 use Rattle.card.specs.declared.Params.{Params}
 use Rattle.card.specs.declared.Parts.{Parts}
-use Rattle.meaning.specs.Card.{partsOf}
-use Rattle.meaning.proofs.Streams.{stream-at}
+use Rattle.rules.specs.Parts.{partsOf}
+use Rattle.rules.proofs.Parts.{stream-at}
 use Rattle.reply.proofs.Laws.{stream-total}
 use Rattle.rules.specs.Control as rules
 use Rattle.device.specs.Numbers.{sBadMsg}

@@ -3,7 +3,7 @@
 ghost use mathlib.Core.Path.{_≡_};
 ghost use Prim.Native.Nat.{_≤_, _<_};
 ghost use Rattle.card.specs.Fit.{FitParts};
-ghost use Rattle.meaning.specs.Card.{partsOf};
+ghost use Rattle.rules.specs.Parts.{partsOf};
 ghost use Rattle.reply.specs.Reply.{Serves};
 ghost use Rattle.requests.specs.Requests.{checked};
 ghost use Rattle.rules.specs.Control.{commanded, obeyed, moves, setParams, setBy, judgedOffer, paramsOf, streamIn};

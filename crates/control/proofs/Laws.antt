@@ -14,6 +14,8 @@ use Rattle.memory.proofs.Laws.{le-same}
 use Rattle.ranges.specs.Ranges.{Sound, rangesOf, places, bytesAt}
 use Rattle.ranges.specs.declared.Ranges.{Ranges}
 use Rattle.ranges.proofs.Laws.{length-places, map-take}
+use Rattle.line_calls.specs.Calls.{served}
+use Rattle.line_calls.specs.Streams.{Streams, directionNumber}
 use Rattle.reply.specs.declared.Pending.{Pending}
 use Rattle.rules.specs.Control as rules
 use Rattle.rules.specs.Lifecycle.{transition}
@@ -54,6 +56,10 @@ pub words-agree : (m ps : List ℕ) (n at : ℕ) → at + n ≤ 24
 words-agree m ps n at h =
     rw (map-take (λ (a : ℕ). getD m a 0) 24 ps) (le-same n _ (bytesAt m ps) at (λ i a b. first-bytes 24 (bytesAt m ps) i (omega arith)))
 
+-- a request of its layout's length, answered where there are these streams
+abbrev pub answerIn : Streams → Asked → rules.Parts → List ℕ → ℕ → rules.Served
+answerIn n a p request room = rules.answerBy (rules.informBy (rules.itemsBy (directionNumber n))) a p request room
+
 -- a command goes by the first 24 bytes
 module _ (p : rules.Parts) (xs ys : List ℕ) (h : (n at : ℕ) → at + n ≤ 24 → le n xs at ≡ le n ys at) where
   obeyed-agree : (c : Command) (id state : ℕ) → rules.obeyed p c id state xs ≡ rules.obeyed p c id state ys
@@ -78,11 +84,11 @@ module _ (p : rules.Parts) (xs ys : List ℕ) (h : (n at : ℕ) → at + n ≤ 2
   led-agree c id (some state) = obeyed-agree c id state
 
   -- and so does any answer
-  pub answers-agree : (a : Asked) (room : ℕ) → rules.answerTo a p xs room ≡ rules.answerTo a p ys room
-  unfolding rules.information rules.remap rules.commanded
-  answers-agree (Information l) room = rw (h 4 4 (omega arith), h 4 8 (omega arith), h 4 12 (omega arith))
-  answers-agree Remap room = rw (h 4 4 (omega arith), h 4 8 (omega arith), h 4 12 (omega arith))
-  answers-agree (Pcm c) room =
+  pub answers-agree : (n : Streams) (a : Asked) (room : ℕ) → answerIn n a p xs room ≡ answerIn n a p ys room
+  unfolding rules.remap rules.commanded
+  answers-agree n (Information l) room = rw (h 4 4 (omega arith), h 4 8 (omega arith), h 4 12 (omega arith))
+  answers-agree n Remap room = rw (h 4 4 (omega arith), h 4 8 (omega arith), h 4 12 (omega arith))
+  answers-agree n (Pcm c) room =
       rw (h 4 4 (omega arith), led-agree c (rules.word ys 1) (transition c (rules.streamIn p (rules.word ys 1) .state)))
 
 pub length-request : (m ws : List ℕ) (r : Ranges) → Sound ws r → length (bytesAt m (places (rangesOf ws r))) ≡ r .bytes
@@ -90,7 +96,7 @@ length-request m ws r s = rw (length-map, length-places) (sym s)
 
 -- what a request asks that is known and has the length of its layout
 pub reads-as : (ws : List ℕ) (pending : Pending) (q bs m : List ℕ) (a : Asked)
-    → ((p : rules.Parts) (room : ℕ) → rules.served p q room ≡ rules.answerTo a p bs room)
+    → ((n : Streams) (p : rules.Parts) (room : ℕ) → served n p q room ≡ answerIn n a p bs room)
     → Reads ws pending q bs m m (readAs a)
 reads-as ws pending q bs m (Information l) h = (refl, h)
 reads-as ws pending q bs m Remap h = (refl, h)

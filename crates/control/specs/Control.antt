@@ -2,6 +2,8 @@
 use mathlib.Core.Path.{_≡_}
 use mathlib.Core.List.{List}
 use Prim.Native.Nat.{ℕ}
+use Rattle.line_calls.specs.Calls.{served}
+use Rattle.line_calls.specs.Streams.{Streams, directionNumber}
 use Rattle.reply.specs.declared.Pending.{Pending}
 use Rattle.requests.specs.Requests.{Replies}
 use Rattle.rules.specs.Control as rules
@@ -22,14 +24,16 @@ abbrev pub changedBy : Change → rules.Parts → List ℕ → rules.Served
 changedBy change.Remap p bs = rules.remap p bs
 changedBy (change.Pcm c) p bs = rules.commanded p c bs
 
--- what a request comes to, whatever the parts and the room for the reply: one that is refused is completed; of any other its first
--- bytes tell
+-- what a request comes to, whatever the streams, the parts and the room for the reply: one that is refused is completed; of any other its
+-- first bytes tell
 abbrev pub Reads : List ℕ → Pending → List ℕ → List ℕ → List ℕ → List ℕ → Reading → Type 0
 Reads ws pending request bs m m′ (Refused posted) =
-    (p : rules.Parts) (room : ℕ) → Replies ws pending p (rules.served p request room) posted m m′
+    (n : Streams) (p : rules.Parts) (room : ℕ) → Replies ws pending p (served n p request room) posted m m′
 Reads ws pending request bs m m′ (Informs l) =
-    (m′ ≡ m) × ((p : rules.Parts) (room : ℕ) → rules.served p request room ≡ rules.information p l bs room)
+    (m′ ≡ m)
+    × ((n : Streams) (p : rules.Parts) (room : ℕ)
+    → served n p request room ≡ rules.informBy (rules.itemsBy (directionNumber n)) p l bs room)
 Reads ws pending request bs m m′ Remaps =
-    (m′ ≡ m) × ((p : rules.Parts) (room : ℕ) → rules.served p request room ≡ changedBy change.Remap p bs)
+    (m′ ≡ m) × ((n : Streams) (p : rules.Parts) (room : ℕ) → served n p request room ≡ changedBy change.Remap p bs)
 Reads ws pending request bs m m′ (Commands c) =
-    (m′ ≡ m) × ((p : rules.Parts) (room : ℕ) → rules.served p request room ≡ changedBy (change.Pcm c) p bs)
+    (m′ ≡ m) × ((n : Streams) (p : rules.Parts) (room : ℕ) → served n p request room ≡ changedBy (change.Pcm c) p bs)

@@ -4,7 +4,7 @@ ghost use mathlib.Core.Path.{_≡_};
 ghost use lib.Dec.{leb};
 ghost use lib.ListN.{replicate};
 ghost use Rattle.card.specs.Fit.{FitParts};
-ghost use Rattle.meaning.specs.Card.{partsOf};
+ghost use Rattle.rules.specs.Parts.{partsOf};
 ghost use Rattle.ranges.specs.Ranges.{Sound, rangesOf, places, bytesAt};
 ghost use Rattle.reply.specs.Reply.{Serves};
 ghost use Rattle.requests.specs.Requests.{checked};

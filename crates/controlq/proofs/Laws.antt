@@ -2,12 +2,13 @@
 use mathlib.Core.Path.{_≡_, _∙_, refl, sym, ap}
 use mathlib.Core.Bool.{Bool, true, false, cond, _&&_}
 use mathlib.Core.List.{List, []}
-use Prim.Native.Nat.{ℕ, zero, suc, _≤_, _<_}
+use Prim.Native.Nat.{ℕ, zero, suc, _+_, _≤_, _<_}
+use native.Mathlib.Decide.{ℕ-discrete}
 use native.Mathlib.Omega.{arith}
 use borrow.Author.Tests.{ltb-true, ltb-false}
 use lib.Dec.{eqb, leb, ltb}
-use lib.ListN.{length, getD, take, length-take, length-set}
-use lib.Seq.{getD-set-same, getD-set-other, set-out, take-set-lt}
+use lib.ListN.{length, getD, set, take, length-take, length-set}
+use lib.Seq.{getD-set-same, getD-set-other, set-out, take-set-lt, ext-getD}
 use Rattle.control.specs.Control.{Reads}
 use Rattle.control.specs.declared.Reading.{Reading}
 use Rattle.counts.specs.declared.DescriptorNumber.{DescriptorNumber}
@@ -33,27 +34,30 @@ use Rattle.ring.specs.declared.Posted.{Posted}
 use Rattle.ring.specs.declared.Stop.{Stop}
 use Rattle.card.specs.Setters as card
 use Rattle.card.specs.Card.{noStream, releasedState}
-use Rattle.card.proofs.Keeps.{fit-with-registers}
-use Rattle.card.proofs.Setters.{fit-with-parts, fit-with-stream}
+use Rattle.card.proofs.Setters.{fit-with-stream}
 use Rattle.card.specs.Setters.{withParts, withStreamAt}
 use Rattle.card.specs.declared.Card.{Card}
 use Rattle.card.specs.declared.Parts.{Parts}
 use Rattle.card.specs.declared.Stream.{Stream}
-use Rattle.live.proofs.Laws.{fits-card, card-fits, parts-kept}
+use Rattle.live.proofs.Laws.{parts-kept, keep-board, board-with-registers}
+use Rattle.live.proofs.Streams.{stream-now}
 use Rattle.live.specs.Setters as live
-use Rattle.live.specs.Live.{partsNow, cardIn, configIn, keptLive, Fits}
+use Rattle.live.specs.Live.{partsNow, cardIn, configIn, keptLive}
 use Rattle.live.specs.declared.Live.{Live}
-use Rattle.meaning.proofs.Streams.{stream-at}
-use Rattle.meaning.specs.Card.{countersAt, partsOf, restOf, deviceOf, stepOf, leaves}
+use Rattle.line_calls.specs.Calls.{Control, orderOf, releaseBy}
+use Rattle.line_calls.specs.Claim as claim
+use Rattle.line_calls.specs.Streams.{Streams, streamsIn, directionOf}
+use Rattle.meaning.specs.Card.{countersAt, restOf, deviceOf, stepOf, leaves}
+use Rattle.meaning.specs.Fit.{Fits, streamsLive}
+use Rattle.queue_lines.specs.Counters.{Queue}
 use Rattle.device.specs.Answers.{brokenAnswer}
-use Rattle.rules.specs.Calls as calls
-use Rattle.device.specs.Transfer as transfers
-use Rattle.rules.specs.Calls.{Result, Order, Pending, Step, stepBy, releaseQueue, releasedOf, acted, Done, ReleaseFirst, Control}
-use Rattle.rules.specs.Calls.{releaseStep, refusedWith, broke, replied, withRest, ordered, orderOf, controlFound, indirect}
+use Rattle.rules.proofs.Parts.{stream-at}
+use Rattle.rules.specs.Parts.{partsOf}
+use Rattle.rules.specs.Calls.{Result, Order, Pending, Step, stepBy, orderedBy, releasedOn, acted, Done, ReleaseFirst}
+use Rattle.rules.specs.Calls.{refusedWith, broke, replied, withRest, controlFoundBy, indirect}
 use Rattle.rules.specs.Control as rules
 use Rattle.rules.specs.Control.{status, withState}
-use Rattle.device.specs.Counters.{countersOf}
-use Rattle.device.specs.Device.{Device, Queue, Rest, Direction, output, input, queueNumber, directionOf, queueFor, withQueue, withRegisters}
+use Rattle.device.specs.Device.{Device, Rest, Direction, output, input, queueNumber, queueFor, withQueue, withRegisters}
 use Rattle.device.specs.Device.{withControl, pageOf, signalledIf, oneTaken}
 use Rattle.device.specs.Numbers.{controlQueue, sOk, sBadMsg}
 use Rattle.reply.specs.Reply.{Outcome, Serves, completionOf, closedOf, postedBy}
@@ -70,7 +74,7 @@ use Rattle.controlq.specs.declared.Ending.the-variants.{Broke, Completed
 use Rattle.controlq.specs.declared.Side.the-variants.{Usable, Unusable}
 use Rattle.controlq.specs.declared.Turn.{Turn}
 use Rattle.controlq.specs.Control.{sideOf, servedChain, pendingOf, pendingIn, endsOn, walkedAt, nextOrder, takenLive, finishOf, Ends}
-use Rattle.controlq.specs.Control.{Comes, Turns, EmptiesFor, markedOf, markedLive, releasedLive}
+use Rattle.controlq.specs.Control.{servedOn, orderedOn, Comes, Turns, EmptiesFor, markedOf, markedLive, releasedLive}
 
 -- ---- the card
 
@@ -123,8 +127,8 @@ module _ (l : Live) (p : Parts) (pw cw : List ℕ) (f : Fits l p pw cw) where
   counted-ends head ws reply bytes m after t e =
       let g : Registers = signalledIf (t .interrupt) (l .registers) in (
         ap (endsOn own) (replied-by head ws reply bytes m ∙ ap (resultOn own) (sym e))
-            ∙ rw (held-device own (fits-card l p pw cw f) g _ controlQueue (omega arith)),
-        held-fits l p pw cw f g _ (signal-fit (t .interrupt) (l .registers) (f .live .registers)) controlQueue (omega arith),
+            ∙ rw (held-device own (f .board .live .four) g _ controlQueue (omega arith)),
+        held-fits l p pw cw f g _ (signal-fit (t .interrupt) (l .registers) (f .board .live .registers)) controlQueue (omega arith),
       )
 
   same-parts : rules.withParts (partsOf (partsNow l p)) (restOf own) ≡ restOf own
@@ -135,35 +139,37 @@ module _ (l : Live) (p : Parts) (pw cw : List ℕ) (f : Fits l p pw cw) where
   pub replied-ends : (head : DescriptorNumber) (ws : List ℕ) (reply : Ranges) (bytes m after : List ℕ) (t : Posted)
       → completion after t ≡ completionOf ws (pendingIn l head reply) bytes m
       → Ends
-      (ordered countersOf (acted (rules.Reply (partsOf (partsNow l p)) bytes) (pendingOf own head (rangesOf ws reply)) m) (deviceOf own) m)
+      (orderedOn own (acted (rules.Reply (partsOf (partsNow l p)) bytes) (pendingOf own head (rangesOf ws reply)) m) m)
       (finishOf (Completed t) l p) pw cw after
   replied-ends head ws reply bytes m after t e = rw same-parts (counted-ends head ws reply bytes m after t e)
 
   registers-fits : (g : Registers) → FitRegisters g → Fits (live.withRegisters g l) p pw cw
-  registers-fits g k =
-      card-fits (live.withRegisters g l) p pw cw (fit-with-registers own (fits-card l p pw cw f) g k)
-      (f .live .states) (f .live .backlogs) (f .counts)
+  registers-fits g k = record { board = board-with-registers l p (f .board) g k; play = f .play; capture = f .capture }
 
   pub broken-fits : Fits (live.withRegisters (broken (l .registers)) l) p pw cw
-  broken-fits = registers-fits (broken (l .registers)) (broken-fit (l .registers) (f .live .registers))
+  broken-fits = registers-fits (broken (l .registers)) (broken-fit (l .registers) (f .board .live .registers))
 
   broken-ends : (cause : Cause) (m : List ℕ)
-      → Ends (ordered countersOf (Done (broke controlQueue cause (restOf own) m)) (deviceOf own) m)
+      → Ends (orderedOn own (Done (broke controlQueue cause (restOf own) m)) m)
       (finishOf (Broke controlQueue cause) l p) pw cw m
   unfolding restOf deviceOf
   broken-ends cause m = (refl, broken-fits)
 
   signalled-fits : (wanted : Bool) → Fits (live.withRegisters (signalledIf wanted (l .registers)) l) p pw cw
-  signalled-fits wanted = registers-fits _ (signal-fit wanted (l .registers) (f .live .registers))
+  signalled-fits wanted = registers-fits _ (signal-fit wanted (l .registers) (f .board .live .registers))
 
 -- ---- a stream Released
 
 module _ (l : Live) (p : Parts) (pw cw : List ℕ) (f : Fits l p pw cw) where
   abbrev streams-counted : l .config .streams ≡ p .«stream_count»
-  streams-counted = ap (λ (c : Config). c .streams) (f .counts)
+  streams-counted = ap (λ (c : Config). c .streams) (f .board .counts)
 
-  pub few-streams : l .config .streams ≤ 2
-  few-streams = omega (arith, streams-counted, f .parts .streams)
+  pub few-streams : l .config .streams ≤ 6
+  few-streams = omega (arith, streams-counted, f .board .parts .streams)
+
+  -- the outputs and the inputs are all streams
+  pub all-streams : l .outputs + l .inputs ≡ p .«stream_count»
+  all-streams = omega (arith, f .board .outputs, f .board .inputs, f .board .parts .some)
 
 module _ (l : Live) (p : Parts) (pw cw : List ℕ) (f : Fits l p pw cw) (id : ℕ) where
   abbrev unmarked : Card
@@ -175,46 +181,63 @@ module _ (l : Live) (p : Parts) (pw cw : List ℕ) (f : Fits l p pw cw) (id : �
   marked-absent : l .config .streams ≤ id → deviceOf unmarked ≡ markedOf id (deviceOf unmarked)
   unfolding restOf deviceOf
   marked-absent h =
-      rw (set-out (take (p .«stream_count») (partsNow l p .streams)) id _ (rw length-take (omega (arith, counted, f .parts .streams))))
+      let those = take (p .«stream_count») (partsNow l p .streams) in
+      let past : length those ≤ id = rw length-take (omega (arith, counted, f .board .parts .streams)) in
+      rw (set-out those id _ past)
 
   -- the stream with its new state
   abbrev changed : Stream
   changed = withState releasedState (getD (partsNow l p .streams) id noStream)
 
-  marked-card : (i : ℕ) → i < 2
-      → partsNow (releasedLive i l) p ≡ withStreamAt i (withState releasedState (getD (partsNow l p .streams) i noStream)) (partsNow l p)
-  marked-card zero h =
-      rw (
-        getD-set-same (l .states) 0 releasedState 0 (omega (arith, f .live .states)),
-        getD-set-other (l .states) 0 1 releasedState 0 (λ e. omega arith),
-      )
-  marked-card (suc zero) h =
-      rw (
-        getD-set-same (l .states) 1 releasedState 0 (omega (arith, f .live .states)),
-        getD-set-other (l .states) 1 0 releasedState 0 (λ e. omega arith),
-      )
-  marked-card (suc (suc i)) h = absurd (omega arith)
+  -- one by one
+  marked-streams : id < 6 → partsNow (releasedLive id l) p .streams ≡ set (partsNow l p .streams) id changed
+  marked-streams h = ext-getD noStream _ _ (sym (length-set (partsNow l p .streams) id changed)) (λ i b. by i b (ℕ-discrete i id)) where
+    by : (i : ℕ) → i < 6 → Dec (i ≡ id)
+        → getD (partsNow (releasedLive id l) p .streams) i noStream ≡ getD (set (partsNow l p .streams) id changed) i noStream
+    by i b (yes q) =
+        rw (
+          q,
+          stream-now (releasedLive id l) p id h,
+          getD-set-same (l .states) id releasedState 0 (omega (arith, f .board .live .states)),
+          getD-set-same (partsNow l p .streams) id changed noStream h,
+          stream-now l p id h,
+        )
+    by i b (no n) =
+        rw (
+          stream-now (releasedLive id l) p i b,
+          getD-set-other (l .states) id i releasedState 0 n,
+          getD-set-other (partsNow l p .streams) id i changed noStream n,
+          stream-now l p i b,
+        )
+
+  marked-parts : id < 6 → partsNow (releasedLive id l) p ≡ withStreamAt id changed (partsNow l p)
+  marked-parts h = rw (marked-streams h)
 
   marked-there : id < l .config .streams
       → (deviceOf (cardIn (releasedLive id l) p pw cw) ≡ markedOf id (deviceOf unmarked)) × Fits (releasedLive id l) p pw cw
   unfolding deviceOf restOf
   marked-there h =
-      let e = marked-card id (omega (arith, few-streams l p pw cw f)) in
+      let e = marked-parts (omega (arith, few-streams l p pw cw f)) in
       let there : id < p .«stream_count» = omega (arith, counted) in (
         ap (λ (q : Parts). deviceOf (withParts q unmarked)) e
             ∙ rw (take-set-lt (p .«stream_count») (partsNow l p .streams) id changed there, stream-at (partsNow l p) id there),
         record {
-          live =
+          board =
               record {
-                registers = f .live .registers;
-                four = f .live .four;
-                states = length-set (l .states) id releasedState ∙ f .live .states;
-                backlogs = f .live .backlogs;
+                live =
+                    record {
+                      registers = f .board .live .registers;
+                      four = f .board .live .four;
+                      states = length-set (l .states) id releasedState ∙ f .board .live .states;
+                      backlogs = f .board .live .backlogs;
+                    };
+                parts = rw e (fit-with-stream id changed (omega arith) (partsNow l p) (f .board .parts));
+                counts = f .board .counts;
+                outputs = f .board .outputs;
+                inputs = f .board .inputs;
               };
           play = f .play;
           capture = f .capture;
-          parts = rw e (fit-with-stream id changed (omega arith) (partsNow l p) (f .parts));
-          counts = f .counts;
         },
       )
 
@@ -226,21 +249,21 @@ module _ (l : Live) (p : Parts) (pw cw : List ℕ) (f : Fits l p pw cw) (id : �
     by false e = rw e (marked-absent (omega (arith, ltb-false id (l .config .streams) e)), f)
 
 -- what a Release leaves to do, by what its queue's emptying left
-module _ (c : Card) (head : DescriptorNumber) (reply : List Range) (id : ℕ) (signal : Bool) (m : List ℕ) where
+module _ (c : Card) (head : DescriptorNumber) (reply : List Range) (d : Direction) (id : ℕ) (signal : Bool) (m : List ℕ) where
   -- the card with the signal
   abbrev signalledCard : Card
   signalledCard = card.withRegisters (signalledIf signal (c .registers)) c
 
   end-broken : (cause : Cause)
-      → endsOn c (releasedOf id (pendingOf c head reply) m (Stop.Broke cause) signal)
+      → endsOn c (releasedOn d id (pendingOf c head reply) m (Stop.Broke cause) signal)
       ≡ leaves (card.withRegisters (broken (signalledCard .registers)) signalledCard)
-      (brokenAnswer (queueNumber (directionOf id)) cause) 0 [] [] m
-  unfolding releasedOf restOf deviceOf
+      (brokenAnswer (queueNumber d) cause) 0 [] [] m
+  unfolding restOf deviceOf
   end-broken cause = refl
 
   end-replied : (n : Card) → deviceOf n ≡ markedOf id (deviceOf signalledCard)
-      → endsOn c (releasedOf id (pendingOf c head reply) m Stop.Going signal) ≡ endsOn n (replied (pendingOf n head reply) (status sOk) m)
-  unfolding releasedOf restOf deviceOf
+      → endsOn c (releasedOn d id (pendingOf c head reply) m Stop.Going signal) ≡ endsOn n (replied (pendingOf n head reply) (status sOk) m)
+  unfolding restOf deviceOf
   end-replied n e =
       ap (λ (b : Device Queue). stepBy (replied (record { rest = b .rest; head = head .0; reply = reply }) (status sOk) m) b) (sym e)
 
@@ -253,16 +276,20 @@ module _ (l : Live) (p : Parts) (pw cw : List ℕ) (f : Fits l p pw cw) (id : �
   abbrev emptiedCard : Card
   emptiedCard = cardIn (r .live) p pw′ cw′
 
-  abbrev pub released : Step (Device Queue)
-  released = ordered countersOf (ReleaseFirst id (pendingOf entered head (rangesOf ws reply))) (deviceOf entered) m
+  -- the stream's direction
+  abbrev side : Direction
+  side = directionOf (streamsIn p) id
 
-  to-end : released ≡ endsOn emptiedCard (releasedOf id (pendingOf emptiedCard head (rangesOf ws reply)) m′ (r .stop) (r .signal))
+  abbrev pub released : Step (Device Queue)
+  released = orderedOn entered (ReleaseFirst id (pendingOf entered head (rangesOf ws reply))) m
+
+  to-end : released ≡ endsOn emptiedCard (releasedOn side id (pendingOf emptiedCard head (rangesOf ws reply)) m′ (r .stop) (r .signal))
   to-end =
-      released-ordered entered emptiedCard m m′ (r .stop) (r .signal) id (pendingOf entered head (rangesOf ws reply)) refl
-      (directionOf id) refl (e p f .0)
+      released-ordered entered emptiedCard m m′ (r .stop) (r .signal) id (pendingOf entered head (rangesOf ws reply)) refl side refl
+      (e p f .0)
 
   by-stop : (stop : Stop) → r .stop ≡ stop
-      → released ≡ endsOn emptiedCard (releasedOf id (pendingOf emptiedCard head (rangesOf ws reply)) m′ stop (r .signal))
+      → released ≡ endsOn emptiedCard (releasedOn side id (pendingOf emptiedCard head (rangesOf ws reply)) m′ stop (r .signal))
   by-stop stop h = rw (← h) to-end
 
   -- the small state with its signal
@@ -272,12 +299,14 @@ module _ (l : Live) (p : Parts) (pw cw : List ℕ) (f : Fits l p pw cw) (id : �
   pub emptied-fits : Fits signalledLive p pw′ cw′
   emptied-fits = signalled-fits (r .live) p pw′ cw′ (e p f .1) (r .signal)
 
-  pub release-broken : (cause : Cause) → r .stop ≡ Stop.Broke cause
-      → Ends released (finishOf (Broke (queueNumber (directionOf id)) cause) signalledLive p) pw′ cw′ m′
-  release-broken cause h = (
-    by-stop (Stop.Broke cause) h ∙ end-broken emptiedCard head (rangesOf ws reply) id (r .signal) m′ cause,
-    broken-fits signalledLive p pw′ cw′ emptied-fits,
-  )
+  pub release-broken : (cause : Cause) (q : ℕ) → q ≡ queueNumber (directionOf (streamsLive l) id) → r .stop ≡ Stop.Broke cause
+      → Ends released (finishOf (Broke q cause) signalledLive p) pw′ cw′ m′
+  release-broken cause q at h =
+      let named : q ≡ queueNumber side = at ∙ ap (λ (n : ℕ). queueNumber (cond (ltb id n) output input)) (f .board .outputs) in
+      rw named (
+        by-stop (Stop.Broke cause) h ∙ end-broken emptiedCard head (rangesOf ws reply) side id (r .signal) m′ cause,
+        broken-fits signalledLive p pw′ cw′ emptied-fits,
+      )
 
   pub release-going : (after : List ℕ) (t : Posted) → r .stop ≡ Stop.Going
       → completion after t ≡ completionOf ws (pendingIn (markedLive id signalledLive) head reply) (status sOk) m′
@@ -285,7 +314,7 @@ module _ (l : Live) (p : Parts) (pw cw : List ℕ) (f : Fits l p pw cw) (id : �
   release-going after t h k =
       let n = marked-in signalledLive p pw′ cw′ emptied-fits id in
       let o = counted-ends (markedLive id signalledLive) p pw′ cw′ (n .1) head ws reply (status sOk) m′ after t k in
-      (by-stop Stop.Going h ∙ end-replied emptiedCard head (rangesOf ws reply) id (r .signal) m′ _ (n .0) ∙ o .0, o .1)
+      (by-stop Stop.Going h ∙ end-replied emptiedCard head (rangesOf ws reply) side id (r .signal) m′ _ (n .0) ∙ o .0, o .1)
 
 -- ---- a message that was walked whole
 
@@ -311,7 +340,7 @@ module _ (c : Card) (head : DescriptorNumber) (request reply : List Range) (m : 
         )
 
     pub chain-acted : sideOf (length m) request ≡ Usable → (s : rules.Served)
-        → s ≡ rules.served (partsOf (c .parts)) (bytesAt m (places request)) (total reply)
+        → s ≡ servedOn c (partsOf (c .parts)) (bytesAt m (places request)) (total reply)
         → servedChain c head request reply m ≡ acted s (pendingOf c head reply) m
     unfolding restOf
     chain-acted k s e =
@@ -348,12 +377,18 @@ module _ (l : Live) (p : Parts) (pw cw : List ℕ) (f : Fits l p pw cw) (head : 
   module _ (ps : rules.Parts) (bytes : List ℕ)
       (s : Serves ws (pendingIn l head reply) (partsNow l p) (rules.Reply ps bytes) r m after) where
     kept-card : servedCard ≡ withParts (r .parts) asked
-    kept-card = ap (λ (q : Parts). withParts q asked) (parts-kept l (r .parts) (s .fit .two-streams))
+    kept-card = ap (λ (q : Parts). withParts q asked) (parts-kept l (r .parts) (s .fit .six-streams))
+
+    -- as many of each kind
+    counts-kept : configIn (r .parts) ≡ configIn p
+    counts-kept = ap (λ (o : Outcome). configIn (o .served .parts)) (s .whole)
+
+    outputs-kept : r .parts .«output_count» ≡ p .«output_count»
+    outputs-kept = ap (λ (o : Outcome). o .served .parts .«output_count») (s .whole)
 
     kept-fits : Fits servedLive (r .parts) pw cw
     kept-fits =
-        card-fits servedLive (r .parts) pw cw (rw kept-card (fit-with-parts asked (r .parts) (fits-card l p pw cw f) (s .fit))) refl refl
-        (f .counts ∙ sym (ap (λ (o : Outcome). configIn (o .served .parts)) (s .whole)))
+        record { board = keep-board l p (r .parts) (f .board) (s .fit) counts-kept outputs-kept; play = f .play; capture = f .capture }
 
     served-rest : restOf servedCard ≡ rules.withParts ps (restOf asked)
     unfolding restOf
@@ -362,7 +397,7 @@ module _ (l : Live) (p : Parts) (pw cw : List ℕ) (f : Fits l p pw cw) (head : 
     served-device : stepBy (replied (withRest (rules.withParts ps (restOf asked)) asks) bytes m) (deviceOf asked)
         ≡ endsOn servedCard (replied (pendingOf servedCard head (rangesOf ws reply)) bytes m)
     unfolding deviceOf
-    served-device = rw served-rest
+    served-device = rw (served-rest, outputs-kept, ap (λ (c : Config). c .streams) counts-kept)
 
   posted-in : Kind → Posted → Posted
   posted-in (kinds.Completed t) d = t
@@ -371,7 +406,7 @@ module _ (l : Live) (p : Parts) (pw cw : List ℕ) (f : Fits l p pw cw) (head : 
   -- the message is completed
   pub served-completed : (rule : rules.Served) (t : Posted) → Serves ws (pendingIn l head reply) (partsNow l p) rule r m after
       → r .kind ≡ kinds.Completed t
-      → Ends (ordered countersOf (acted rule asks m) (deviceOf asked) m) (finishOf (Completed t) servedLive (r .parts)) pw cw after
+      → Ends (orderedOn asked (acted rule asks m) m) (finishOf (Completed t) servedLive (r .parts)) pw cw after
   unfolding posted-in
   served-completed (rules.Reply ps bytes) t s k =
       let w = s .whole in
@@ -389,7 +424,7 @@ module _ (l : Live) (p : Parts) (pw cw : List ℕ) (f : Fits l p pw cw) (head : 
   -- a stream is released first: memory is as it was
   pub served-release : (rule : rules.Served) (id : ℕ) → Serves ws (pendingIn l head reply) (partsNow l p) rule r m after
       → r .kind ≡ kinds.Release id
-      → (acted rule asks m ≡ ReleaseFirst id asks) × (after ≡ m)
+      → (acted rule asks m ≡ ReleaseFirst id asks) × (after ≡ m) × (id < l .outputs + l .inputs)
   served-release (rules.Reply ps bytes) id s k =
       let told : kinds.Release id ≡ kinds.Completed (postedBy (completionOf ws (pendingIn l head reply) bytes m)) =
       sym k ∙ ap (λ (o : Outcome). o .served .kind) (s .whole) in
@@ -397,7 +432,9 @@ module _ (l : Live) (p : Parts) (pw cw : List ℕ) (f : Fits l p pw cw) (head : 
       absurd (omega arith)
   served-release (rules.Release n) id s k =
       let told : kinds.Release n ≡ kinds.Release id = sym (ap (λ (o : Outcome). o .served .kind) (s .whole)) ∙ k in
-      (rw (released-same n id told), ap (λ (o : Outcome). o .memory) (s .whole))
+      let same = released-same n id told in
+      let there : n < p .«stream_count» = rw (ap (λ (o : Outcome). o .served .parts) (s .whole)) at (s .stand) in
+      (rw same, ap (λ (o : Outcome). o .memory) (s .whole), omega (arith, same, there, all-streams l p pw cw f))
 
 -- ---- the next message
 
@@ -411,15 +448,11 @@ module _ (b b′ : Device Queue) (e : SameQueues b b′) where
   with-same output r q = rw (e .capture)
   with-same input r q = rw (e .play)
 
-  release-same : (id : ℕ) (p : Pending) (x : transfers.Emptied Queue) → releaseStep id p b x ≡ releaseStep id p b′ x
-  unfolding releaseStep
-  release-same id p x = rw (with-same (directionOf id) (releasedOf id p (x .mem) (x .stop) (x .signal) .rest) (x .queue))
-
-  ordered-same : (o : Order) (m : List ℕ) → ordered countersOf o b m ≡ ordered countersOf o b′ m
-  ordered-same (Done o) m = rw (e .play, e .capture)
-  ordered-same (ReleaseFirst id p) m =
-      let d = directionOf id in
-      rw (queue-same d) (release-same id p (transfers.emptied (countersOf d) (releaseQueue id (p .rest)) (queueFor d b′) m))
+  ordered-same : (n : Streams) (o : Order) (m : List ℕ)
+      → orderedBy (releaseBy n (claim.card n)) o b m ≡ orderedBy (releaseBy n (claim.card n)) o b′ m
+  unfolding releaseBy
+  ordered-same n (Done o) m = rw (e .play, e .capture)
+  ordered-same n (ReleaseFirst id p) m = let d = directionOf n id in rw (queue-same d, with-same d _ _)
 
 module _ (l : Live) (p : Parts) (pw cw : List ℕ) (f : Fits l p pw cw) (m : List ℕ) where
   abbrev here : Card
@@ -436,7 +469,7 @@ module _ (l : Live) (p : Parts) (pw cw : List ℕ) (f : Fits l p pw cw) (m : Lis
       }
   unfolding restOf
   taken-device =
-      held-device here (fits-card l p pw cw f) (l .registers) (oneTaken (countersAt here controlQueue)) controlQueue (omega arith)
+      held-device here (f .board .live .four) (l .registers) (oneTaken (countersAt here controlQueue)) controlQueue (omega arith)
 
   taken-rest : restOf takenCard ≡ withControl (oneTaken (restOf here .control)) (restOf here)
   unfolding deviceOf
@@ -448,22 +481,22 @@ module _ (l : Live) (p : Parts) (pw cw : List ℕ) (f : Fits l p pw cw) (m : Lis
       record { play = ap (λ (d : Device Queue). d .play) e; capture = ap (λ (d : Device Queue). d .capture) e }
 
   pub taken-fits : Fits (takenLive l) p pw cw
-  taken-fits = held-fits l p pw cw f (l .registers) _ (f .live .registers) controlQueue (omega arith)
+  taken-fits = held-fits l p pw cw f (l .registers) _ (f .board .live .registers) controlQueue (omega arith)
 
   -- the head that the ring has next
   abbrev pub nextHead : Head
   nextHead = ring.headOf m (pageIn here) (sizeOf controlQueue) (countersAt here controlQueue .taken)
 
   pub next-broken : (cause : Cause) → nextHead ≡ Head.Broken cause
-      → Ends (ordered countersOf (nextOrder here m) (deviceOf here) m) (finishOf (Broke controlQueue cause) l p) pw cw m
+      → Ends (orderedOn here (nextOrder here m) m) (finishOf (Broke controlQueue cause) l p) pw cw m
   next-broken cause h = rw (page-in here, h) (broken-ends l p pw cw f cause m)
 
   pub next-at : (n : DescriptorNumber) → nextHead ≡ Head.At n
-      → ordered countersOf (nextOrder here m) (deviceOf here) m ≡ ordered countersOf (walkedAt takenCard n m) (deviceOf takenCard) m
+      → orderedOn here (nextOrder here m) m ≡ orderedOn takenCard (walkedAt takenCard n m) m
   next-at n h =
       let e : nextOrder here m ≡ walkedAt takenCard n m = rw (taken-rest, page-in here, h, page-in here) in
-      ordered-same (deviceOf here) (deviceOf takenCard) taken-queues (nextOrder here m) m
-      ∙ ap (λ (o : Order). ordered countersOf o (deviceOf takenCard) m) e
+      ordered-same (deviceOf here) (deviceOf takenCard) taken-queues (streamsIn p) (nextOrder here m) m
+      ∙ ap (λ (o : Order). orderedOn takenCard o m) e
 
 -- ---- the call
 
@@ -475,11 +508,11 @@ module _ (c : Card) (m : List ℕ) where
   -- "Control: 1, 5, 9."
   abbrev pub byTests : Bool → Bool → Order
   byTests long is-live =
-      cond long (cond is-live (controlFound (restOf c) m checkIn) (Done (refusedWith notLive (restOf c) m)))
+      cond long (cond is-live (controlFoundBy (servedOn c) (restOf c) m checkIn) (Done (refusedWith notLive (restOf c) m)))
       (Done (refusedWith lengthDiffers (restOf c) m))
 
   control-by : stepOf c Control m
-      ≡ ordered countersOf (byTests (eqb (length m) (c .«ram_len»)) (registers.live (c .registers))) (deviceOf c) m
+      ≡ orderedOn c (byTests (eqb (length m) (c .«ram_len»)) (registers.live (c .registers))) m
   unfolding orderOf restOf deviceOf
   control-by = refl
 
@@ -507,7 +540,7 @@ module _ (c : Card) (m : List ℕ) where
       control-broken cause h = rw (control-by, long, lives, h)
 
       pub control-next : (n : ℕ) → checkIn ≡ Check.New n → (n ≡ 0 → ⊥)
-          → stepOf c Control m ≡ ordered countersOf (nextOrder c m) (deviceOf c) m
+          → stepOf c Control m ≡ orderedOn c (nextOrder c m) m
       unfolding restOf
       control-next zero h z = absurd (z refl)
       control-next (suc n) h z = rw (control-by, long, lives, h)

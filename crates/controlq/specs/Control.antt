@@ -20,18 +20,25 @@ use Rattle.card.specs.Card.{noCounters, releasedState}
 use Rattle.card.specs.declared.Card.{Card}
 use Rattle.card.specs.declared.Counters.{Counters}
 use Rattle.card.specs.declared.Parts.{Parts}
-use Rattle.live.specs.Live.{cardIn, Fits}
+use Rattle.live.specs.Live.{cardIn}
 use Rattle.live.specs.Setters.{withRegisters, withStates}
 use Rattle.live.specs.declared.Live.{Live}
 use Rattle.control.specs.Control.{changedBy}
 use Rattle.control.specs.declared.Change.{Change}
 use Rattle.control.specs.declared.Change.the-variants as change
-use Rattle.meaning.specs.Card.{countersAt, partsOf, restOf, deviceOf, stepOf, leaves}
+use Rattle.line_calls.specs.Calls.{Request, served, releaseBy, releaseQueue}
+use Rattle.line_calls.specs.Claim.{card}
+use Rattle.line_calls.specs.Streams.{Streams, streamsIn, directionOf}
+use Rattle.meaning.specs.Card.{countersAt, restOf, deviceOf, stepOf, leaves}
+use Rattle.meaning.specs.Fit.{Fits}
+use Rattle.queue_lines.specs.Chains.{lineOf}
+use Rattle.queue_lines.specs.Counters.{Queue}
 use Rattle.device.specs.Answers.{brokenAnswer}
-use Rattle.rules.specs.Calls.{Request, Result, Step, Pending, Order, stepBy, ordered, acted, indirect, readMessage, controlHead}
-use Rattle.rules.specs.Control.{served, withState, withStream}
-use Rattle.device.specs.Counters.{countersOf}
-use Rattle.device.specs.Device.{Device, Queue, directionOf, pageOf, streamAt, signalledIf, oneTaken}
+use Rattle.rules.specs.Calls.{Result, Step, Pending, Order, stepBy, orderedBy, acted, indirect, readMessageBy, controlHeadBy}
+use Rattle.rules.specs.Control as rules
+use Rattle.rules.specs.Control.{withState, withStream}
+use Rattle.rules.specs.Parts.{partsOf}
+use Rattle.device.specs.Device.{Device, pageOf, streamAt, signalledIf, oneTaken}
 use Rattle.device.specs.Numbers.{controlQueue}
 use Rattle.reply.specs.declared.Pending as reply
 use Rattle.stream.specs.Held.{holdingLive}
@@ -73,20 +80,28 @@ pendingIn l head ranges =
 abbrev pub sideOf : ℕ → List Range → Side
 sideOf len rs = cond (allInside len rs && leb 4 (total rs)) Usable Unusable
 
+-- what a request comes to on this card, and the step of what a message orders
+abbrev pub servedOn : Card → rules.Parts → List ℕ → ℕ → rules.Served
+servedOn c p request room = served (streamsIn (c .parts)) p request room
+
+abbrev pub orderedOn : Card → Order → List ℕ → Step (Device Queue)
+orderedOn c o m = orderedBy (releaseBy (streamsIn (c .parts)) (card (streamsIn (c .parts)))) o (deviceOf c) m
+
 -- the rules' order for a message of these sides
 abbrev pub servedChain : Card → DescriptorNumber → List Range → List Range → List ℕ → Order
-servedChain c head request reply m = readMessage (restOf c) m (head .0) (whole request reply)
+servedChain c head request reply m = readMessageBy (servedOn c) (restOf c) m (head .0) (whole request reply)
 
 -- the rules' order for the message at a head, taken
 abbrev pub walkedAt : Card → DescriptorNumber → List ℕ → Order
 walkedAt c head m =
-    readMessage (restOf c) m (head .0)
+    readMessageBy (servedOn c) (restOf c) m (head .0)
     (walkOf m (baseOf (pageOf (restOf c) controlQueue)) (sizeOf controlQueue) (head .0) (indirect (restOf c)))
 
 -- the rules' order for the next message
 abbrev pub nextOrder : Card → List ℕ → Order
 nextOrder c m =
-    controlHead (restOf c) m (ring.headOf m (pageOf (restOf c) controlQueue) (sizeOf controlQueue) (countersAt c controlQueue .taken))
+    controlHeadBy (servedOn c) (restOf c) m
+    (ring.headOf m (pageOf (restOf c) controlQueue) (sizeOf controlQueue) (countersAt c controlQueue .taken))
 
 -- ---- what is left
 
@@ -123,19 +138,18 @@ asksIn c ws message = pendingOf c (message .head) (rangesOf ws (message .reply))
 
 -- the step of the rules for the message at a head, taken
 abbrev pub walkedStep : Card → DescriptorNumber → List ℕ → Step (Device Queue)
-walkedStep c head m = ordered countersOf (walkedAt c head m) (deviceOf c) m
+walkedStep c head m = orderedOn c (walkedAt c head m) m
 
 -- .. for one of this request and this reply
 abbrev pub servedStep : Card → List ℕ → Ranges → Message → List ℕ → Step (Device Queue)
 servedStep c ws request message m =
-    ordered countersOf
-    (acted (served (partsOf (c .parts)) (bytesAt m (places (rangesOf ws request))) (message .reply .bytes)) (asksIn c ws message) m)
-    (deviceOf c) m
+    orderedOn c
+    (acted (servedOn c (partsOf (c .parts)) (bytesAt m (places (rangesOf ws request))) (message .reply .bytes)) (asksIn c ws message) m) m
 
 -- .. for a request that may change the parts, by its first bytes
 abbrev pub changeStep : Change → Card → List ℕ → Message → List ℕ → List ℕ → Step (Device Queue)
 changeStep change c ws message bs m =
-    ordered countersOf (acted (changedBy change (partsOf (c .parts)) bs) (asksIn c ws message) m) (deviceOf c) m
+    orderedOn c (acted (changedBy change (partsOf (c .parts)) bs) (asksIn c ws message) m) m
 
 -- every card with this small state: what the checks of a call and the next head make of it
 abbrev pub Finds : Live → List ℕ → Next → Type 0
@@ -177,14 +191,19 @@ Turns l p m ws bs m′ (Turn.Taken a) =
 
 -- ---- a Release
 
--- a stream's queue emptied with statuses of the backlog that the stream remembers, in every card with this small state and these words
+-- a stream's line emptied with statuses of the backlog that the stream remembers: ".. and a Release ends, its own stream's line only"
+abbrev pub EmptiesLine : ℕ → Card → List ℕ → List ℕ → Emptied → Card → Type 0
+EmptiesLine id c m m′ r after =
+    let n : Streams = streamsIn (c .parts) in
+    Empties (directionOf n id) (lineOf (releaseQueue n id (restOf c)) id) (streamAt (restOf c) id .backlog) c m m′ (r .stop) (r .signal)
+    after
+
+-- .. in every card with this small state and these words
 abbrev pub EmptiesFor : ℕ → Live → List ℕ → List ℕ → List ℕ → List ℕ → List ℕ → List ℕ → Emptied → Type 0
 EmptiesFor id l pw cw m pw′ cw′ m′ r =
     (p : Parts)
     → Fits l p pw cw
-    → Empties (directionOf id) (streamAt (restOf (cardIn l p pw cw)) id .backlog) (cardIn l p pw cw) m m′ (r .stop) (r .signal)
-    (cardIn (r .live) p pw′ cw′)
-    × Fits (r .live) p pw′ cw′
+    → EmptiesLine id (cardIn l p pw cw) m m′ r (cardIn (r .live) p pw′ cw′) × Fits (r .live) p pw′ cw′
 
 -- "the stream Released"
 abbrev pub markedOf : ℕ → Device Queue → Device Queue

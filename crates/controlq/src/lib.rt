@@ -4,22 +4,24 @@
 // change the parts hands them on; every other end leaves them as they are.
 ghost use mathlib.Core.Path.{_≡_};
 ghost use mathlib.Core.List.{[]};
-ghost use Prim.Native.Nat.{_≤_};
+ghost use Prim.Native.Nat.{_+_, _≤_, _<_};
 ghost use lib.ListN.{length, replicate};
-ghost use Rattle.live.specs.Live.{FitLive, FitPlay, FitCapture, Fits, partsNow, cardIn};
+ghost use Rattle.live.specs.Live.{FitLive, partsNow, cardIn};
 ghost use Rattle.live.specs.Setters.{withRegisters};
 ghost use Rattle.card.specs.Fit.{FitParts};
-ghost use Rattle.meaning.specs.Card.{deviceOf, stepOf, leaves};
+ghost use Rattle.line_calls.specs.Calls.{Request};
+ghost use Rattle.line_calls.specs.Streams.{directionOf};
+ghost use Rattle.meaning.specs.Card.{stepOf, leaves};
+ghost use Rattle.meaning.specs.Fit.{Fits, FitQueue, streamsLive};
 ghost use Rattle.ranges.specs.Ranges.{Sound, noRanges, rangesOf};
 ghost use Rattle.registers.specs.Map.{sizeOf};
 ghost use Rattle.reply.specs.Reply.{closedOf};
 ghost use Rattle.ring.specs.Rules.{completion};
-ghost use Rattle.rules.specs.Calls.{Request, ReleaseFirst, ordered};
-ghost use Rattle.device.specs.Counters.{countersOf};
-ghost use Rattle.device.specs.Device.{queueNumber, directionOf, signalledIf};
+ghost use Rattle.rules.specs.Calls.{ReleaseFirst};
+ghost use Rattle.device.specs.Device.{output, input, queueNumber, signalledIf};
 ghost use Rattle.device.specs.Numbers.{controlQueue};
 ghost use Rattle.controlq.specs.Control.{pendingIn, sideOf, takenLive, countedLive, markedLive, finishOf, Ends, EmptiesFor, Finds};
-ghost use Rattle.controlq.specs.Control.{Meets, Answers, Turns, asksIn, changeStep};
+ghost use Rattle.controlq.specs.Control.{Meets, Answers, Turns, asksIn, orderedOn, changeStep};
 use card::Counters;
 use card::Parts;
 use chain::End;
@@ -219,7 +221,7 @@ fn signal(live: Live, wanted: bool) -> Live
 
 // The stream is Released; a number that is no stream's changes nothing.
 fn mark_released(live: Live, id: u32) -> Live
-    requires { ⌜ FitLive live × (live .config .streams ≤ 2) ⌝ }
+    requires { ⌜ FitLive live × (live .config .streams ≤ 6) ⌝ }
     ensures { λ r. ⌜ r ≡ markedLive id live ⌝ }
 {
     let config = live.config;
@@ -232,16 +234,16 @@ fn mark_released(live: Live, id: u32) -> Live
 }
 
 // The number of a stream's queue.
-fn queue_of(id: u32) -> u8
-    ensures { λ r. ⌜ r ≡ queueNumber (directionOf id) ⌝ }
+fn queue_of(live: Live, id: u32) -> u8
+    ensures { λ r. ⌜ r ≡ queueNumber (directionOf (streamsLive live) id) ⌝ }
 {
-    if id == 0 {
+    if id < live.outputs as u32 {
         return message::queue_number(Direction::Output);
     }
     message::queue_number(Direction::Input)
 }
 
-// A stream's queue is emptied, with statuses of the backlog that the stream remembers.
+// A stream's line is emptied, with statuses of the backlog that the stream remembers.
 fn empty(
     live: Live,
     play_words: &mut [u64],
@@ -249,19 +251,27 @@ fn empty(
     m: &mut [u8],
     id: u32,
 ) -> Emptied
-    requires { ⌜ FitLive live × FitPlay live (now «play_words») × FitCapture live (now «capture_words»)
-        × (length (now m) ≡ live .«ram_len») ⌝ }
+    requires { ⌜ FitLive live × FitQueue output live (now «play_words») × FitQueue input live (now «capture_words»)
+        × (length (now m) ≡ live .«ram_len») × (id < live .outputs + live .inputs) ⌝ }
     ensures { λ r. ⌜ EmptiesFor id live (now («play_words» .entry)) (now («capture_words» .entry)) (now (m .entry))
         (now («play_words» .exit)) (now («capture_words» .exit)) (now (m .exit)) r ⌝ }
 {
     let latency = stream::backlog(live, id);
-    if id == 0 {
-        return stream::empty(live, play_words, m, Direction::Output, latency);
+    let outputs = live.outputs as u32;
+    if id < outputs {
+        return stream::empty(live, play_words, m, Direction::Output, latency, id);
     }
-    stream::empty(live, capture_words, m, Direction::Input, latency)
+    stream::empty(
+        live,
+        capture_words,
+        m,
+        Direction::Input,
+        latency,
+        id - outputs,
+    )
 }
 
-// A stream is released: its queue first, then the stream is Released and the message answered. If the
+// A stream is released: its line first, then the stream is Released and the message answered. If the
 // queue broke, the message stays taken and the stream keeps its state.
 fn release(
     live: Live,
@@ -273,12 +283,13 @@ fn release(
     message: Message,
     id: u32,
 ) -> ControlAnswer
-    requires { ⌜ Fits live parts (now «play_words») (now «capture_words») × (length (now m) ≡ live .«ram_len») ⌝ }
+    requires { ⌜ Fits live parts (now «play_words») (now «capture_words») × (length (now m) ≡ live .«ram_len»)
+        × (id < live .outputs + live .inputs) ⌝ }
     ensures { λ r. ⌜ Ends
-        (ordered countersOf
+        (orderedOn (cardIn live parts (now («play_words» .entry)) (now («capture_words» .entry)))
         (ReleaseFirst id
         (asksIn (cardIn live parts (now («play_words» .entry)) (now («capture_words» .entry))) (now (list .entry)) message))
-        (deviceOf (cardIn live parts (now («play_words» .entry)) (now («capture_words» .entry)))) (now (m .entry)))
+        (now (m .entry)))
         r (now («play_words» .exit)) (now («capture_words» .exit)) (now (m .exit)) ⌝ }
 {
     let emptied = empty(live, play_words, capture_words, m, id);
@@ -286,7 +297,7 @@ fn release(
     let stop = emptied.stop;
     let signalled = signal(after, emptied.signal);
     match stop {
-        Stop::Broke(cause) => finish(signalled, parts, Ending::Broke(queue_of(id), cause)),
+        Stop::Broke(cause) => finish(signalled, parts, Ending::Broke(queue_of(live, id), cause)),
         Stop::Going => {
             let marked = mark_released(signalled, id);
             let pending = pending_in(marked, message.head, message.reply);

@@ -54,9 +54,14 @@ lawfulPositions channels i (p ∷ ps) = lawfulPosition channels i p && lawfulPos
 unfoldable pub lawfulMap : MapInfo → Bool
 lawfulMap m = leb (m .direction) 1 && leb 1 (m .channels) && leb (m .channels) 18 && lawfulPositions (m .channels) 0 (m .positions)
 
--- "0 to 4 jacks, 0 to 4 channel maps, output stream 0 and perhaps input stream 1"
+-- order 8: "one to four output and up to two input streams, outputs numbered first"; "Refusals: answer 10 for stream lists outside the new
+-- numbers."
+abbrev pub lawfulStreams : ℕ → ℕ → Bool
+lawfulStreams outputs inputs = leb 1 outputs && leb outputs 4 && leb inputs 2
+
+-- "0 to 4 jacks, 0 to 4 channel maps", and the streams of order 8
 unfoldable pub lawfulCounts : Description → Bool
-lawfulCounts d = leb (d .«jack_count») 4 && leb (d .«map_count») 4 && eqb (d .«output_count») 1 && leb (d .«input_count») 1
+lawfulCounts d = leb (d .«jack_count») 4 && leb (d .«map_count») 4 && lawfulStreams (d .«output_count») (d .«input_count»)
 
 unfoldable pub lawful : Description → Bool
 lawful d =

@@ -16,5 +16,5 @@ nothingDescribed =
       «input_count» = 0;
       jacks = replicate 4 noJack;
       maps = replicate 4 zeroMap;
-      streams = replicate 2 noStream;
+      streams = replicate 6 noStream;
     }

@@ -6,8 +6,8 @@ ghost use Rattle.description.specs.Nothing.{nothingDescribed};
 ghost use Rattle.description.specs.Lawful.{every, lawful, lawfulJack, lawfulMap, lawfulStream, lawfulChannels, lawfulPositions};
 ghost use Rattle.description.specs.Lawful.{lawfulPosition, inBits};
 
-// How many streams a card can have.
-pub const STREAMS: usize = 2;
+// How many streams a card can have: four outputs and two inputs.
+pub const STREAMS: usize = 6;
 
 #[repr(C)]
 pub struct JackInfo {
@@ -224,7 +224,7 @@ fn maps_lawful(maps: [MapInfo; 4], n: usize) -> bool
 }
 
 fn streams_lawful(streams: [StreamInfo; STREAMS], n: usize) -> bool
-    requires { ⌜ n ≤ 2 ⌝ }
+    requires { ⌜ n ≤ 6 ⌝ }
     ensures { λ r. ⌜ r ≡ every lawfulStream (take n streams) ⌝ }
 {
     let mut i = 0;
@@ -248,10 +248,13 @@ pub fn is_lawful(d: Description) -> bool
     if 4 < d.map_count {
         return false;
     }
-    if d.output_count != 1 {
+    if d.output_count < 1 {
         return false;
     }
-    if 1 < d.input_count {
+    if 4 < d.output_count {
+        return false;
+    }
+    if 2 < d.input_count {
         return false;
     }
     let jacks = d.jacks;

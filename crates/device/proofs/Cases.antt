@@ -1,9 +1,12 @@
--- Cases of a Bool test, each with what the test then tells; something is not nothing. (`by-cond`, for one choice, is the registers'.)
-use mathlib.Core.Path.{_≡_, refl, ap}
-use mathlib.Core.Bool.{Bool, true, false, cond}
+-- Cases of a Bool test, each with what the test then tells; something is not nothing; forms and endings told apart. (`by-cond`, for one
+-- choice, is the registers'.)
+use mathlib.Core.Path.{_≡_, refl, sym, ap}
+use mathlib.Core.Bool.{Bool, true, false, cond, true≢false}
 use mathlib.Core.Option.{Option, none, some}
 use Prim.Native.Nat.{ℕ}
 use native.Mathlib.Omega.{arith}
+use Rattle.device.specs.Device.{Form, wellFormed, refused, silent, unwalked, finished, released}
+use Rattle.device.specs.Transfer.{isWell}
 
 -- a choice is shown as another where each of its two ways is
 pub map-cond :
@@ -33,3 +36,12 @@ sizeOf (some x) = 1
 
 pub none-some : {A : Type 0} (x : A) → _≡_ {A = Option A} none (some x) → ⊥
 none-some x e = let z : _≡_ {A = ℕ} 0 1 = ap sizeOf e in omega arith
+
+pub well-of : (f : Form) → isWell f ≡ true → f ≡ wellFormed
+well-of wellFormed e = refl
+well-of refused e = absurd (true≢false (sym e))
+well-of silent e = absurd (true≢false (sym e))
+well-of (unwalked fault) e = absurd (true≢false (sym e))
+
+pub released-not : released ≡ finished → ⊥
+released-not e = let z : _≡_ {A = ℕ} 0 1 = cc in omega arith

@@ -24,24 +24,11 @@ pub each-append : {A : Type 0} (P : A → Type 0) (xs ys : List A) → Each P xs
 each-append P [] ys p q = q
 each-append P (x ∷ xs) ys p q = (p .0, each-append P xs ys (p .1) q)
 
-pub each-behind : {A : Type 0} (P : A → Type 0) (xs ys : List A) → Each P (xs ++ ys) → Each P ys
-each-behind P [] ys p = p
-each-behind P (x ∷ xs) ys p = each-behind P xs ys (p .1)
-
 pub each-map : {A : Type 0} (P Q : A → Type 0) (xs : List A) → ((x : A) → P x → Q x) → Each P xs → Each Q xs
 each-map P Q [] f p = tt
 each-map P Q (x ∷ xs) f p = (f x (p .0), each-map P Q xs f (p .1))
 
-pub each-map₂ : {A : Type 0} (P Q R : A → Type 0) (xs : List A) → ((x : A) → P x → Q x → R x) → Each P xs → Each Q xs → Each R xs
-each-map₂ P Q R [] f p q = tt
-each-map₂ P Q R (x ∷ xs) f p q = (f x (p .0) (q .0), each-map₂ P Q R xs f (p .1) (q .1))
-
 -- ---- notes in order
-
--- every note is of a message below the bound
-pub order-each : (a b : ℕ) (xs : List Note) → InOrder a b xs → Each (λ (x : Note). x .of < b) xs
-order-each a b _ end = tt
-order-each a b _ (next {x = x} {xs = xs} l u o) = (u, order-each (x .of) b xs o)
 
 pub order-lower : (a c b : ℕ) (xs : List Note) → a ≤ c → InOrder c b xs → InOrder a b xs
 order-lower a c b _ l end = end

@@ -14,7 +14,7 @@ use lib.Seq.{take-suc, take-append-le, take-add, getD-append-seam}
 use Rattle.ranges.specs.Ranges.{upFrom}
 use Rattle.ranges.proofs.Laws.{length-upFrom}
 use Rattle.device.specs.Device.{Direction, Taking, nobody, Ending, released}
-use Rattle.device.specs.Transfer.{payloadOf}
+use Rattle.device.specs.Transfer.{isWell, payloadOf}
 use Rattle.device.specs.Histories.{Note, History, blank, unanswered, handedOf, addressesOf, lostOf, notesOf, lossesOf, number}
 use Rattle.device.specs.Histories.{current, handedNow, waiting, took, noted, withEntry}
 use Rattle.device.specs.Claim.{Good, waitingOf, payloadAt}
@@ -27,6 +27,11 @@ module _ (d : Direction) where
   pub nobody-none : payloadOf d nobody ≡ []
   unfolding payloadOf
   nobody-none = refl
+
+  -- nor has an ill-formed message one
+  pub ill-formed-none : (t : Taking) → isWell (t .form) ≡ false → payloadOf d t ≡ []
+  unfolding payloadOf
+  ill-formed-none t e = rw e
 
   pub blank-good : Good d [] blank
   unfolding waiting handedNow payloadOf upFrom

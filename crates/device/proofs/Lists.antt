@@ -1,15 +1,16 @@
 -- Facts about lists, of positions and of a history's notes and losses.
 use mathlib.Core.Path.{_≡_, refl, sym, ap}
-use mathlib.Core.Bool.{Bool, true, cond}
+use mathlib.Core.Bool.{Bool, true, false, cond, true≢false}
 use mathlib.Core.List.{List, [], _∷_, _++_, map, append-assoc}
-use Prim.Native.Nat.{ℕ, zero, suc, _+_, _-_, _≤_}
+use Prim.Native.Nat.{ℕ, zero, suc, _+_, _-_, _≤_, _<_}
 use native.Mathlib.Omega.{arith}
 use borrow.Author.Tests.{eq-eqb, ne-eqb}
 use lib.Dec.{eqb}
-use lib.ListN.{length, take, drop, getD, length-append}
+use lib.ListN.{length, take, drop, getD, length-append, length-take, length-map}
 use Rattle.ranges.specs.Ranges.{upFrom}
 use Rattle.ranges.proofs.Laws.{length-upFrom, upFrom-add}
-use Rattle.device.specs.Transfer.{isNil}
+use Rattle.device.specs.Device.{Direction, output, input}
+use Rattle.device.specs.Transfer.{isNil, bytesMoved}
 use Rattle.device.specs.Histories.{Note, only, handedOf, addressesOf, lostOf, notesOf, lossesOf}
 use Rattle.device.proofs.Cases.{map-cond}
 
@@ -18,6 +19,10 @@ use Rattle.device.proofs.Cases.{map-cond}
 pub nil-true : (l : List ℕ) → isNil l ≡ true → l ≡ []
 nil-true [] e = refl
 nil-true (x ∷ l) e = let z : _≡_ {A = ℕ} 0 1 = ap (λ (b : Bool). cond b 1 0) e in absurd (omega arith)
+
+pub some-of : (l : List ℕ) → isNil l ≡ false → 0 < length l
+some-of [] e = absurd (true≢false e)
+some-of (x ∷ l) e = omega arith
 
 pub nil-left : {A : Type 0} (xs ys : List A) → xs ++ ys ≡ [] → xs ≡ []
 nil-left [] ys h = refl
@@ -84,3 +89,10 @@ pub hand-on :
 hand-on h k n f e =
     let r : n - length h ≡ k + (n - (length h + k)) = omega arith in
     rw (length-append, length-upFrom, append-assoc, ← upFrom-add, ← r) e
+
+-- ---- bytes moved
+
+-- a byte is moved for each address, as far as the host has bytes
+pub moved-long : (d : Direction) (xs host m : List ℕ) → length xs ≤ length host → length (bytesMoved d xs host m) ≡ length xs
+moved-long output xs host m h = rw length-map
+moved-long input xs host m h = rw length-take (omega arith)

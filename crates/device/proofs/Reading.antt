@@ -1,19 +1,21 @@
 -- What is good of a history, in a reader's words: each position of each payload stands in exactly one place; only a Release gives
--- positions up; a message answered otherwise was moved whole, byte by byte at its own addresses.
+-- positions up; a message answered otherwise was moved whole, byte by byte at its own addresses; those of a play are its request's bytes
+-- past the first four.
 use mathlib.Core.Path.{_≡_, refl, ap}
-use mathlib.Core.Bool.{cond}
+use mathlib.Core.Bool.{Bool, true, false, cond}
 use mathlib.Core.List.{List, [], _∷_, _++_, append-nil}
 use Prim.Native.Nat.{ℕ, zero, suc, _+_, _≤_, _<_}
 use native.Mathlib.Omega.{arith}
 use native.Mathlib.Decide.{ℕ-discrete}
 use borrow.Author.Tests.{eq-eqb, ne-eqb}
 use lib.Dec.{eqb}
-use lib.ListN.{length, getD}
-use lib.Seq.{take-length}
-use Rattle.ranges.specs.Ranges.{upFrom}
+use lib.ListN.{length, getD, length-append}
+use lib.Seq.{take-length, getD-take, getD-drop}
+use Rattle.ranges.specs.Ranges.{upFrom, places}
 use Rattle.ranges.proofs.Laws.{length-upFrom}
 use Rattle.device.specs.Claim.{Good, waitingOf, payloadAt}
-use Rattle.device.specs.Device.{Direction, Ending, finished, released, illFormed}
+use Rattle.device.specs.Device.{Direction, output, nobody, Ending, finished, released, illFormed}
+use Rattle.device.specs.Transfer.{isWell, payloadOf}
 use Rattle.device.specs.Histories.{History, unanswered, handedOf, addressesOf, lostOf, number}
 
 -- ---- how often p stands in a list
@@ -71,3 +73,26 @@ module _ (d : Direction) (w : List ℕ) (h : History) (g : Good d w h) (t : ℕ)
 
     pub whole-read : addressesOf t (h .notes) ≡ payloadAt d t h
     whole-read = rw (g .read t, whole, length-upFrom, take-length)
+
+-- position p of a play's payload was read at byte 4 + p of its request
+module _ (w : List ℕ) (h : History) (g : Good output w h) (t : ℕ) where
+  -- the request of taking t
+  abbrev request : List ℕ
+  request = places (getD (h .takings) t nobody .request)
+
+  payload-at :
+      (well : Bool) → isWell (getD (h .takings) t nobody .form) ≡ well
+      → (p : ℕ) → p < length (payloadAt output t h)
+      → getD (payloadAt output t h) p 0 ≡ getD request (4 + p) 0
+  unfolding payloadOf
+  payload-at true e p l = rw (e, getD-drop)
+  payload-at false e p l = absurd (omega (arith, rw e at l))
+
+  pub handed-at :
+      (p : ℕ) → p < length (handedOf t (h .notes))
+      → getD (addressesOf t (h .notes)) p 0 ≡ getD request (4 + p) 0
+  handed-at p l =
+      let few : length (handedOf t (h .notes)) ≤ length (payloadAt output t h) =
+      omega (arith, rw (length-append, length-upFrom) at (ap length (g .once t))) in
+      rw (g .read t, getD-take (length (handedOf t (h .notes))) (payloadAt output t h) p 0 l)
+      (payload-at (isWell (getD (h .takings) t nobody .form)) refl p (omega (arith, few, l)))

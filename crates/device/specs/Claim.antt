@@ -1,17 +1,16 @@
--- What is claimed of a stream queue's histories after any calls (`Good`), and the card's queue that a history stands for.
+-- What is claimed of a line's histories after any calls (`Good`), and the message in work that they stand for.
 use mathlib.Core.Path.{_≡_}
 use mathlib.Core.Bool.{cond}
 use mathlib.Core.List.{List, [], _++_, map}
 use mathlib.Core.Option.{Option, none, some}
-use Prim.Native.Nat.{ℕ, suc, _%_, _≤_}
+use Prim.Native.Nat.{ℕ, suc, _≤_}
 use lib.Dec.{eqb, leb}
 use lib.ListN.{length, take, getD}
 use Rattle.ranges.specs.Ranges.{upFrom}
-use Rattle.device.specs.Counters.{countersOf}
-use Rattle.device.specs.Device.{Direction, Taking, nobody, released, Message, Queue}
+use Rattle.device.specs.Device.{Direction, Taking, nobody, released, Message}
 use Rattle.device.specs.Histories.{Entry, Note, History, unanswered, handedOf, addressesOf, lostOf, number, current, handedNow}
-use Rattle.device.specs.Histories.{waiting, historiesOf}
-use Rattle.device.specs.Transfer.{Ops, payloadOf}
+use Rattle.device.specs.Histories.{waiting}
+use Rattle.device.specs.Transfer.{payloadOf}
 
 -- the positions of taking t that wait: only the message in work has any
 abbrev pub waitingOf : Direction → ℕ → History → List ℕ
@@ -36,17 +35,6 @@ pub record Good (d : Direction) (said : List ℕ) (h : History) : Type 0 where
   -- the bytes noted are those that the transfers moved
   pub bytes : map (λ (n : Note). n .byte) (h .notes) ≡ said
 
--- the counters that a history stands for
+-- the message in work that a history stands for
 abbrev pub workOf : History → Option Message
 workOf h = cond (leb (length (h .takings)) (number h)) none (some (record { taking = current h; done = handedNow h }))
-
-abbrev pub queueOf : History → Queue
-queueOf h = record { taken = length (h .takings) % 65536; completed = number h % 65536; work = workOf h }
-
--- ---- a queue kept either way
-
-abbrev pub card : Direction → Ops Queue
-card d = countersOf d
-
-abbrev pub account : Direction → Ops History
-account d = historiesOf d

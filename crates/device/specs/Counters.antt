@@ -1,11 +1,10 @@
--- A stream's queue as the card keeps it: counters modulo 65,536 and the message in work.
+-- A queue seen at one line, as the card keeps it: counters modulo 65,536 and the line's message in work.
 use mathlib.Core.Bool.{Bool, true, false}
 use mathlib.Core.Option.{Option, none, some}
 use Prim.Native.Nat.{ℕ, _+_, _%_}
 use lib.ListN.{length, drop}
 use Rattle.registers.specs.Map.{sizeOf}
-use Rattle.ring.specs.Rules.{newOf}
-use Rattle.device.specs.Device.{Direction, queueNumber, Taking, nobody, Message, Queue, emptyQueue}
+use Rattle.device.specs.Device.{Direction, queueNumber, Taking, nobody, Message, Queue}
 use Rattle.device.specs.Transfer.{Ops, payloadOf}
 
 abbrev pub isNone : Option Message → Bool
@@ -27,16 +26,12 @@ further n (some w) = some (record { taking = w .taking; done = w .done + n })
 abbrev pub countersOf : Direction → Ops Queue
 countersOf d =
     record {
-      empty = emptyQueue;
-      new = λ q index. newOf index (q .taken);
-      place = λ q. q .taken % sizeOf (queueNumber d);
       usedPlace = λ q. q .completed % sizeOf (queueNumber d);
       usedIndex = λ q. (q .completed + 1) % 65536;
       idle = λ q. isNone (q .work);
       work = λ q. takingInWork (q .work);
       done = λ q. doneIn (q .work);
       left = λ q. drop (doneIn (q .work)) (payloadOf d (takingInWork (q .work)));
-      take = λ t q. record { taken = (q .taken + 1) % 65536; completed = q .completed; work = some (record { taking = t; done = 0 }) };
       hand = λ bytes xs q. record { taken = q .taken; completed = q .completed; work = further (length xs) (q .work) };
       complete = λ e latency q. record { taken = q .taken; completed = (q .completed + 1) % 65536; work = none };
     }

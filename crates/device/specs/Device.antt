@@ -2,9 +2,8 @@
 -- run over counters (the card) and over histories (the account) alike.
 use mathlib.Core.Bool.{Bool, cond}
 use mathlib.Core.List.{List, [], _∷_}
-use mathlib.Core.Option.{Option, none}
+use mathlib.Core.Option.{Option}
 use Prim.Native.Nat.{ℕ, zero, suc, _+_, _/_, _%_}
-use lib.Dec.{eqb}
 use lib.ListN.{getD}
 use Rattle.chain.specs.declared.Fault.{Fault}
 use Rattle.counts.specs.declared.PageNumber.{PageNumber}
@@ -19,25 +18,17 @@ use Rattle.card.specs.declared.Jack.{Jack}
 use Rattle.card.specs.declared.Stream.{Stream}
 use Rattle.device.specs.Numbers.{playQueue, captureQueue}
 
--- ---- directions: output stream 0 on the play queue, input stream 1 on the capture queue
+-- ---- directions: outputs on the play queue, inputs on the capture queue
 
 pub data Direction : Type 0 where
   output input : Direction
-
-abbrev pub streamNumber : Direction → ℕ
-streamNumber output = 0
-streamNumber input = 1
 
 abbrev pub queueNumber : Direction → ℕ
 queueNumber output = playQueue
 queueNumber input = captureQueue
 
--- the direction of a stream of the card
-abbrev pub directionOf : ℕ → Direction
-directionOf id = cond (eqb id 0) output input
-
--- a stream's queue in a call: its direction, and its page and whether indirect tables are negotiated, as the guest laid it out; the
--- latency that the statuses completed in the call carry
+-- a stream queue in a call, seen at one line: its direction, and its page and whether indirect tables are negotiated, as the guest laid it
+-- out; the latency that the statuses completed in the call carry
 pub record Virtqueue : Type 0 where
   pub direction : Direction
   pub page : PageNumber
@@ -50,14 +41,14 @@ queueSize v = sizeOf (queueNumber (v .direction))
 
 -- ---- messages of the stream queues
 
--- what a chain is when it is taken (01, Play, capture, events): well-formed; or ill-formed, answered IO_ERR (refused), or with
+-- what a chain is when it is read (01, Play, capture, events): well-formed; or ill-formed, answered IO_ERR (refused), or with
 -- length 0 and nothing written (silent), as one that can't be walked is, for its fault
 pub data Form : Type 0 where
   wellFormed refused silent : Form
   unwalked : Fault → Form
 
--- "A taking notes head, ranges and faults as memory then shows them." "Ranges are remembered when a message is taken": no rule reads the
--- chain again after a part was played
+-- a chain as it was read: "A taking notes head, ranges and faults as memory then shows them." No rule reads it again after a part was
+-- played
 pub record Taking : Type 0 where
   pub head : ℕ
   pub request : List Range
@@ -76,14 +67,11 @@ pub record Message : Type 0 where
   pub taking : Taking
   pub done : ℕ
 
--- a stream's queue with counters modulo 65,536
+-- a queue seen at one line, with counters modulo 65,536
 pub record Queue : Type 0 where
   pub taken : ℕ
   pub completed : ℕ
   pub work : Option Message
-
-abbrev pub emptyQueue : Queue
-emptyQueue = record { taken = 0; completed = 0; work = none }
 
 -- ---- all but the stream queues
 

@@ -1,16 +1,15 @@
--- 01, The play queue's account: the queue as histories without bound. Takings, used entries and handed bytes are lists; how
--- many were taken or completed is the length of a list; the message in work is the first taking without an entry.
+-- 01, The play queue's account, of the messages of one line whose chains were read: histories without bound. Takings, used entries and
+-- handed bytes are lists; how many were taken or completed is the length of a list; the message in work is the first taking without an
+-- entry.
 use mathlib.Core.Bool.{cond}
 use mathlib.Core.List.{List, [], _∷_, _++_, map}
 use mathlib.Core.Option.{Option, none}
-use Prim.Native.Nat.{ℕ, _+_, _-_, _%_}
-use lib.Dec.{eqb, leb}
+use Prim.Native.Nat.{ℕ, _+_, _-_}
+use lib.Dec.{eqb}
 use lib.ListN.{length, drop, getD}
 use Rattle.ranges.specs.Ranges.{upFrom}
-use Rattle.registers.specs.Map.{sizeOf}
-use Rattle.ring.specs.Rules.{newOf}
-use Rattle.device.specs.Device.{Direction, queueNumber, Taking, nobody, Ending, finished}
-use Rattle.device.specs.Transfer.{Ops, payloadOf, statusOf, usedLength}
+use Rattle.device.specs.Device.{Direction, Taking, nobody, Ending, finished}
+use Rattle.device.specs.Transfer.{payloadOf, statusOf, usedLength}
 
 -- a used entry: the head it names, its length, why the message was completed, the status it was given and the latency beside that
 pub record Entry : Type 0 where
@@ -116,21 +115,4 @@ module _ (d : Direction) where
             ∷ [];
         notes = h .notes;
         losses = h .losses ++ lossesOf (number h) (waiting h);
-      }
-
-  abbrev pub historiesOf : Ops History
-  historiesOf =
-      record {
-        empty = blank;
-        new = λ h index. newOf index (length (h .takings) % 65536);
-        place = λ h. length (h .takings) % sizeOf (queueNumber d);
-        usedPlace = λ h. number h % sizeOf (queueNumber d);
-        usedIndex = λ h. (number h + 1) % 65536;
-        idle = λ h. leb (length (h .takings)) (number h);
-        work = λ h. current h;
-        done = λ h. handedNow h;
-        left = λ h. drop (handedNow h) (payloadOf d (current h));
-        take = took;
-        hand = noted;
-        complete = withEntry;
       }

@@ -1,5 +1,6 @@
--- 01, Play, capture, events: taking, moving and completing messages of a stream's queue, and what RELEASE does to it; for
--- either direction and for any way `Q` of keeping the queue.
+-- 01, Play, capture, events: a message of a stream queue, what its completion answers, and the steps of a queue seen at one line: moving
+-- and completing its message in work; for either direction and for any way `Q` of keeping the queue. The rules of a whole queue are
+-- `queue_lines`'.
 use mathlib.Core.Path.{_≡_}
 use mathlib.Core.Bool.{Bool, true, false, cond, _&&_, _||_, not}
 use mathlib.Core.List.{List, [], _∷_, _++_}
@@ -9,25 +10,20 @@ use lib.Dec.{eqb, leb, ltb}
 use lib.ListN.{length, take, drop}
 use Rattle.counts.specs.declared.PageNumber.{PageNumber}
 use Rattle.memory.specs.Bytes.{le}
-use Rattle.ranges.specs.Ranges.{total, places, bytesAt, putAt, allInside}
+use Rattle.ranges.specs.Ranges.{total, places, bytesAt, putAt}
 use Rattle.ranges.specs.declared.Range.{Range}
-use Rattle.chain.specs.Walk.{Outcome, whole, faulted, walkOf}
 use Rattle.registers.specs.Map.{sizeOf}
 use Rattle.registers.specs.declared.Registers.{Registers}
 use Rattle.registers.specs.declared.answers.Answer.{Answer}
 use Rattle.ring.specs.Layout.{endAt}
-use Rattle.ring.specs.Rules.{baseOf, indexOf, foundOf, headAt, postedAt, interrupts}
-use Rattle.ring.specs.declared.Cause.{Cause}
-use Rattle.ring.specs.declared.Check.{Check}
-use Rattle.ring.specs.declared.Head.{Head}
+use Rattle.ring.specs.Rules.{baseOf, indexOf, postedAt, interrupts}
 use Rattle.ring.specs.declared.Stop.{Stop}
-use Rattle.device.specs.Answers.{going, answerBy, brokenBy}
-use Rattle.device.specs.Device.{Direction, output, input, streamNumber, Virtqueue, queueSize, Form, wellFormed, refused, silent}
+use Rattle.device.specs.Answers.{answerBy, brokenBy}
+use Rattle.device.specs.Device.{Direction, output, input, Virtqueue, queueSize, Form, wellFormed, refused, silent}
 use Rattle.device.specs.Device.{unwalked, Taking, Ending, finished, released, illFormed, bytesOf, signalledIf}
-use Rattle.device.specs.Loop.{loop}
 use Rattle.device.specs.Numbers.{playQueue, sOk, sIoErr}
 
--- ---- a message as memory shows it when it is taken: "I/O order"
+-- ---- a message as memory shows it: "I/O order"
 
 -- "wrong stream id": the request's first four bytes
 abbrev pub idOf : List ℕ → List Range → ℕ
@@ -37,22 +33,6 @@ idOf m request = le 4 (bytesAt m (take 4 (places request))) 0
 abbrev pub sized : Direction → ℕ → ℕ → Bool
 sized output request reply = leb 4 request && eqb reply 8
 sized input request reply = eqb request 4
-
--- "walk fault, writable outside RAM, reply under 8: length 0. Then readable outside RAM, wrong stream id, or ..: IO_ERR
--- .. Without these a message is well-formed"
-unfoldable pub formOf : Direction → List ℕ → List Range → List Range → Form
-formOf d m request reply =
-    cond (allInside (length m) reply && leb 8 (total reply))
-    (cond (allInside (length m) request && eqb (idOf m request) (streamNumber d) && sized d (total request) (total reply))
-    wellFormed refused)
-    silent
-
-abbrev pub walkedTaking : Direction → List ℕ → ℕ → Outcome → Taking
-walkedTaking d m head (whole request reply) = record { head = head; request = request; reply = reply; form = formOf d m request reply }
-walkedTaking d m head (faulted f) = record { head = head; request = []; reply = []; form = unwalked f }
-
-unfoldable pub takingOf : Virtqueue → List ℕ → ℕ → Taking
-takingOf v m head = walkedTaking (v .direction) m head (walkOf m (baseOf (v .page)) (queueSize v) head (v .negotiated))
 
 abbrev pub isWell : Form → Bool
 isWell wellFormed = true
@@ -95,19 +75,15 @@ usedLength d none done = 0
 usedLength output (some code) done = 8
 usedLength input (some code) done = 8 + done
 
--- ---- what the rules ask of a stream's queue
+-- ---- what the steps ask of a queue, seen at one line
 
 pub record Ops (Q : Type 0) : Type 0 where
-  pub empty : Q
-  pub new : Q → ℕ → ℕ  -- new entries, at this available index
-  pub place : Q → ℕ  -- the ring place of the next head
   pub usedPlace : Q → ℕ  -- the ring place of the next used element
   pub usedIndex : Q → ℕ  -- the used index after it
   pub idle : Q → Bool  -- no message is in work
   pub work : Q → Taking  -- the message in work
   pub done : Q → ℕ  -- how many bytes of its payload were moved
   pub left : Q → List ℕ  -- the addresses of those that wait
-  pub take : Taking → Q → Q
   pub hand : List ℕ → List ℕ → Q → Q  -- the bytes moved, and their addresses
   pub complete : Ending → ℕ → Q → Q  -- with this latency
 
@@ -180,84 +156,7 @@ module _ {Q : Type 0} (ops : Ops Q) (v : Virtqueue) where
   abbrev pub givenUp : Run Q → Run Q
   givenUp r = cond (ops .idle (r .queue)) r (completed released r)
 
-  abbrev pub taking : Taking → Run Q → Run Q
-  taking t r =
-      record {
-        queue = ops .take t (r .queue);
-        mem = r .mem;
-        bytes = r .bytes;
-        host = r .host;
-        room = r .room;
-        stop = r .stop;
-        signal = r .signal;
-      }
-
-  abbrev pub stopped : Cause → Run Q → Run Q
-  stopped cause r =
-      record {
-        queue = r .queue;
-        mem = r .mem;
-        bytes = r .bytes;
-        host = r .host;
-        room = r .room;
-        stop = Stop.Broke cause;
-        signal = r .signal;
-      }
-
-  -- an entry is taken; an ill-formed message is completed at once
-  unfoldable pub entered : Taking → Run Q → Run Q
-  entered t r = cond (isWell (t .form)) (taking t r) (completed illFormed (taking t r))
-
-  abbrev pub met : Head → Run Q → Run Q
-  met (Head.At n) r = entered (takingOf v (r .mem) (n .0)) r
-  met (Head.Broken cause) r = stopped cause r
-
-  -- the next new entry: "a head is ≥ N (that entry is not taken)"
-  unfoldable pub next : Run Q → Run Q
-  next r = met (headAt (r .mem) (v .page) (queueSize v) (ops .place (r .queue))) r
-
-  -- "While host room (or bytes) is left and a message is in work or new: work it."
-  abbrev pub transferMore : Run Q → Bool
-  transferMore r = going (r .stop) && ltb 0 (r .room) && ops .idle (r .queue)
-
-  abbrev pub releaseMore : Run Q → Bool
-  releaseMore r = going (r .stop) && ops .idle (r .queue)
-
-  unfoldable pub transferRun : ℕ → Run Q → Run Q
-  transferRun new r = loop worked transferMore next new r
-
-  -- "completes its message in work, then takes and completes all entries there"
-  unfoldable pub releaseRun : ℕ → Run Q → Run Q
-  releaseRun new r = loop givenUp releaseMore next new r
-
-  -- "The available index is read once per call (for a Release, once more on the stream's queue), before that queue's writes." "New
-  -- entries = index − taken, modulo 65,536 .. new plus in work exceeds N"
-  abbrev pub found : Q → List ℕ → Check
-  found q m =
-      foundOf m (v .page) (queueSize v) (ops .new q (indexOf m (v .page) (queueSize v))) (cond (ops .idle q) 0 1)
-
 -- ---- what a call made of a queue
-
--- what a Release made of a queue
-pub record Emptied (Q : Type 0) : Type 0 where
-  pub queue : Q
-  pub mem : List ℕ
-  pub stop : Stop
-  pub signal : Bool
-
-abbrev pub emptiedBy : {Q : Type 0} → Run Q → Emptied Q
-emptiedBy r = record { queue = r .queue; mem = r .mem; stop = r .stop; signal = r .signal }
-
-module _ {Q : Type 0} (ops : Ops Q) (v : Virtqueue) where
-  abbrev pub emptiedFound : Q → List ℕ → Check → Emptied Q
-  emptiedFound q m Check.Idle = record { queue = q; mem = m; stop = Stop.Going; signal = false }
-  emptiedFound q m (Check.Broken cause) = record { queue = q; mem = m; stop = Stop.Broke cause; signal = false }
-  emptiedFound q m (Check.New n) = emptiedBy (releaseRun ops v n (begun q m []))
-
-  -- "RELEASE checks that stream's queue (idle: nothing pending), completes its message in work, then takes and completes all
-  -- entries there"
-  unfoldable pub emptied : Q → List ℕ → Emptied Q
-  emptied q m = emptiedFound q m (found ops v q m)
 
 -- what a transfer made of a queue and the registers
 pub record Transferred (Q : Type 0) : Type 0 where

@@ -3,12 +3,13 @@ use mathlib.Core.Path.{_≡_}
 use mathlib.Core.List.{List, []}
 use Prim.Native.Nat.{ℕ}
 use Rattle.card.specs.declared.Card.{Card}
-use Rattle.live.specs.Live.{cardIn, Fits}
+use Rattle.live.specs.Live.{cardIn}
 use Rattle.live.specs.declared.Board.{Board}
 use Rattle.meaning.specs.Card.{stepOf, leaves}
+use Rattle.meaning.specs.Fit.{Fits}
 use Rattle.pcm.specs.declared.TransferAnswer.{TransferAnswer}
 use Rattle.registers.specs.declared.answers.Answer.{Answer}
-use Rattle.rules.specs.Calls.{Control}
+use Rattle.line_calls.specs.Calls.{Control}
 use Rattle.event.specs.Event.{TellsOn}
 use Rattle.event.specs.declared.EventAnswer.{EventAnswer}
 use Rattle.entries.specs.declared.BoardAnswer.{BoardAnswer}

@@ -1,8 +1,8 @@
 // The calls on queues as C takes them: an answer's number and queue side by side, so that every field of what a call
 // answers is a number.
 ghost use mathlib.Core.Path.{_≡_};
-ghost use Rattle.event.specs.Event.{FitAside};
-ghost use Rattle.live.specs.Live.{Fits};
+ghost use Rattle.live.specs.Live.{FitBoard};
+ghost use Rattle.meaning.specs.Fit.{Fits};
 ghost use Rattle.message.specs.declared.Direction.{Direction};
 ghost use Rattle.pcm.specs.Entry.{TransfersOn};
 ghost use Rattle.stream.specs.Queue.{FitOwn};
@@ -34,13 +34,14 @@ pub fn play(
     words: &mut [u64],
     m: &mut [u8],
     host: &mut [u8],
+    stream: u32,
     backlog: u32,
 ) -> LiveAnswer
     requires { ⌜ FitOwn Direction.Output live (now words) ⌝ }
-    ensures { λ r. ⌜ TransfersOn Direction.Output backlog live (now (words .entry)) (now (m .entry)) (now (host .entry))
+    ensures { λ r. ⌜ TransfersOn Direction.Output stream backlog live (now (words .entry)) (now (m .entry)) (now (host .entry))
         (now (words .exit)) (now (m .exit)) (now (host .exit)) (transferIn r) ⌝ }
 {
-    let told = pcm::play(live, words, m, host, backlog);
+    let told = pcm::play(live, words, m, host, stream, backlog);
     let answer = told.answer;
     let after = told.live;
     LiveAnswer {
@@ -57,13 +58,14 @@ pub fn capture(
     words: &mut [u64],
     m: &mut [u8],
     host: &mut [u8],
+    stream: u32,
     backlog: u32,
 ) -> LiveAnswer
     requires { ⌜ FitOwn Direction.Input live (now words) ⌝ }
-    ensures { λ r. ⌜ TransfersOn Direction.Input backlog live (now (words .entry)) (now (m .entry)) (now (host .entry))
+    ensures { λ r. ⌜ TransfersOn Direction.Input stream backlog live (now (words .entry)) (now (m .entry)) (now (host .entry))
         (now (words .exit)) (now (m .exit)) (now (host .exit)) (transferIn r) × (now (host .exit) ≡ now (host .entry)) ⌝ }
 {
-    let told = pcm::capture(live, words, m, host, backlog);
+    let told = pcm::capture(live, words, m, host, stream, backlog);
     let answer = told.answer;
     let after = told.live;
     LiveAnswer {
@@ -104,7 +106,7 @@ pub fn control(
 
 // The event call.
 pub fn event(board: Board, m: &mut [u8], code: u32, data: u32) -> BoardAnswer
-    requires { ⌜ FitAside (board .live) (board .parts) ⌝ }
+    requires { ⌜ FitBoard (board .live) (board .parts) ⌝ }
     ensures { λ r. ⌜ EventsOn board code «data» (now (m .entry)) (now (m .exit)) r ⌝ }
 {
     let live = board.live;

@@ -19,30 +19,33 @@ use Rattle.card.specs.Setters.{withParts}
 use Rattle.card.specs.declared.Card.{Card}
 use Rattle.card.specs.declared.Jack.{Jack}
 use Rattle.card.specs.declared.Parts.{Parts}
-use Rattle.live.proofs.Laws.{fits-card}
+use Rattle.live.proofs.Streams.{stream-now}
 use Rattle.live.specs.Live as pieces
-use Rattle.live.specs.Live.{jackNow, partsNow, cardIn, Fits}
+use Rattle.live.specs.Live.{jackNow, partsNow, cardIn, FitBoard}
 use Rattle.live.specs.declared.Live.{Live}
-use Rattle.meaning.proofs.Streams.{stream-at, rest-stream}
+use Rattle.meaning.proofs.Streams.{rest-stream}
 use Rattle.meaning.specs.Card.{restOf, deviceOf, stepOf, leaves}
-use Rattle.rules.specs.Calls.{Result, Step, Event, stepBy, refusedWith, withConnected, admitted, eventAllowed, recorded, eventOf}
+use Rattle.meaning.specs.Fit.{Fits}
+use Rattle.queue_lines.specs.Counters.{Queue}
+use Rattle.rules.proofs.Parts.{stream-at}
+use Rattle.line_calls.specs.Calls.{Event}
+use Rattle.rules.specs.Calls.{Result, Step, stepBy, refusedWith, withConnected, admitted, eventAllowed, recorded, eventOf}
 use Rattle.rules.specs.Control.{noJack}
-use Rattle.device.specs.Device.{Rest, Device, Queue, withJacks, streamAt}
+use Rattle.device.specs.Device.{Rest, Device, withJacks, streamAt}
 use Rattle.device.specs.Numbers.{jackConnected, jackDisconnected, pcmXrun, eventQueue}
 use Rattle.stream.proofs.Held.{held-device, held-fits}
-use Rattle.stream.proofs.Laws.{stream-now}
 use Rattle.stream.specs.Held.{holdingLive}
 use Rattle.event_queue.specs.Attempts as queue
 use Rattle.event_queue.specs.Attempts.{sentIn, sentOf}
 use Rattle.event_queue.specs.declared.Attempt.{Attempt}
-use Rattle.event.specs.Event.{FitAside, restIn, NamesJack, connectedAt, recordedIn}
+use Rattle.event.specs.Event.{restIn, NamesJack, connectedAt, recordedIn}
 
 abbrev withRest : Rest → Device Queue → Device Queue
 withRest r d = record { rest = r; play = d .play; capture = d .capture }
 
 -- ---- jacks and streams
 
-module _ (l : Live) (p : Parts) (f : FitAside l p) where
+module _ (l : Live) (p : Parts) (f : FitBoard l p) where
   pub jacks-there : length (restIn l p .jacks) ≡ l .config .jacks
   unfolding restOf
   jacks-there =
@@ -56,7 +59,7 @@ module _ (l : Live) (p : Parts) (f : FitAside l p) where
   unfolding restOf
   streams-there = rw length-take (omega (arith, streams-counted, f .parts .streams))
 
-  pub stream-below : (i : ℕ) → i < l .config .streams → i < 2
+  pub stream-below : (i : ℕ) → i < l .config .streams → i < 6
   stream-below i h = omega (arith, streams-counted, f .parts .streams)
 
   pub stream-in : (i : ℕ) → i < l .config .streams → streamAt (restIn l p) i ≡ pieces.streamAt l p i
@@ -103,7 +106,7 @@ recorded-xrun : (r : Rest) (code i : ℕ) → eqb code pcmXrun ≡ true → reco
 unfolding recorded
 recorded-xrun r code i h = rw (eqb-true code pcmXrun h)
 
-pub names-jack : (l : Live) (p : Parts) → FitAside l p → (code i : ℕ) → eventAllowed (restIn l p) code i ≡ true → NamesJack code i
+pub names-jack : (l : Live) (p : Parts) → FitBoard l p → (code i : ℕ) → eventAllowed (restIn l p) code i ≡ true → NamesJack code i
 unfolding restOf
 names-jack l p f code i h e =
     let k = rw length-take at (allowed-jack (restIn l p) code i (allowed-code (restIn l p) code i h e) h) in
@@ -138,14 +141,22 @@ module _ (l : Live) (p : Parts) (pw cw : List ℕ) (f : Fits l p pw cw) where
           getD-take (p .«jack_count») (partsNow l p .jacks) i noJack h,
         )
 
+    connected-board : FitBoard l (connectedAt i v p)
+    connected-board =
+        record {
+          live = f .board .live;
+          parts = rw (connected-now l p i v) (fit-with-jack (partsNow l p) i _ (f .board .parts));
+          counts = f .board .counts;
+          outputs = f .board .outputs;
+          inputs = f .board .inputs;
+        }
+
     connected-fits : Fits l (connectedAt i v p) pw cw
     connected-fits =
         record {
-          live = f .live;
+          board = connected-board;
           play = f .play;
           capture = f .capture;
-          parts = rw (connected-now l p i v) (fit-with-jack (partsNow l p) i _ (f .parts));
-          counts = f .counts;
         }
 
   jack-below : (i : ℕ) → i < length (restOf before .jacks) → i < p .«jack_count»
@@ -171,7 +182,7 @@ module _ (l : Live) (p : Parts) (pw cw : List ℕ) (f : Fits l p pw cw) where
 
 -- ---- the call
 
--- the words of the chains are no part of the rest
+-- the words of the queues are no part of the rest
 pub rest-in : (l : Live) (p : Parts) (pw cw : List ℕ) → restOf (cardIn l p pw cw) ≡ restIn l p
 unfolding restOf
 rest-in l p pw cw = refl
@@ -231,7 +242,7 @@ sent-leaves : (l : Live) (p : Parts) (pw cw : List ℕ) → Fits l p pw cw → (
     ≡ leaves (cardIn (holdingLive eventQueue (a .registers) (a .counters) l) p pw cw) (a .answer) 0 [] [] after
 unfolding restOf
 sent-leaves l p pw cw f a code i m after h =
-    rw (h, held-device (cardIn l p pw cw) (fits-card l p pw cw f) (a .registers) (a .counters) eventQueue (omega arith))
+    rw (h, held-device (cardIn l p pw cw) (f .board .live .four) (a .registers) (a .counters) eventQueue (omega arith))
 
 module _ (l : Live) (p : Parts) (pw cw : List ℕ) (f : Fits l p pw cw) (code i : ℕ) (m after : List ℕ) (a : Attempt) where
   abbrev card : Card

@@ -6,25 +6,20 @@ use Prim.Native.Nat.{ℕ, _<_}
 use lib.Dec.{eqb}
 use lib.ListN.{getD}
 use Rattle.registers.specs.Answers.{plain}
-use Rattle.card.specs.Fit.{FitParts}
 use Rattle.card.specs.Setters.{withJackAt}
 use Rattle.card.specs.declared.Parts.{Parts}
-use Rattle.live.specs.Live.{partsNow, cardIn, configIn, FitLive, Fits}
+use Rattle.live.specs.Live.{cardIn}
 use Rattle.live.specs.declared.Live.{Live}
 use Rattle.meaning.specs.Card.{restOf, stepOf, leaves}
-use Rattle.rules.specs.Calls.{Event, withConnected}
+use Rattle.meaning.specs.Fit.{Fits}
+use Rattle.rules.specs.Calls.{withConnected}
 use Rattle.rules.specs.Control.{noJack}
 use Rattle.device.specs.Device.{Rest}
 use Rattle.device.specs.Numbers.{jackConnected, pcmXrun}
+use Rattle.line_calls.specs.Calls.{Event}
 use Rattle.event.specs.declared.EventAnswer.{EventAnswer}
 
--- all that a card is made of but the words of its chains
-pub record FitAside (l : Live) (p : Parts) : Type 0 where
-  pub live : FitLive l
-  pub parts : FitParts (partsNow l p)
-  pub counts : l .config ≡ configIn p
-
--- the rules' rest, of which those words are no part
+-- the rules' rest, of which the words of the queues are no part
 abbrev pub restIn : Live → Parts → Rest
 restIn l p = restOf (cardIn l p [] [])
 
@@ -47,7 +42,7 @@ recordedIn code i p = cond (eqb code pcmXrun) p (connectedAt i (cond (eqb code j
 abbrev pub refusedBy : ℕ → Live → Parts → EventAnswer
 refusedBy number l p = record { answer = plain number; live = l; parts = p }
 
--- the rules' event, on every card with this small state and these parts, whatever the words of its chains are
+-- the rules' event, on every card with this small state and these parts, whatever the words of its queues are
 abbrev pub TellsOn : ℕ → ℕ → Live → Parts → List ℕ → List ℕ → EventAnswer → Type 0
 TellsOn code data′ l p m m′ r =
     (pw cw : List ℕ)

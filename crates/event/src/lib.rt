@@ -8,7 +8,8 @@ ghost use Rattle.rules.specs.Calls.{isRunning, eventAllowed};
 ghost use Rattle.device.specs.Device.{streamAt};
 ghost use Rattle.device.specs.Numbers.{eventQueue, jackConnected};
 ghost use Rattle.stream.specs.Held.{holdingLive};
-ghost use Rattle.event.specs.Event.{FitAside, restIn, NamesJack, recordedIn, refusedBy, TellsOn};
+ghost use Rattle.live.specs.Live.{FitBoard};
+ghost use Rattle.event.specs.Event.{restIn, NamesJack, recordedIn, refusedBy, TellsOn};
 use card::Parts;
 use event_queue::Attempt;
 use live::Live;
@@ -42,7 +43,7 @@ fn with_attempt(live: Live, attempt: Attempt) -> Live
 
 // Whether the stream is there and Running, with its XRUN event selected.
 fn tells_xruns(live: Live, parts: Parts, stream: u32) -> bool
-    requires { ⌜ FitAside live parts ⌝ }
+    requires { ⌜ FitBoard live parts ⌝ }
     ensures { λ r. ⌜ r ≡ (isRunning (restIn live parts) stream && hasBit (streamAt (restIn live parts) stream .params .features) 4) ⌝ }
 {
     let config = live.config;
@@ -65,7 +66,7 @@ fn tells_xruns(live: Live, parts: Parts, stream: u32) -> bool
 
 // Whether the event may be sent.
 fn is_allowed(live: Live, parts: Parts, code: u32, data: u32) -> bool
-    requires { ⌜ FitAside live parts ⌝ }
+    requires { ⌜ FitBoard live parts ⌝ }
     ensures { λ r. ⌜ r ≡ eventAllowed (restIn live parts) code «data» ⌝ }
 {
     let config = live.config;
@@ -117,7 +118,7 @@ fn refused(live: Live, parts: Parts, number: u8) -> EventAnswer
 
 // The event call: the guest is told of an event with this code and data.
 pub fn event(live: Live, parts: Parts, m: &mut [u8], code: u32, data: u32) -> EventAnswer
-    requires { ⌜ FitAside live parts ⌝ }
+    requires { ⌜ FitBoard live parts ⌝ }
     ensures { λ r. ⌜ TellsOn code «data» live parts (now (m .entry)) (now (m .exit)) r ⌝ }
 {
     if m.len() != live.ram_len {

@@ -1,1 +1,1 @@
-// Cases of document 01, computed from the rules (proofs/Examples.antt). There is no code here.
+// Cases of document 01 and of the orders, computed from the rules (proofs/). There is no code here.

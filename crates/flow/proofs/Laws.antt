@@ -16,21 +16,12 @@ use Rattle.card.specs.declared.Message.{Message}
 use Rattle.card.proofs.Keeps.{no-message-fit}
 use Rattle.device.specs.Counters.{countersOf, isNone}
 use Rattle.device.specs.Device as rules
-use Rattle.device.specs.Transfer.{Run, worked, moved, payloadOf, takingOf, statusOf, completed, settled, entered, next, givenUp, isNil}
-use Rattle.device.specs.Transfer.{isWell}
-use Rattle.meaning.specs.Card.{takingOfMessage, messageOf}
-use Rattle.message.specs.Message as message
-use Rattle.message.specs.Message.{virtqueueAs, answeredOf, FitTaken}
-use Rattle.message.specs.declared.Form.the-variants.{WellFormed}
-use Rattle.message.specs.declared.Taken.{Taken}
+use Rattle.device.specs.Transfer.{worked, moved, payloadOf, statusOf, completed, settled, givenUp, isNil}
+use Rattle.message.specs.Work.{takingOfMessage, messageOf}
+use Rattle.message.specs.Message.{virtqueueAs, answeredOf}
 use Rattle.message.specs.declared.Virtqueue.{Virtqueue}
-use Rattle.counts.specs.declared.DescriptorNumber.{DescriptorNumber}
-use Rattle.ring.specs.declared.Cause.{Cause}
-use Rattle.ring.specs.declared.Head.{Head}
-use Rattle.ring.specs.Rules.{Completion, headOf}
-use mathlib.Core.Option.{Option, some}
-use Rattle.flow.specs.Flow.{payloadBytes, runOf, advancedBy, endedBy, refusedBy, refusedIn, begunWith, stoppedFlow, Busy, FitFlow}
-use Rattle.flow.specs.Flow.{Steps, endingOf, reachesOf, overOf, jobMoved, jobWorked}
+use mathlib.Core.Option.{some}
+use Rattle.flow.specs.Flow.{payloadBytes, runOf, advancedBy, endedBy, Busy, FitFlow, endingOf, reachesOf, overOf, jobMoved, jobWorked}
 use Rattle.flow.specs.declared.Flow.{Flow}
 use Rattle.flow.specs.declared.Job.{Job}
 use Rattle.flow.specs.declared.Job.the-variants.{Transfer, Release}
@@ -157,7 +148,7 @@ moved-fit rules.output len room ws f n busy t e = advanced-fit len room ws f n _
 moved-fit rules.input len room ws f n busy t e = advanced-fit len room ws f n _ 8 busy t (t .message .short-reply) e
 
 pub no-input : rules.output ≡ rules.input → ⊥
-no-input e = let n : _≡_ {A = ℕ} 0 1 = ap rules.streamNumber e in omega (arith, n)
+no-input e = let n : _≡_ {A = ℕ} 2 3 = ap rules.queueNumber e in omega (arith, n)
 
 -- ---- a completion
 
@@ -222,62 +213,6 @@ module _ (v : rules.Virtqueue) (ws m host : List ℕ) (f : Flow) (busy : Busy f)
     not-nil (drop (f .message .done) (payloadOf (v .direction) (takingOfMessage ws (f .message))))
         (rw (left-length (v .direction) ws (f .message) (g .request) (g .reply)) h),
   )
-
--- an ill-formed chain
-pub refused-run : (v : rules.Virtqueue) (t : rules.Taking) (status : Option ℕ) (ws m host : List ℕ) (f : Flow)
-    → f .message .count ≡ 0 → status ≡ statusOf (v .direction) rules.illFormed (t .form)
-    → runOf ws (refusedBy (answeredOf (v .direction) m (v .page) (f .counters .completed) (t .head) (t .reply) status (v .latency) 0) f)
-    (answeredOf (v .direction) m (v .page) (f .counters .completed) (t .head) (t .reply) status (v .latency) 0 .memory) host
-    ≡ refusedIn v t (runOf ws f m host)
-unfolding runOf completed answeredOf
-refused-run v t status ws m host f free s = rw (free, s)
-
--- a well-formed message begun
-pub begun-run : (v : rules.Virtqueue) (t : Taken) (ws m host : List ℕ) (f : Flow) → t .form ≡ WellFormed
-    → runOf ws (begunWith t f) m host ≡ entered (countersOf (v .direction)) v (message.takingIn ws t) (runOf ws f m host)
-unfolding runOf entered
-begun-run v t ws m host f w = rw w
-
-pub begun-fit : (len : ℕ) (ws : List ℕ) (t : Taken) (f : Flow) → t .form ≡ WellFormed → FitTaken len ws t
-    → FitMessage len ws (begunWith t f .message)
-begun-fit len ws t f w g =
-    record {
-      one = omega arith;
-      idle = λ z. absurd (omega (arith, z));
-      request = g .request;
-      reply = g .reply;
-      few = g .few;
-      short-request = g .short-request;
-      short-reply = g .short-reply;
-      moved = omega arith;
-      request-inside = g .request-inside w;
-      reply-inside = g .reply-inside w;
-    }
-
--- an ill-formed one refused
-refused-entered : (v : rules.Virtqueue) (t : rules.Taking) (r : Run rules.Queue) → isWell (t .form) ≡ false
-    → entered (countersOf (v .direction)) v t r ≡ refusedIn v t r
-unfolding entered
-refused-entered v t r w = rw w
-
-pub refused-steps : (v : rules.Virtqueue) (t : rules.Taking) (ws m : List ℕ) (f : Flow) (ws′ m′ : List ℕ) (r : Flow)
-    → isWell (t .form) ≡ false
-    → Steps (refusedIn v t) ws m f ws′ m′ r → Steps (entered (countersOf (v .direction)) v t) ws m f ws′ m′ r
-refused-steps v t ws m f ws′ m′ r w s =
-    record { run = λ host. s .run host ∙ sym (refused-entered v t _ w); message = s .message; moved = s .moved; long = s .long }
-
--- the next entry by its head
-module _ (v : rules.Virtqueue) (ws m host : List ℕ) (f : Flow) where
-  pub next-taken : (n : DescriptorNumber) → headOf m (v .page) (rules.queueSize v) (f .counters .taken) ≡ Head.At n
-      → next (countersOf (v .direction)) v (runOf ws f m host)
-      ≡ entered (countersOf (v .direction)) v (takingOf v m (n .0)) (runOf ws f m host)
-  unfolding next runOf
-  next-taken n h = rw h
-
-  pub next-stopped : (cause : Cause) → headOf m (v .page) (rules.queueSize v) (f .counters .taken) ≡ Head.Broken cause
-      → next (countersOf (v .direction)) v (runOf ws f m host) ≡ runOf ws (stoppedFlow cause f) m host
-  unfolding next runOf
-  next-stopped cause h = rw h
 
 -- a Release of the message in work
 module _ (v : rules.Virtqueue) (ws m host : List ℕ) (f : Flow) where

@@ -1,21 +1,17 @@
 -- What the code's structs stand for: a stream's queue and a call's progress on it, as the rules' `Queue` and `Run`.
 use mathlib.Core.Path.{_≡_}
-use mathlib.Core.Bool.{Bool, true, false, _||_}
+use mathlib.Core.Bool.{Bool, true, _||_}
 use mathlib.Core.List.{List}
-use Prim.Native.Nat.{ℕ, _+_, _-_, _%_, _≤_}
+use Prim.Native.Nat.{ℕ, _+_, _-_, _≤_}
 use lib.Dec.{eqb, ltb}
 use lib.ListN.{length, take, drop}
 use Rattle.ring.specs.Rules.{Completion}
-use Rattle.ring.specs.declared.Cause.{Cause}
-use Rattle.ring.specs.declared.Stop.{Stop}
 use Rattle.card.specs.Card.{noMessage}
 use Rattle.card.specs.Fit.{FitMessage}
-use Rattle.card.specs.declared.Counters.{Counters}
 use Rattle.card.specs.declared.Message.{Message}
-use Rattle.meaning.specs.Card.{queueOf}
-use Rattle.message.specs.declared.Taken.{Taken}
+use Rattle.message.specs.Work.{queueOf}
 use Rattle.device.specs.Device as rules
-use Rattle.device.specs.Transfer.{Run, completed, taking, moved, worked, givenUp}
+use Rattle.device.specs.Transfer.{Run, completed, moved, worked, givenUp}
 use Rattle.device.specs.Counters.{countersOf}
 use Rattle.flow.specs.declared.Flow.{Flow}
 use Rattle.flow.specs.declared.Job.{Job}
@@ -79,10 +75,6 @@ pub record FitFlow (len room : ℕ) (ws : List ℕ) (f : Flow) : Type 0 where
   pub message : FitMessage len ws (f .message)
   pub inside : f .moved ≤ room
 
--- a flow that begins
-abbrev pub freshFlow : Counters → Message → Flow
-freshFlow c m = record { counters = c; message = m; moved = 0; stop = Stop.Going; signal = false }
-
 -- n bytes more of the message and of the host
 abbrev pub advancedBy : ℕ → Flow → Flow
 advancedBy n f =
@@ -107,33 +99,6 @@ endedBy c f =
     record {
       counters = record { taken = f .counters .taken; completed = c .completed };
       message = noMessage;
-      moved = f .moved;
-      stop = f .stop;
-      signal = f .signal || c .interrupt;
-    }
-
--- a well-formed message in work, nothing of it moved
-abbrev pub begunWith : Taken → Flow → Flow
-begunWith t f =
-    record {
-      counters = record { taken = (f .counters .taken + 1) % 65536; completed = f .counters .completed };
-      message = record { count = 1; head = t .head; done = 0; request = t .request; reply = t .reply };
-      moved = f .moved;
-      stop = f .stop;
-      signal = f .signal;
-    }
-
--- the queue is broken
-abbrev pub stoppedFlow : Cause → Flow → Flow
-stoppedFlow cause f =
-    record { counters = f .counters; message = f .message; moved = f .moved; stop = Stop.Broke cause; signal = f .signal }
-
--- an entry taken and completed, no message in work
-abbrev pub refusedBy : Completion → Flow → Flow
-refusedBy c f =
-    record {
-      counters = record { taken = (f .counters .taken + 1) % 65536; completed = c .completed };
-      message = f .message;
       moved = f .moved;
       stop = f .stop;
       signal = f .signal || c .interrupt;
@@ -168,8 +133,3 @@ pub record Moves (d : rules.Direction) (step : Run rules.Queue → Run rules.Que
 pub record Ends (v : rules.Virtqueue) (e : rules.Ending) (ws m : List ℕ) (f : Flow) (m′ : List ℕ) (r : Flow) : Type 0 where
   pub steps : Steps (completed (countersOf (v .direction)) v e) ws m f ws m′ r
   pub free : r .message .count ≡ 0
-
--- an ill-formed chain taken and completed
-abbrev pub refusedIn : rules.Virtqueue → rules.Taking → Run rules.Queue → Run rules.Queue
-refusedIn v t r =
-    completed (countersOf (v .direction)) v rules.illFormed (taking (countersOf (v .direction)) v t r)

@@ -1,27 +1,22 @@
-// The steps of a stream's queue (01, "Play, capture, events"): the next entry is taken, the message in
-// work handed to the host or filled from it, and completed where nothing of it waits or a Release ends
-// it. Payload moves in runs.
+// The work on the message in work of a stream's line (01, "Play, capture, events"): it is handed to the host or
+// filled from it, and completed where nothing of it waits or a Release ends it. Payload moves in runs.
 ghost use mathlib.Core.Path.{_≡_};
 ghost use Prim.Native.Nat.{_+_, _-_, _≤_, _<_};
 ghost use lib.ListN.{length};
-ghost use Rattle.message.specs.Message.{directionOf, virtqueueIn, formIn, statusIn, takingIn, FitTaken};
+ghost use Rattle.message.specs.Message.{directionOf, virtqueueIn};
 ghost use Rattle.device.specs.Counters.{countersOf};
-ghost use Rattle.device.specs.Device.{wellFormed, illFormed};
+ghost use Rattle.device.specs.Device.{wellFormed};
 ghost use Rattle.card.specs.Fit.{FitMessage};
 ghost use mathlib.Core.Option.{some};
 ghost use mathlib.Core.Bool.{_||_};
-ghost use Rattle.device.specs.Transfer.{moved, entered, next, statusOf};
-ghost use Rattle.flow.specs.Flow.{FitFlow, Busy, payloadBytes, endingOf, advancedBy, begunWith, stoppedFlow, Steps, StepsOn, Ends};
-ghost use Rattle.flow.specs.Flow.{refusedIn, Moves, reachesOf, overOf, jobMoved, jobWorked};
+ghost use Rattle.device.specs.Transfer.{moved, statusOf};
+ghost use Rattle.flow.specs.Flow.{FitFlow, Busy, payloadBytes, endingOf, advancedBy, StepsOn, Ends};
+ghost use Rattle.flow.specs.Flow.{Moves, reachesOf, overOf, jobMoved, jobWorked};
 use card::Counters;
 use card::Message;
-use counts::DescriptorNumber;
 use message::Direction;
-use message::Form;
 use message::Status;
-use message::Taken;
 use message::Virtqueue;
-use ring::Cause;
 use ring::Stop;
 
 // A call's progress on a queue: its counters and message in work, the host bytes moved so far, where
@@ -198,104 +193,6 @@ fn end_message(m: &mut [u8], list: &[u64], q: Virtqueue, f: Flow, job: Job) -> F
         moved: f.moved,
         stop: stop,
         signal: either(f.signal, posted.interrupt),
-    }
-}
-
-// An ill-formed chain completed as soon as it is taken.
-fn refuse(m: &mut [u8], list: &[u64], q: Virtqueue, f: Flow, taken: Taken, status: Status) -> Flow
-    requires { ⌜ FitTaken (length (now m)) (now list) taken × FitMessage (length (now m)) (now list) (f .message)
-        × (statusIn status ≡ statusOf (directionOf (q .direction)) illFormed (formIn (taken .form))) ⌝ }
-    ensures { λ r. ⌜ (f .message .count ≡ 0
-        → Steps (refusedIn (virtqueueIn q) (takingIn (now (list .entry)) taken))
-        (now (list .entry)) (now (m .entry)) f (now (list .entry)) (now (m .exit)) r) ⌝ }
-{
-    let mut counters = f.counters;
-    let message = f.message;
-    let reply = taken.reply;
-    let posted = message::answer(m, list, q, counters.completed, taken.head, reply, status, 0);
-    counters.taken = std::num::wrapping_add_u16(counters.taken, 1);
-    counters.completed = posted.completed;
-    let stop = f.stop;
-    Flow {
-        counters: counters,
-        message: message,
-        moved: f.moved,
-        stop: stop,
-        signal: either(f.signal, posted.interrupt),
-    }
-}
-
-// An entry that was taken: a well-formed message is in work, an ill-formed one completed at once.
-fn enter(m: &mut [u8], list: &[u64], q: Virtqueue, f: Flow, taken: Taken) -> Flow
-    requires { ⌜ (f .message .count ≡ 0) × FitTaken (length (now m)) (now list) taken
-        × FitMessage (length (now m)) (now list) (f .message) ⌝ }
-    ensures { λ r. ⌜ Steps (entered (countersOf (directionOf (q .direction))) (virtqueueIn q) (takingIn (now (list .entry)) taken))
-        (now (list .entry)) (now (m .entry)) f (now (list .entry)) (now (m .exit)) r ⌝ }
-{
-    let form = taken.form;
-    match form {
-        Form::WellFormed => begin(f, taken),
-        Form::Refused => refuse(m, list, q, f, taken, Status::Code(message::IO_ERR)),
-        Form::Silent => refuse(m, list, q, f, taken, Status::Nothing),
-        Form::Unwalked(_) => refuse(m, list, q, f, taken, Status::Nothing),
-    }
-}
-
-// A well-formed message is in work, nothing of it moved.
-fn begin(f: Flow, taken: Taken) -> Flow
-    ensures { λ r. ⌜ r ≡ begunWith taken f ⌝ }
-{
-    let mut counters = f.counters;
-    counters.taken = std::num::wrapping_add_u16(counters.taken, 1);
-    let head = taken.head;
-    let request = taken.request;
-    let reply = taken.reply;
-    let stop = f.stop;
-    Flow {
-        counters: counters,
-        message: Message {
-            count: 1,
-            head: head,
-            done: 0,
-            request: request,
-            reply: reply,
-        },
-        moved: f.moved,
-        stop: stop,
-        signal: f.signal,
-    }
-}
-
-// The queue is broken: nothing more is taken.
-fn halt(f: Flow, cause: Cause) -> Flow
-    ensures { λ r. ⌜ r ≡ stoppedFlow cause f ⌝ }
-{
-    let counters = f.counters;
-    let message = f.message;
-    Flow {
-        counters: counters,
-        message: message,
-        moved: f.moved,
-        stop: Stop::Broke(cause),
-        signal: f.signal,
-    }
-}
-
-// The next new entry, its ranges put into the list; a bad head is not taken, and stops the flow.
-pub fn meet(m: &mut [u8], list: &mut [u64], q: Virtqueue, f: Flow) -> Flow
-    requires { ⌜ (68 ≤ length (now list)) × (f .message .count ≡ 0) × FitMessage (length (now m)) (now list) (f .message) ⌝ }
-    ensures { λ r. ⌜ Steps (next (countersOf (directionOf (q .direction))) (virtqueueIn q))
-        (now (list .entry)) (now (m .entry)) f (now (list .exit)) (now (m .exit)) r ⌝ }
-{
-    let direction = q.direction;
-    let counters = f.counters;
-    let size = message::queue_size(direction);
-    match ring::next_head(m, q.page, size, counters.taken) {
-        ring::Head::Broken(cause) => halt(f, cause),
-        ring::Head::At(number) => {
-            let taken = message::take_chain(m, list, q, number);
-            enter(m, list, q, f, taken)
-        }
     }
 }
 

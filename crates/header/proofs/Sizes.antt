@@ -8,19 +8,19 @@ use Rattle.wekshurag.proofs.ReadResult.Laws as ReadResult
 use Rattle.wekshurag.proofs.WriteResult.Laws as WriteResult
 use Rattle.wekshurag.proofs.CallResult.Laws as CallResult
 
-pub wekshurag-live : size Live.mir ≡ 136
+pub wekshurag-live : size Live.mir ≡ 96
 wekshurag-live = refl
 
 pub wekshurag-live-align : align Live.mir ≡ 8
 wekshurag-live-align = refl
 
-pub wekshurag-board : size Board.mir ≡ 480
+pub wekshurag-board : size Board.mir ≡ 672
 wekshurag-board = refl
 
 pub wekshurag-board-align : align Board.mir ≡ 8
 wekshurag-board-align = refl
 
-pub wekshurag-description : size Description.mir ≡ 256
+pub wekshurag-description : size Description.mir ≡ 384
 wekshurag-description = refl
 
 pub wekshurag-read-result : size ReadResult.mir ≡ 8

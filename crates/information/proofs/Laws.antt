@@ -14,14 +14,14 @@ use Rattle.card.specs.Card.{noStream}
 use Rattle.card.specs.declared.Stream.{Stream}
 use Rattle.card.specs.Fit.{FitParts}
 use Rattle.card.specs.declared.Parts.{Parts}
-use Rattle.rules.specs.Control.{itemsOf, fitted, jackItem, noJack, pcmItem, pcmItems, mapItem, joined}
+use Rattle.rules.specs.Control.{fitted, jackItem, noJack, pcmItemOf, pcmItemsBy, mapItem, joined}
 use Rattle.ranges.specs.Ranges.{bytesAt, upFrom}
 use Rattle.ranges.proofs.Laws.{take-append, bytesAt-upFrom}
-use Rattle.meaning.specs.Card.{partsOf}
+use Rattle.line_calls.specs.Streams.{streamsIn, directionNumber}
 use Rattle.rules.specs.declared.Listing.{Listing}
 use Rattle.rules.specs.declared.Listing.the-variants.{Jacks, Streams, Maps}
 use Rattle.device.specs.Device.{bytesOf}
-use Rattle.information.specs.Items.{laid, fourOf, jackBytes, mapBytes, emptyMap, WholeMaps, Holds, row}
+use Rattle.information.specs.Items.{itemsIn, laid, fourOf, streamItem, sixOf, jackBytes, mapBytes, emptyMap, WholeMaps, Holds, row}
 
 -- ---- items
 
@@ -38,17 +38,18 @@ getD-map f d e [] i h = absurd (omega arith)
 getD-map f d e (x ∷ l) zero h = refl
 getD-map f d e (x ∷ l) (suc i) h = getD-map f d e l i (omega arith)
 
-pub length-pcmItems : (number : ℕ) (l : List Stream) → length (pcmItems number l) ≡ length l
-length-pcmItems number [] = refl
-length-pcmItems number (s ∷ l) = ap suc (length-pcmItems (suc number) l)
+module _ (direction : ℕ → ℕ) where
+  pub length-pcmItems : (number : ℕ) (l : List Stream) → length (pcmItemsBy direction number l) ≡ length l
+  length-pcmItems number [] = refl
+  length-pcmItems number (s ∷ l) = ap suc (length-pcmItems (suc number) l)
 
-pub getD-pcmItems : (number : ℕ) (l : List Stream) (i : ℕ) → i < length l → getD (pcmItems number l) i [] ≡ pcmItem (number + i)
-    (getD l i noStream)
-getD-pcmItems number [] i h = absurd (omega arith)
-getD-pcmItems number (s ∷ l) zero h = let e : number + 0 ≡ number = omega arith in rw e
-getD-pcmItems number (s ∷ l) (suc i) h =
-    let e : number + suc i ≡ suc number + i = omega arith in
-    rw e (getD-pcmItems (suc number) l i (omega arith))
+  pub getD-pcmItems : (number : ℕ) (l : List Stream) (i : ℕ) → i < length l
+      → getD (pcmItemsBy direction number l) i [] ≡ pcmItemOf (direction (number + i)) (getD l i noStream)
+  getD-pcmItems number [] i h = absurd (omega arith)
+  getD-pcmItems number (s ∷ l) zero h = let e : number + 0 ≡ number = omega arith in rw e
+  getD-pcmItems number (s ∷ l) (suc i) h =
+      let e : number + suc i ≡ suc number + i = omega arith in
+      rw e (getD-pcmItems (suc number) l i (omega arith))
 
 -- ---- items of another size
 
@@ -117,19 +118,19 @@ module _ {A : Type 0} (f : A → List ℕ) (d : A) (k : ℕ) (l : List A) (i : �
   pub listed : getD (map f (take k l)) i [] ≡ f (getD l i d)
   listed = rw (getD-map f d [] (take k l) i inside, getD-take k l i d (listed-inside .0))
 
-module _ (k : ℕ) (l : List Stream) (i : ℕ) (h : i < length (pcmItems 0 (take k l))) where
+module _ (direction : ℕ → ℕ) (k : ℕ) (l : List Stream) (i : ℕ) (h : i < length (pcmItemsBy direction 0 (take k l))) where
   among : i < length (take k l)
-  among = rw length-pcmItems at h
+  among = rw (length-pcmItems direction 0 (take k l)) at h
 
   pub streams-inside : (i < k) × (i < length l)
   streams-inside = let b : i < length (take k l) = among in (omega (arith, length-take k l), omega (arith, length-take k l))
 
-  pub listed-stream : getD (pcmItems 0 (take k l)) i [] ≡ pcmItem i (getD l i noStream)
-  listed-stream = rw (getD-pcmItems 0 (take k l) i among, zero-add, getD-take k l i noStream (streams-inside .0))
+  pub listed-stream : getD (pcmItemsBy direction 0 (take k l)) i [] ≡ pcmItemOf (direction i) (getD l i noStream)
+  listed-stream = rw (getD-pcmItems direction 0 (take k l) i among, zero-add, getD-take k l i noStream (streams-inside .0))
 
-pub few-items : (l : Listing) (p : Parts) → FitParts p → length (itemsOf l (partsOf p)) ≤ 4
+pub few-items : (l : Listing) (p : Parts) → FitParts p → length (itemsIn l p) ≤ 6
 few-items Jacks p f = rw (length-map, length-take) (omega arith)
-few-items Streams p f = rw (length-pcmItems, length-take) (omega arith)
+few-items Streams p f = rw (length-pcmItems (directionNumber (streamsIn p)) 0, length-take) (omega arith)
 few-items Maps p f = rw (length-map, length-take) (omega arith)
 
 -- ---- items in a buffer
@@ -191,6 +192,15 @@ four-at f d l (suc (suc zero)) h = refl
 four-at f d l (suc (suc (suc zero))) h = refl
 four-at f d l (suc (suc (suc (suc i)))) h = absurd (omega arith)
 
+six-at : (outputs : ℕ) (l : List Stream) (i : ℕ) → i < 6 → getD (sixOf outputs l) i [] ≡ streamItem outputs l i
+six-at outputs l zero h = refl
+six-at outputs l (suc zero) h = refl
+six-at outputs l (suc (suc zero)) h = refl
+six-at outputs l (suc (suc (suc zero))) h = refl
+six-at outputs l (suc (suc (suc (suc zero)))) h = refl
+six-at outputs l (suc (suc (suc (suc (suc zero))))) h = refl
+six-at outputs l (suc (suc (suc (suc (suc (suc i)))))) h = absurd (omega arith)
+
 -- the first bytes of an item at its place
 cut-there : (xs : List (List ℕ)) (bs : List ℕ) (natural i : ℕ) → ((k : ℕ) → k < length xs → length (getD xs k []) ≡ 32)
     → 32 * length xs ≤ length bs → i < length xs → natural ≤ 32
@@ -200,8 +210,8 @@ cut-there xs bs natural i long h g n =
     sym (take-take natural 32 (drop (32 * i) (laid bs 0 xs)) n)
     ∙ ap (take natural) (rw e at (laid-there xs bs 0 i long (omega arith) g))
 
-module _ (p : Parts) (f : FitParts p) (bs : List ℕ) (b : length bs ≡ 128) where
-  pub jacks-held : Holds 24 (itemsOf Jacks (partsOf p)) (laid bs 0 (fourOf jackBytes noJack (p .jacks)))
+module _ (p : Parts) (f : FitParts p) (bs : List ℕ) (b : length bs ≡ 192) where
+  pub jacks-held : Holds 24 (itemsIn Jacks p) (laid bs 0 (fourOf jackBytes noJack (p .jacks)))
   unfolding bytesOf
   jacks-held i h =
       let few : i < 4 = omega (arith, listed-inside jackItem noJack (p .«jack_count») (p .jacks) i h .0) in
@@ -209,22 +219,16 @@ module _ (p : Parts) (f : FitParts p) (bs : List ℕ) (b : length bs ≡ 128) wh
       (omega arith)
       ∙ rw (four-at jackBytes noJack (p .jacks) i few, listed jackItem noJack (p .«jack_count») (p .jacks) i h)
 
-  abbrev twoStreams : List (List ℕ)
-  twoStreams = pcmItem 0 (getD (p .streams) 0 noStream) ∷ pcmItem 1 (getD (p .streams) 1 noStream) ∷ []
-
-  two-at : (i : ℕ) → i < 2 → getD twoStreams i [] ≡ pcmItem i (getD (p .streams) i noStream)
-  two-at zero h = refl
-  two-at (suc zero) h = refl
-  two-at (suc (suc i)) h = absurd (omega arith)
-
-  pub streams-held : Holds 32 (itemsOf Streams (partsOf p)) (laid bs 0 twoStreams)
+  pub streams-held : Holds 32 (itemsIn Streams p) (laid bs 0 (sixOf (p .«output_count») (p .streams)))
   unfolding bytesOf
   streams-held i h =
-      let few : i < 2 = omega (arith, streams-inside (p .«stream_count») (p .streams) i h .0) in
-      cut-there twoStreams bs 32 i (λ k g. rw (two-at k g)) (omega arith) few (omega arith)
-      ∙ rw (two-at i few, listed-stream (p .«stream_count») (p .streams) i h)
+      let numbered = directionNumber (streamsIn p) in
+      let items = sixOf (p .«output_count») (p .streams) in
+      let few : i < 6 = omega (arith, streams-inside numbered (p .«stream_count») (p .streams) i h .0) in
+      cut-there items bs 32 i (λ k g. rw (six-at (p .«output_count») (p .streams) k g)) (omega arith) few (omega arith)
+      ∙ rw (six-at (p .«output_count») (p .streams) i few, listed-stream numbered (p .«stream_count») (p .streams) i h)
 
-  pub maps-held : WholeMaps (p .maps) → Holds 24 (itemsOf Maps (partsOf p)) (laid bs 0 (fourOf mapBytes emptyMap (p .maps)))
+  pub maps-held : WholeMaps (p .maps) → Holds 24 (itemsIn Maps p) (laid bs 0 (fourOf mapBytes emptyMap (p .maps)))
   maps-held w i h =
       let few : i < 4 = omega (arith, listed-inside mapItem emptyMap (p .«map_count») (p .maps) i h .0) in
       cut-there (fourOf mapBytes emptyMap (p .maps)) bs 24 i

@@ -1,21 +1,19 @@
 // The items of JACK_INFO, PCM_INFO and CHMAP_INFO (01, "Control messages").
 ghost use mathlib.Core.Path.{_≡_};
-ghost use mathlib.Core.List.{[], _∷_, map};
-ghost use mathlib.Core.Bool.{cond};
-ghost use lib.Dec.{eqb};
+ghost use mathlib.Core.List.{map};
 ghost use Prim.Native.Nat.{_+_, _*_, _≤_};
-ghost use lib.ListN.{length, getD, take, drop, replicate};
+ghost use lib.ListN.{length, take, drop, replicate};
 ghost use lib.Seq.{sets};
 ghost use Rattle.card.specs.Fit.{FitParts};
-ghost use Rattle.meaning.specs.Card.{partsOf};
 ghost use Rattle.ranges.specs.Ranges.{rangesOf, places, putAt};
-ghost use Rattle.card.specs.Card.{noStream};
-ghost use Rattle.rules.specs.Control.{pcmItem, mapItem, noJack, naturalSize, itemsOf, fitted, joined};
-ghost use Rattle.information.specs.Items.{laid, fourOf, jackBytes, mapBytes, emptyMap, WholeMaps, Holds, row};
+ghost use Rattle.rules.specs.Control.{pcmItemOf, mapItem, noJack, naturalSize, fitted, joined};
+ghost use Rattle.information.specs.Items.{itemsIn, directionIn, laid, fourOf, sixOf, jackBytes, mapBytes, emptyMap, WholeMaps};
+ghost use Rattle.information.specs.Items.{Holds, row};
 use card::Jack;
 use card::Parts;
 use card::Stream;
 use description::MapInfo;
+use description::STREAMS;
 use ranges::Ranges;
 use rules::Listing;
 
@@ -33,7 +31,7 @@ fn natural_size(l: Listing) -> usize
 // How many items there are.
 pub fn total(parts: Parts, l: Listing) -> usize
     requires { ⌜ FitParts parts ⌝ }
-    ensures { λ r. ⌜ (r ≡ length (itemsOf l (partsOf parts))) × (r ≤ 4) ⌝ }
+    ensures { λ r. ⌜ (r ≡ length (itemsIn l parts)) × (r ≤ 6) ⌝ }
 {
     match l {
         Listing::Jacks => parts.jack_count,
@@ -56,18 +54,18 @@ fn jack_item(jack: Jack) -> [u8; 32]
     bytes
 }
 
-// Stream 0 is the output (direction 0), the others are inputs (1).
-fn direction_of(number: usize) -> u8
-    ensures { λ r. ⌜ r ≡ cond (eqb number 0) 0 1 ⌝ }
+// The direction of a stream: outputs (0) are numbered first, the others are inputs (1).
+fn direction_of(outputs: usize, number: usize) -> u8
+    ensures { λ r. ⌜ r ≡ directionIn outputs number ⌝ }
 {
-    if number == 0 {
+    if number < outputs {
         return 0;
     }
     1
 }
 
-fn pcm_item(number: usize, stream: Stream) -> [u8; 32]
-    ensures { λ r. ⌜ r ≡ pcmItem number stream ⌝ }
+fn pcm_item(outputs: usize, number: usize, stream: Stream) -> [u8; 32]
+    ensures { λ r. ⌜ r ≡ pcmItemOf (directionIn outputs number) stream ⌝ }
 {
     let info = stream.info;
     let mut bytes = [0u8; 32];
@@ -75,7 +73,7 @@ fn pcm_item(number: usize, stream: Stream) -> [u8; 32]
     memory::set32(&mut bytes, 4, info.features);
     memory::set64(&mut bytes, 8, info.formats);
     memory::set64(&mut bytes, 16, info.rates);
-    bytes[24] = direction_of(number);
+    bytes[24] = direction_of(outputs, number);
     bytes[25] = info.channels_min;
     bytes[26] = info.channels_max;
     bytes
@@ -102,7 +100,7 @@ fn put_item(bytes: &mut [u8], at: usize, item: [u8; 32])
 }
 
 fn put_jacks(bytes: &mut [u8], jacks: [Jack; 4])
-    requires { ⌜ length (now bytes) ≡ 128 ⌝ }
+    requires { ⌜ length (now bytes) ≡ 192 ⌝ }
     ensures { λ r. ⌜ now (bytes .exit) ≡ laid (now (bytes .entry)) 0 (fourOf jackBytes noJack jacks) ⌝ }
 {
     put_item(bytes, 0, jack_item(jacks[0]));
@@ -111,17 +109,28 @@ fn put_jacks(bytes: &mut [u8], jacks: [Jack; 4])
     put_item(bytes, 96, jack_item(jacks[3]));
 }
 
-fn put_streams(bytes: &mut [u8], streams: [Stream; 2])
-    requires { ⌜ length (now bytes) ≡ 128 ⌝ }
-    ensures { λ r. ⌜ now (bytes .exit)
-        ≡ laid (now (bytes .entry)) 0 (pcmItem 0 (getD streams 0 noStream) ∷ pcmItem 1 (getD streams 1 noStream) ∷ []) ⌝ }
+// The item of a stream at its place.
+fn put_stream(bytes: &mut [u8], at: usize, outputs: usize, number: usize, stream: Stream)
+    requires { ⌜ at + 32 ≤ length (now bytes) ⌝ }
+    ensures { λ r. ⌜ now (bytes .exit) ≡ sets (now (bytes .entry)) at (pcmItemOf (directionIn outputs number) stream) ⌝ }
 {
-    put_item(bytes, 0, pcm_item(0, streams[0]));
-    put_item(bytes, 32, pcm_item(1, streams[1]));
+    put_item(bytes, at, pcm_item(outputs, number, stream));
+}
+
+fn put_streams(bytes: &mut [u8], outputs: usize, streams: [Stream; STREAMS])
+    requires { ⌜ length (now bytes) ≡ 192 ⌝ }
+    ensures { λ r. ⌜ now (bytes .exit) ≡ laid (now (bytes .entry)) 0 (sixOf outputs streams) ⌝ }
+{
+    put_stream(bytes, 0, outputs, 0, streams[0]);
+    put_stream(bytes, 32, outputs, 1, streams[1]);
+    put_stream(bytes, 64, outputs, 2, streams[2]);
+    put_stream(bytes, 96, outputs, 3, streams[3]);
+    put_stream(bytes, 128, outputs, 4, streams[4]);
+    put_stream(bytes, 160, outputs, 5, streams[5]);
 }
 
 fn put_maps(bytes: &mut [u8], maps: [MapInfo; 4])
-    requires { ⌜ length (now bytes) ≡ 128 ⌝ }
+    requires { ⌜ length (now bytes) ≡ 192 ⌝ }
     ensures { λ r. ⌜ (now (bytes .exit) ≡ laid (now (bytes .entry)) 0 (fourOf mapBytes emptyMap maps))
         × WholeMaps maps ⌝ }
 {
@@ -133,8 +142,8 @@ fn put_maps(bytes: &mut [u8], maps: [MapInfo; 4])
 
 // All items of a list, 32 bytes apart.
 fn put_items(bytes: &mut [u8], parts: Parts, l: Listing)
-    requires { ⌜ FitParts parts × (length (now bytes) ≡ 128) ⌝ }
-    ensures { λ r. ⌜ Holds (naturalSize l) (itemsOf l (partsOf parts)) (now (bytes .exit)) ⌝ }
+    requires { ⌜ FitParts parts × (length (now bytes) ≡ 192) ⌝ }
+    ensures { λ r. ⌜ Holds (naturalSize l) (itemsIn l parts) (now (bytes .exit)) ⌝ }
 {
     match l {
         Listing::Jacks => {
@@ -143,7 +152,7 @@ fn put_items(bytes: &mut [u8], parts: Parts, l: Listing)
         }
         Listing::Streams => {
             let streams = parts.streams;
-            put_streams(bytes, streams);
+            put_streams(bytes, parts.output_count, streams);
         }
         Listing::Maps => {
             let maps = parts.maps;
@@ -212,7 +221,7 @@ fn write_row(
     count: usize,
     size: usize,
 ) -> usize
-    requires { ⌜ (natural ≤ 32) × (32 * (start + count) ≤ length (now items)) × (start + count ≤ 4) × (4 + count * size ≤ 4294967295) ⌝ }
+    requires { ⌜ (natural ≤ 32) × (32 * (start + count) ≤ length (now items)) × (start + count ≤ 6) × (4 + count * size ≤ 4294967295) ⌝ }
     ensures { λ r. ⌜ (now (m .exit)
         ≡ putAt (now (m .entry)) (drop 4 (places (rangesOf (now (list .entry)) reply))) (row natural size (now (items .entry)) start count))
         × (r ≡ 4 + count * size) ⌝ }
@@ -240,15 +249,15 @@ pub fn write_items(
     count: usize,
     size: usize,
 ) -> usize
-    requires { ⌜ FitParts parts × (start + count ≤ length (itemsOf l (partsOf parts)))
-        × (4 + length (joined (take count (drop start (map (fitted size) (itemsOf l (partsOf parts)))))) ≤ 4294967295) ⌝ }
+    requires { ⌜ FitParts parts × (start + count ≤ length (itemsIn l parts))
+        × (4 + length (joined (take count (drop start (map (fitted size) (itemsIn l parts))))) ≤ 4294967295) ⌝ }
     ensures { λ r. ⌜ (now (m .exit)
         ≡ putAt (now (m .entry)) (drop 4 (places (rangesOf (now (list .entry)) reply)))
-        (joined (take count (drop start (map (fitted size) (itemsOf l (partsOf parts)))))))
-        × (r ≡ 4 + length (joined (take count (drop start (map (fitted size) (itemsOf l (partsOf parts))))))) ⌝ }
+        (joined (take count (drop start (map (fitted size) (itemsIn l parts))))))
+        × (r ≡ 4 + length (joined (take count (drop start (map (fitted size) (itemsIn l parts)))))) ⌝ }
 {
     let natural = natural_size(l);
-    let mut items = [0u8; 128];
+    let mut items = [0u8; 192];
     put_items(&mut items, parts, l);
     write_row(m, list, reply, &items, natural, start, count, size)
 }

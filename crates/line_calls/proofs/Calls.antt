@@ -15,11 +15,10 @@ use Rattle.registers.specs.declared.Registers.{Registers}
 use Rattle.device.specs.Device.{Direction, output, input, queueNumber, Rest, Device, queueFor, withQueue, streamAt}
 use Rattle.device.specs.Transfer.{Run, Transferred, transferredBy}
 use Rattle.device.proofs.Cases.{by-cond₂}
-use Rattle.device.proofs.Natural.{lowTransferred}
 use Rattle.rules.specs.Calls.{Pending, Order, Done, ReleaseFirst, untouched, isRunning, admittedIf, readStep, orderedBy, endedOn}
 use Rattle.rules.specs.Calls.{releasedOn, transferStep, remembering, clearsQueue}
 use Rattle.rules.specs.Claim.{shownAs}
-use Rattle.rules.proofs.Calls.{low, shown-queue, endedOn-same, transferStep-same, writeBy-same, remembering-same}
+use Rattle.rules.proofs.Calls.{low, lowTransferred, shown-queue, endedOn-same, transferStep-same, writeBy-same, remembering-same}
 use Rattle.queue_lines.specs.Chains.{Virtqueue, lineOf, isOn}
 use Rattle.queue_lines.specs.Claim.{shownRun, queueOf}
 use Rattle.queue_lines.specs.Counters.{Queue}

@@ -1,27 +1,36 @@
--- The table of order 8's cases on whole calls.
-use mathlib.Core.Path.{_≡_, refl}
+-- The P cases are proved as one statement: the rules compute, once the tests that the hypotheses decide are in place.
+use mathlib.Core.Path.{_≡_, _∙_, refl, ap}
 use mathlib.Core.Bool.{Bool, true, false, _&&_}
 use mathlib.Core.List.{List, [], _∷_}
-use Prim.Native.Nat.{ℕ, _-_, _≤_, _<_, _^_}
+use Prim.Native.Nat.{ℕ, zero, suc, _+_, _-_, _≤_, _<_, _^_}
 use native.Mathlib.Omega.{arith}
-use borrow.Author.Tests.{eq-eqb, le-ltb, lt-ltb, lt-leb, le-leb}
+use borrow.Author.Tests.{eq-eqb, ne-eqb, le-ltb, lt-ltb, lt-leb, le-leb}
 use lib.Dec.{leb, ltb}
 use lib.ListN.{length}
+use Rattle.memory.specs.Bytes.{le}
 use Rattle.registers.specs.Answers.{notRunning, plain}
-use Rattle.device.specs.Device.{Direction, output, input, Rest, Device, queueFor, pageOf}
-use Rattle.device.specs.Numbers.{playQueue}
-use Rattle.device.specs.Transfer.{Shows}
-use Rattle.rules.specs.Calls.{isRunning, transferStep, remembering, untouched}
+use Rattle.registers.specs.Map.{sizeOf}
+use Rattle.registers.specs.declared.answers.Answer.{Answer}
+use Rattle.ring.specs.Rules.{entriesOf, foundOf, checkOf, headAt, headOf}
+use Rattle.ring.specs.declared.Cause.{Cause}
+use Rattle.ring.specs.declared.Check.{Check}
+use Rattle.ring.specs.declared.Head.{Head}
+use Rattle.device.specs.Device.{Direction, output, input, Rest, Device, queueFor, pageOf, streamAt, bytesOf}
+use Rattle.device.specs.Numbers.{controlQueue, playQueue}
+use Rattle.device.specs.Transfer.{Shows, Run, begun}
+use Rattle.rules.specs.Calls.{Order, ReleaseFirst, Pending, controlHeadBy, controlFoundBy, orderedBy, isRunning, transferStep, remembering}
+use Rattle.rules.specs.Calls.{untouched, releasedOn}
+use Rattle.rules.specs.Control.{decodedOf, remap}
 use Rattle.rules.specs.Table.{named}
-use Rattle.queue_lines.specs.Chains.{isOn}
+use Rattle.queue_lines.specs.Chains.{Virtqueue, lineOf, isOn}
 use Rattle.queue_lines.specs.Counters.{Line, Queue, lengthOf}
-use Rattle.queue_lines.specs.Rules.{transferred}
+use Rattle.queue_lines.specs.Rules.{onFound, releaseRun, found, transferred, emptied}
 use Rattle.queue_lines.proofs.Table as lines
 use Rattle.line_calls.specs.Account.{transferOf}
-use Rattle.line_calls.specs.Calls.{Play, virtqueueOf, runsOn, transferredOf, asked}
+use Rattle.line_calls.specs.Calls.{Play, virtqueueOf, served, orderOf, runsOn, transferredOf, releaseBy, asked}
 use Rattle.line_calls.specs.Claim.{card}
-use Rattle.line_calls.specs.Streams.{Streams}
-use Rattle.line_calls.specs.Table.{streams, Ready, Absent, Table}
+use Rattle.line_calls.specs.Streams.{Streams, directionOf}
+use Rattle.line_calls.specs.Table.{streams, Ready, Controls, controlled, endsAt, newFor, headFor, Absent, Table}
 use Rattle.rules.proofs.Anew.{clears-by}
 
 and-false : (x : Bool) → (x && false) ≡ false
@@ -82,9 +91,109 @@ too-many b m host id backlog completed x y ready l runs shows p q e =
       lines.table .one-more m (pageOf (b .rest) playQueue) _ backlog completed x y shows p q,
     )
 
+-- ---- order 6
+
+module _ (n : Streams) (b : Device Queue) (m : List ℕ) where
+  -- what a control message comes to, its Release included
+  abbrev orders : Order → Answer
+  orders o = orderedBy (releaseBy n (card n)) o b m .told .answer
+
+  module _ (c : Controls b m) where
+    -- past 1 and 5 the answer is what the queue's check says
+    checked :
+        (k : Check) → checkOf m (pageOf (b .rest) controlQueue) (sizeOf controlQueue) (b .rest .control .taken) 0 ≡ k
+        → controlled n b m ≡ orders (controlFoundBy (served n) (b .rest) m k)
+    unfolding orderOf
+    checked k e =
+        let o : orderOf n (b .rest) m ≡ controlFoundBy (served n) (b .rest) m k =
+        rw (eq-eqb (length m) (b .rest .ram) (c .ready .lent), c .ready .is-live, e) in
+        ap orders o
+
+    region-breaks : length m < endsAt (b .rest) controlQueue → controlled n b m ≡ named 9 0
+    unfolding foundOf
+    region-breaks h =
+        checked (Check.Broken Cause.Region)
+        (rw (
+          ne-eqb (pageOf (b .rest) controlQueue .0) 0 (λ e. omega (arith, c .based, e)),
+          lt-ltb (length m) (endsAt (b .rest) controlQueue) h,
+        ))
+
+    module _ (inside : endsAt (b .rest) controlQueue ≤ length m) where
+      inside-checked :
+          (k : Check) → entriesOf 64 (newFor (b .rest) m) 0 ≡ k → controlled n b m ≡ orders (controlFoundBy (served n) (b .rest) m k)
+      unfolding foundOf sizeOf
+      inside-checked k e =
+          checked k
+          (rw (
+            ne-eqb (pageOf (b .rest) controlQueue .0) 0 (λ e. omega (arith, c .based, e)),
+            le-ltb (length m) (endsAt (b .rest) controlQueue) inside,
+          ) e)
+
+      entries-break : 65 ≤ newFor (b .rest) m → controlled n b m ≡ named 11 0
+      entries-break h = inside-checked (Check.Broken Cause.Entries) (rw (lt-ltb 64 (newFor (b .rest) m + 0) (omega (arith, h))))
+
+      head-breaks : 1 ≤ newFor (b .rest) m → newFor (b .rest) m ≤ 64 → 64 ≤ headFor (b .rest) m → controlled n b m ≡ named 12 0
+      unfolding headAt sizeOf
+      head-breaks h i k =
+          inside-checked (Check.New (newFor (b .rest) m)) (rw (le-ltb 64 (newFor (b .rest) m + 0) (omega (arith, i))))
+          ∙ met (newFor (b .rest) m) h
+        where
+          met : (j : ℕ) → 1 ≤ j → orders (controlFoundBy (served n) (b .rest) m (Check.New j)) ≡ named 12 0
+          met zero h = absurd (omega arith)
+          met (suc j) h =
+              let e : headOf m (pageOf (b .rest) controlQueue) (sizeOf controlQueue) (b .rest .control .taken) ≡ Head.Broken Cause.Head =
+              rw (le-ltb (headFor (b .rest) m) 64 k) in
+              ap (λ (x : Head). orders (controlHeadBy (served n) (b .rest) m x)) e
+
+  -- a Release of output 0, once its queue was checked
+  module _ (p : Pending) where
+    abbrev lies : Virtqueue
+    lies = virtqueueOf n (p .rest) output (streamAt (p .rest) 0 .backlog)
+
+    abbrev released : Check → Answer
+    released k =
+        let e : Run Queue = onFound (card n output) lies (releaseRun (card n output) lies (lineOf lies 0)) (begun (b .play) m []) k in
+        releasedOn output 0 p (e .mem) (e .stop) (e .signal) .answer
+
+    release-checked : 0 < n .outputs → orders (ReleaseFirst 0 p) ≡ released (found (card n output) lies (b .play) m)
+    unfolding releaseBy emptied
+    release-checked first =
+        let d : directionOf n 0 ≡ output = rw (lt-ltb 0 (n .outputs) first) in
+        ap (λ (d : Direction).
+        let v : Virtqueue = virtqueueOf n (p .rest) d (streamAt (p .rest) 0 .backlog) in
+        let e : Run Queue = emptied (card n d) v (lineOf v 0) (queueFor d b) m in
+        releasedOn d 0 p (e .mem) (e .stop) (e .signal) .answer) d
+
+    release-breaks :
+        0 < n .outputs
+        → orderOf n (b .rest) m ≡ ReleaseFirst 0 p
+        → 0 < pageOf (p .rest) playQueue .0
+        → length m < endsAt (p .rest) playQueue
+        → controlled n b m ≡ named 9 2
+    unfolding foundOf
+    release-breaks first o based h =
+        let f : found (card n output) lies (b .play) m ≡ Check.Broken Cause.Region =
+        rw (ne-eqb (pageOf (p .rest) playQueue .0) 0 (λ e. omega (arith, based, e)), lt-ltb (length m) (endsAt (p .rest) playQueue) h) in
+        ap orders o ∙ release-checked first ∙ ap released f
+
 pub table : Table
+unfolding served decodedOf remap bytesOf le
 table =
     record {
+      one-item = λ r s room e h. (rw (e, le-leb 36 room h), refl);
+      no-item = λ r s room e h. (rw (e, le-leb 4 room h), refl);
+      no-wrap = λ r s room e. rw e;
+      no-room = λ r s e. rw e;
+      longer-item = λ r s room e h. (rw (e, le-leb 44 room h), refl);
+      shorter-item = λ r s room e h. (rw (e, le-leb 12 room h), refl);
+      no-size = λ r s room e. rw e;
+      no-size-no-item = λ r s room e h. (rw (e, le-leb 4 room h), refl);
+      no-room-longer = λ r s e. rw e;
+      remapped = λ n r j js room e f g. rw (e, f, g, lt-ltb 0 (length (j ∷ js)) (omega arith));
+      region-first = region-breaks;
+      then-entries = entries-break;
+      then-head = head-breaks;
+      release-names = release-breaks;
       fewest = refl;
       most = refl;
       no-output = refl;

@@ -18,7 +18,7 @@ use Rattle.rules.specs.Account.{releaseReplied}
 use Rattle.rules.specs.Calls.{Told, Pending, untouched, transferStep, remembering}
 use Rattle.rules.specs.Claim.{shownAs}
 use Rattle.rules.proofs.Calls.{low}
-use Rattle.rules.proofs.Turns.{release-memory}
+use Rattle.rules.proofs.Answered.{going-done, released-going, release-memory}
 use Rattle.queue_lines.specs.Chains.{Virtqueue, lineOf}
 use Rattle.queue_lines.specs.Claim.{queueOf, Beside, TakenAll, Drained}
 use Rattle.queue_lines.specs.Histories.{History, lineAt}
@@ -36,7 +36,6 @@ use Rattle.line_calls.specs.Demand3.{touches, Alone, Accounted, availabl
 use Rattle.line_calls.specs.Streams.{Streams, directionOf, firstOf, countOf}
 use Rattle.line_calls.proofs.Calls.{by-admitted, Kepts, ran, asked-queue, step-same}
 use Rattle.queue_lines.proofs.Drained.{transfer-takes, transfer-drains, release-drains}
-use Rattle.rules.proofs.Drained.{going-done, released-going}
 use Rattle.rules.proofs.Backlog.{done-admitted}
 
 module _ (n : Streams) (d : Direction) (said : ℕ → List ℕ) (h : History) (k : Kept d (firstOf n d) (countOf n d) said h) where

@@ -14,7 +14,9 @@ use Rattle.queue_lines.specs.Parts.{Lay, lies}
 use Rattle.queue_lines.specs.Rules.{Ops, transferred, emptied}
 use Rattle.line_calls.specs.Streams.{Streams, directionOf, firstOf, countOf, directionNumber}
 
--- "Each play, capture or Release, naming its stream": the number first; then the host's buffer or bytes, and its backlog
+-- "Play lends a host buffer, capture lends host bytes; both answer a byte count." "Each play, capture or Release, naming its stream": the
+-- number first; then the host's buffer or bytes. Order 5: "The play and capture calls now take the host's backlog in bytes (32 bits)": the
+-- last number
 pub data Request : Type 0 where
   ReadRegister : ℕ → ℕ → Request
   WriteRegister : ℕ → ℕ → ℕ → Request
@@ -23,7 +25,8 @@ pub data Request : Type 0 where
   Capture : ℕ → List ℕ → ℕ → Request
   Event : ℕ → ℕ → Request
 
--- a call: what is asked, and the memory lent to it
+-- a call: what is asked, and the memory lent to it. "nobody else writes memory during one; between calls the length of memory may change
+-- too": each call brings its own
 pub record Call : Type 0 where
   pub asked : Request
   pub lent : List ℕ
@@ -56,7 +59,8 @@ module _ (n : Streams) where
   runsOn r d id = isOn (virtqueueOf r d 0) id && isRunning r id
 
   module _ {Q : Type 0} (ops : Direction → Ops Q) where
-    -- "Play and capture: 1, 5, 6, 9."; "A play or capture works .. its own stream's line only"
+    -- "Play and capture: 1, 5, 6, 9."; "A play or capture works .. its own stream's line only". Order 5: ".. and every status completed in
+    -- that call carries it"
     unfoldable pub transferredOf : Direction → ℕ → ℕ → Device Q → List ℕ → List ℕ → Transferred Q
     transferredOf d id backlog b m host =
         let v : Virtqueue = virtqueueOf (b .rest) d backlog in

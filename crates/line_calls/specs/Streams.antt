@@ -1,8 +1,10 @@
 -- Order 8: the streams of a card, "one to four output and up to two input streams, outputs numbered first". How many there are is fixed at
 -- power-up.
-use mathlib.Core.Bool.{Bool, cond, _&&_}
-use Prim.Native.Nat.{ℕ}
-use lib.Dec.{leb, ltb}
+use mathlib.Core.Bool.{Bool, cond}
+use Prim.Native.Nat.{ℕ, _-_}
+use lib.Dec.{ltb}
+use Rattle.card.specs.declared.Parts.{Parts}
+use Rattle.description.specs.Lawful as description
 use Rattle.description.specs.declared.Description.{Description}
 use Rattle.device.specs.Device.{Direction, output, input}
 
@@ -13,9 +15,13 @@ pub record Streams : Type 0 where
 abbrev pub streamsOf : Description → Streams
 streamsOf d = record { outputs = d .«output_count»; inputs = d .«input_count» }
 
+-- those of a card with these parts
+abbrev pub streamsIn : Parts → Streams
+streamsIn p = record { outputs = p .«output_count»; inputs = p .«stream_count» - p .«output_count» }
+
 -- "Refusals: answer 10 for stream lists outside the new numbers."
 abbrev pub lawfulStreams : Streams → Bool
-lawfulStreams n = leb 1 (n .outputs) && leb (n .outputs) 4 && leb (n .inputs) 2
+lawfulStreams n = description.lawfulStreams (n .outputs) (n .inputs)
 
 -- the direction of a stream
 abbrev pub directionOf : Streams → ℕ → Direction

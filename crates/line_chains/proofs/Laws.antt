@@ -21,7 +21,8 @@ use Rattle.message.specs.Message.{formIn, FitTaken}
 use Rattle.message.specs.declared.Form.{Form}
 use Rattle.message.specs.declared.Form.the-variants.{WellFormed}
 use Rattle.message.proofs.Laws.{both-tests}
-use Rattle.queue_lines.specs.Chains.{Virtqueue, walked, judged, lineOf, isOn, Arrival, inLine, atOnce, arrival, arrivalOf, reading, readingOf}
+use Rattle.queue_lines.specs.Chains.{Virtqueue, walked, judged, lineOf, isOn, Arrival, inLine, atOnce, arrival, arrivalOf, reading}
+use Rattle.queue_lines.specs.Chains.{readingOf}
 use Rattle.line_chains.specs.Queue.{joinedLine, placeOf, ownStatus}
 
 -- a walk that no fault ended

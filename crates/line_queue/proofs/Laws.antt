@@ -16,7 +16,7 @@ use Rattle.flow.specs.Flow.{runOf}
 use Rattle.flow.specs.declared.Job.{Job}
 use Rattle.flow.specs.declared.Job.the-variants.{Transfer, Release}
 use Rattle.marks.specs.Marks.{messageIn, lineIn}
-use Rattle.meaning.specs.Card.{takingOfMessage, messageOf}
+use Rattle.message.specs.Work.{takingOfMessage, messageOf}
 use Rattle.ring.specs.Rules.{checkOf}
 use Rattle.ring.specs.declared.Cause.{Cause}
 use Rattle.ring.specs.declared.Check.{Check}
@@ -101,6 +101,7 @@ module _ (v : Virtqueue) (i : ℕ) (job : Job) (s m host : List ℕ) (p : Progre
           message = rw (k .chain, k .message) (w .fit .flow .message);
           line = rw (k .ring, k .line) (w .fit .line);
         };
+        inside = w .fit .flow .inside;
         long = w .long;
         host-long = w .host-long;
         read = w .read;
@@ -109,9 +110,9 @@ module _ (v : Virtqueue) (i : ℕ) (job : Job) (s m host : List ℕ) (p : Progre
 -- ---- all words
 
 module _ (v : Virtqueue) (i : ℕ) (job : Job) (ws m host : List ℕ) (p : Progress) (fit : FitSlots v (length m) ws) where
-  pub gone-line : going (p .stop) ≡ false → WorksLine v i job ws m host p ws m host p
+  pub gone-line : p .moved ≤ length host → going (p .stop) ≡ false → WorksLine v i job ws m host p ws m host p
   unfolding runWith
-  gone-line h = record { run = rw h; fit = fit; long = refl; host-long = refl; read = λ e. refl }
+  gone-line inside h = record { run = rw h; fit = fit; inside = inside; long = refl; host-long = refl; read = λ e. refl }
 
   module _ (there : i < v .streams) where
     abbrev slot : List ℕ
@@ -135,6 +136,7 @@ module _ (v : Virtqueue) (i : ℕ) (job : Job) (ws m host : List ℕ) (p : Progr
               (line-at (queueSize v) (v .streams) ws i there)
               ∙ going-line h;
           fit = slots-fit v (length m) i ws fit there ys l (w .fit);
+          inside = w .inside;
           long = w .long;
           host-long = w .host-long;
           read = w .read;
@@ -185,12 +187,20 @@ module _ (v : Virtqueue) (i : ℕ) (ws m host : List ℕ) (c : Counters) where
         (ran-between v i there (queueIn v ws c) (lines-long (queueSize v) (v .streams) ws) (fit .between) job m host)
 
     pub ran-idle : found (card v) v (queueIn v ws c) m ≡ Check.Idle → Ran v i job ws m host c ws m host (fresh c)
-    ran-idle e = record { run = ran-found job Check.Idle e; fit = fit; long = refl; host-long = refl; read = λ d. refl }
+    ran-idle e =
+        record { run = ran-found job Check.Idle e; fit = fit; inside = omega arith; long = refl; host-long = refl; read = λ d. refl }
 
     pub ran-broken : (cause : Cause) → found (card v) v (queueIn v ws c) m ≡ Check.Broken cause
         → Ran v i job ws m host c ws m host (halted cause (fresh c))
     ran-broken cause e =
-        record { run = halted-run cause ∙ ran-found job (Check.Broken cause) e; fit = fit; long = refl; host-long = refl; read = λ d. refl }
+        record {
+          run = halted-run cause ∙ ran-found job (Check.Broken cause) e;
+          fit = fit;
+          inside = omega arith;
+          long = refl;
+          host-long = refl;
+          read = λ d. refl;
+        }
 
     pub ran-new : (n : ℕ) → found (card v) v (queueIn v ws c) m ≡ Check.New n → (ws₁ m₁ : List ℕ) (p : Progress)
         → Takes v (takingRun (card v) v n) ws m (fresh c) ws₁ m₁ p → (ws′ m′ host′ : List ℕ) (r : Progress)
@@ -202,6 +212,7 @@ module _ (v : Virtqueue) (i : ℕ) (ws m host : List ℕ) (c : Counters) where
         record {
           run = same;
           fit = record { slots = rw (t .long) at (w .fit); between = left-between ws′ m′ host′ r same };
+          inside = w .inside;
           long = w .long ∙ t .long;
           host-long = w .host-long;
           read = w .read;

@@ -1,7 +1,7 @@
 -- What a job on a stream queue with lines does, by the rules: of a stream's play or capture `transferred`, of its Release `emptied`.
 use mathlib.Core.Path.{_≡_}
 use mathlib.Core.List.{List}
-use Prim.Native.Nat.{ℕ, _<_}
+use Prim.Native.Nat.{ℕ, _≤_, _<_}
 use lib.ListN.{length, getD, set}
 use Rattle.card.specs.declared.Counters.{Counters}
 use Rattle.card.specs.declared.Message.{Message}
@@ -40,6 +40,8 @@ pub record WorksSlot (v : Virtqueue) (i : ℕ) (job : Job) (s m host : List ℕ)
   pub run : (lines : List Line) → i < length lines → getD lines i noLine ≡ lineOf s
       → runWith (set lines i (lineOf s′)) r m′ host′ ≡ times (jobStep job v i) (lengthOf (lineOf s)) (runWith lines p m host)
   pub fit : FitSlot (length m) s′
+  -- no more was moved than the host has
+  pub inside : r .moved ≤ length host
   pub long : length m′ ≡ length m
   pub host-long : length host′ ≡ length host
   pub read : v .direction ≡ input → host′ ≡ host
@@ -49,6 +51,7 @@ pub record WorksLine (v : Virtqueue) (i : ℕ) (job : Job) (ws m host : List ℕ
     : Type 0 where
   pub run : runIn v ws′ r m′ host′ ≡ lineRun (card v) v i (jobStep job v i) (runIn v ws p m host)
   pub fit : FitSlots v (length m) ws′
+  pub inside : r .moved ≤ length host
   pub long : length m′ ≡ length m
   pub host-long : length host′ ≡ length host
   pub read : v .direction ≡ input → host′ ≡ host
@@ -68,6 +71,7 @@ ranOf Release v i q m host = lent host (emptied (card v) v i q m)
 pub record Ran (v : Virtqueue) (i : ℕ) (job : Job) (ws m host : List ℕ) (c : Counters) (ws′ m′ host′ : List ℕ) (r : Progress) : Type 0 where
   pub run : runIn v ws′ r m′ host′ ≡ ranOf job v i (queueIn v ws c) m host
   pub fit : FitLines v (length m) ws′ (r .counters)
+  pub inside : r .moved ≤ length host
   pub long : length m′ ≡ length m
   pub host-long : length host′ ≡ length host
   -- an input's host is only read

@@ -17,7 +17,7 @@ part-below n (suc j) a [] h = rw take-nil
 part-below n (suc j) zero (x ∷ xs) h = absurd (omega arith)
 part-below n (suc j) (suc a) (x ∷ xs) h = part-below n j a xs (omega arith)
 
-part-long : (a k : ℕ) (xs : List ℕ) → a + k ≤ length xs → length (take k (drop a xs)) ≡ k
+pub part-long : (a k : ℕ) (xs : List ℕ) → a + k ≤ length xs → length (take k (drop a xs)) ≡ k
 part-long a k xs h = length-take-le k (drop a xs) (rw length-drop (omega arith))
 
 module _ (a k : ℕ) (xs ys : List ℕ) (room : a + k ≤ length xs) (l : length ys ≡ k) where

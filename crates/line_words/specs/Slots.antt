@@ -8,7 +8,7 @@ use Rattle.card.specs.Fit.{FitMessage}
 use Rattle.card.specs.declared.Counters.{Counters}
 use Rattle.card.specs.declared.Message.{Message}
 use Rattle.marks.specs.Marks as marks
-use Rattle.meaning.specs.Card.{messageOf}
+use Rattle.message.specs.Work.{messageOf}
 use Rattle.waiting.specs.Waiting.{headsIn, FitLine}
 use Rattle.waiting.specs.declared.Line as waiting
 use Rattle.queue_lines.specs.Chains.{Virtqueue, queueSize}

@@ -7,11 +7,12 @@ use Prim.Native.Nat.{ℕ, _-_, _<_}
 use native.Mathlib.Omega.{arith}
 use borrow.Author.Tests.{ltb-true, ltb-false, lt-ltb, le-ltb, ne-eqb}
 use lib.ListN.{length}
+use Rattle.card.specs.Fit.{FitMessage}
 use Rattle.flow.specs.Flow.{runOf, reachesOf, jobWorked}
 use Rattle.flow.specs.declared.Flow.{Flow}
 use Rattle.flow.specs.declared.Job.{Job}
 use Rattle.flow.specs.declared.Job.the-variants.{Transfer, Release}
-use Rattle.message.specs.Message.{formIn, takingIn, answeredOf}
+use Rattle.message.specs.Message.{formIn, takingIn, answeredOf, FitTaken}
 use Rattle.message.specs.declared.Form.{Form}
 use Rattle.message.specs.declared.Form.the-variants.{WellFormed, Refused, Silent, Unwalked}
 use Rattle.message.specs.declared.Taken.{Taken}
@@ -29,6 +30,23 @@ use Rattle.line_work.specs.declared.Front.{Front}
 use Rattle.line_work.proofs.Lift.{reachable, step-up, step-none}
 
 -- ---- a front that is read
+
+-- a well-formed message begun
+pub begun-fit : (len : ℕ) (ws : List ℕ) (t : Taken) (f : Flow) → t .form ≡ WellFormed → FitTaken len ws t
+    → FitMessage len ws (begunFlow t f .message)
+begun-fit len ws t f w g =
+    record {
+      one = omega arith;
+      idle = λ z. absurd (omega (arith, z));
+      request = g .request;
+      reply = g .reply;
+      few = g .few;
+      short-request = g .short-request;
+      short-reply = g .short-reply;
+      moved = omega arith;
+      request-inside = g .request-inside w;
+      reply-inside = g .reply-inside w;
+    }
 
 pub well-only : (form : Form) → isWell (formIn form) ≡ true → form ≡ WellFormed
 well-only WellFormed e = refl

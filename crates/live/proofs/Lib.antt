@@ -1,2 +1,3 @@
--- The card of a small state, parts and words, under the register entries.
+-- The card of a small state, parts and words, under the register entries; its streams.
 pub mod Laws
+pub mod Streams

@@ -1,21 +1,19 @@
--- The small state of a card, what of a card it leaves to the parts and the words of the chains, and the register entries over it.
+-- The small state of a card, what of a card it leaves to the parts and the words of the queues, and the register entries over it.
 use mathlib.Core.Path.{_≡_}
-use mathlib.Core.Bool.{Bool, true, false, cond}
+use mathlib.Core.Bool.{Bool, true, false, cond, _||_}
 use mathlib.Core.List.{List, [], _∷_, map}
 use Prim.Native.Nat.{ℕ, _-_}
 use lib.Dec.{eqb}
 use lib.ListN.{length, getD, set, replicate}
 use Rattle.registers.specs.Fit.{FitRegisters}
-use Rattle.registers.specs.Map.{sizeOf}
 use Rattle.registers.specs.Rules.{readOf, writeOf}
 use Rattle.registers.specs.declared.Config.{Config}
 use Rattle.registers.specs.declared.Effect.{Effect}
 use Rattle.registers.specs.declared.Effect.the-variants.{Nothing, Reset, Based, Rung}
 use Rattle.registers.specs.declared.Read.{Read}
-use Rattle.registers.specs.declared.Registers.{Registers}
 use Rattle.registers.specs.declared.Written.{Written}
-use Rattle.card.specs.Card.{noCounters, noMessage, noParams, noStream, freshState}
-use Rattle.card.specs.Fit.{FitParts, FitQueue}
+use Rattle.card.specs.Card.{noCounters, noParams, noStream, freshState}
+use Rattle.card.specs.Fit.{FitParts}
 use Rattle.card.specs.Rules.{poweredOf, rungOf}
 use Rattle.card.specs.declared.Card.{Card}
 use Rattle.card.specs.declared.Jack.{Jack}
@@ -39,8 +37,14 @@ abbrev pub streamNow : Bool → ℕ → ℕ → Stream → Stream
 streamNow fresh state backlog s =
     record { info = s .info; state = state; params = cond fresh noParams (s .params); backlog = backlog }
 
+abbrev pub streamOf : Live → List Stream → ℕ → Stream
+streamOf l s i = streamNow (l .fresh) (getD (l .states) i 0) (getD (l .backlogs) i 0) (getD s i noStream)
+
 abbrev pub streamAt : Live → Parts → ℕ → Stream
-streamAt l p i = streamNow (l .fresh) (getD (l .states) i 0) (getD (l .backlogs) i 0) (getD (p .streams) i noStream)
+streamAt l p i = streamOf l (p .streams) i
+
+abbrev pub streamsNow : Live → List Stream → List Stream
+streamsNow l s = streamOf l s 0 ∷ streamOf l s 1 ∷ streamOf l s 2 ∷ streamOf l s 3 ∷ streamOf l s 4 ∷ streamOf l s 5 ∷ []
 
 abbrev pub partsNow : Live → Parts → Parts
 partsNow l p =
@@ -48,9 +52,10 @@ partsNow l p =
       «jack_count» = p .«jack_count»;
       «map_count» = p .«map_count»;
       «stream_count» = p .«stream_count»;
+      «output_count» = p .«output_count»;
       jacks = map (jackNow (l .fresh)) (p .jacks);
       maps = p .maps;
-      streams = streamAt l p 0 ∷ streamAt l p 1 ∷ [];
+      streams = streamsNow l (p .streams);
     }
 
 abbrev pub cardIn : Live → Parts → List ℕ → List ℕ → Card
@@ -59,9 +64,9 @@ cardIn l p pw cw =
       «ram_len» = l .«ram_len»;
       registers = l .registers;
       queues = l .queues;
-      play = l .play;
-      capture = l .capture;
       parts = partsNow l p;
+      «play_dropped» = l .«play_dropped»;
+      «capture_dropped» = l .«capture_dropped»;
       «play_words» = pw;
       «capture_words» = cw;
     }
@@ -69,6 +74,19 @@ cardIn l p pw cw =
 -- the counts of the parts
 abbrev pub configIn : Parts → Config
 configIn p = record { jacks = p .«jack_count»; streams = p .«stream_count»; chmaps = p .«map_count» }
+
+-- what the streams of parts have, one by one
+abbrev pub ofSix : (Stream → ℕ) → List Stream → List ℕ
+ofSix f l =
+    f (getD l 0 noStream) ∷ f (getD l 1 noStream) ∷ f (getD l 2 noStream) ∷ f (getD l 3 noStream) ∷ f (getD l 4 noStream)
+    ∷ f (getD l 5 noStream)
+    ∷ []
+
+abbrev pub statesOf : List Stream → List ℕ
+statesOf = ofSix (λ s. s .state)
+
+abbrev pub backlogsOf : List Stream → List ℕ
+backlogsOf = ofSix (λ s. s .backlog)
 
 -- ---- the small state of a card, and one beside parts that are as they are
 
@@ -79,11 +97,13 @@ liveOf c =
       registers = c .registers;
       config = configIn (c .parts);
       queues = c .queues;
-      play = c .play;
-      capture = c .capture;
-      states = getD (c .parts .streams) 0 noStream .state ∷ getD (c .parts .streams) 1 noStream .state ∷ [];
-      backlogs = getD (c .parts .streams) 0 noStream .backlog ∷ getD (c .parts .streams) 1 noStream .backlog ∷ [];
+      outputs = c .parts .«output_count»;
+      inputs = c .parts .«stream_count» - c .parts .«output_count»;
+      states = statesOf (c .parts .streams);
       fresh = false;
+      «play_dropped» = c .«play_dropped»;
+      «capture_dropped» = c .«capture_dropped»;
+      backlogs = backlogsOf (c .parts .streams);
     }
 
 abbrev pub keptLive : Live → Parts → Live
@@ -93,14 +113,16 @@ keptLive l p =
       registers = l .registers;
       config = l .config;
       queues = l .queues;
-      play = l .play;
-      capture = l .capture;
-      states = getD (p .streams) 0 noStream .state ∷ getD (p .streams) 1 noStream .state ∷ [];
-      backlogs = getD (p .streams) 0 noStream .backlog ∷ getD (p .streams) 1 noStream .backlog ∷ [];
+      outputs = l .outputs;
+      inputs = l .inputs;
+      states = statesOf (p .streams);
       fresh = false;
+      «play_dropped» = l .«play_dropped»;
+      «capture_dropped» = l .«capture_dropped»;
+      backlogs = backlogsOf (p .streams);
     }
 
--- a card but for the words of its chains
+-- a card but for the words of its queues
 abbrev pub boardOf : Card → Board
 boardOf c = record { live = liveOf c; parts = c .parts }
 
@@ -109,7 +131,8 @@ poweredBoard d len = record { answer = poweredOf d len .answer; board = boardOf 
 
 -- ---- the register entries
 
--- "counters and messages in work are cleared, streams are Fresh, remaps undone"
+-- "counters and messages in work are cleared, streams are Fresh, remaps undone"; order 8: "What drops 01's message in work drops the
+-- lines."
 unfoldable pub resetLive : Live → Live
 resetLive l =
     record {
@@ -117,14 +140,16 @@ resetLive l =
       registers = l .registers;
       config = l .config;
       queues = replicate 4 noCounters;
-      play = noMessage;
-      capture = noMessage;
-      states = replicate 2 freshState;
-      backlogs = replicate 2 0;
+      outputs = l .outputs;
+      inputs = l .inputs;
+      states = replicate 6 freshState;
       fresh = true;
+      «play_dropped» = true;
+      «capture_dropped» = true;
+      backlogs = replicate 6 0;
     }
 
--- a base write: "zero that queue's counters and drop its message in work"
+-- a base write: "zero that queue's counters and drop its message in work", so its lines
 unfoldable pub basedLive : ℕ → Live → Live
 basedLive q l =
     record {
@@ -132,11 +157,13 @@ basedLive q l =
       registers = l .registers;
       config = l .config;
       queues = set (l .queues) q noCounters;
-      play = cond (eqb q 2) noMessage (l .play);
-      capture = cond (eqb q 3) noMessage (l .capture);
+      outputs = l .outputs;
+      inputs = l .inputs;
       states = l .states;
-      backlogs = l .backlogs;
       fresh = l .fresh;
+      «play_dropped» = eqb q 2 || l .«play_dropped»;
+      «capture_dropped» = eqb q 3 || l .«capture_dropped»;
+      backlogs = l .backlogs;
     }
 
 abbrev pub affectedLive : Effect → Live → Live
@@ -161,24 +188,13 @@ writeLive l offset width v =
 pub record FitLive (l : Live) : Type 0 where
   pub registers : FitRegisters (l .registers)
   pub four : length (l .queues) ≡ 4
-  pub states : length (l .states) ≡ 2
-  pub backlogs : length (l .backlogs) ≡ 2
+  pub states : length (l .states) ≡ 6
+  pub backlogs : length (l .backlogs) ≡ 6
 
--- a stream's queue with the words of its chain
-abbrev pub FitPlay : Live → List ℕ → Type 0
-FitPlay l ws = FitQueue (sizeOf 2) (l .play .request .bytes - 4) (l .«ram_len») ws (getD (l .queues) 2 noCounters) (l .play)
-
-abbrev pub FitCapture : Live → List ℕ → Type 0
-FitCapture l ws = FitQueue (sizeOf 3) (l .capture .reply .bytes - 8) (l .«ram_len») ws (getD (l .queues) 3 noCounters) (l .capture)
-
--- all that a card is made of
-pub record Fits (l : Live) (p : Parts) (pw cw : List ℕ) : Type 0 where
+-- all that a card is made of but the words of its queues
+pub record FitBoard (l : Live) (p : Parts) : Type 0 where
   pub live : FitLive l
-  pub play : FitPlay l pw
-  pub capture : FitCapture l cw
   pub parts : FitParts (partsNow l p)
   pub counts : l .config ≡ configIn p
-
--- a card without a message in work, whatever the words of its chains hold
-abbrev pub Ready : Board → Type 0
-Ready b = (pw cw : List ℕ) → length pw ≡ 68 → length cw ≡ 68 → Fits (b .live) (b .parts) pw cw
+  pub outputs : l .outputs ≡ p .«output_count»
+  pub inputs : l .inputs ≡ p .«stream_count» - p .«output_count»

@@ -1,9 +1,9 @@
 -- The small state with one of its fields replaced.
+use mathlib.Core.Bool.{false}
 use mathlib.Core.List.{List}
 use Prim.Native.Nat.{ℕ}
 use lib.ListN.{set}
 use Rattle.card.specs.declared.Counters.{Counters}
-use Rattle.card.specs.declared.Message.{Message}
 use Rattle.registers.specs.declared.Registers.{Registers}
 use Rattle.live.specs.declared.Live.{Live}
 
@@ -14,11 +14,13 @@ withRegisters r l =
       registers = r;
       config = l .config;
       queues = l .queues;
-      play = l .play;
-      capture = l .capture;
+      outputs = l .outputs;
+      inputs = l .inputs;
       states = l .states;
-      backlogs = l .backlogs;
       fresh = l .fresh;
+      «play_dropped» = l .«play_dropped»;
+      «capture_dropped» = l .«capture_dropped»;
+      backlogs = l .backlogs;
     }
 
 -- the counters of a queue
@@ -29,40 +31,13 @@ withCounters q v l =
       registers = l .registers;
       config = l .config;
       queues = set (l .queues) q v;
-      play = l .play;
-      capture = l .capture;
+      outputs = l .outputs;
+      inputs = l .inputs;
       states = l .states;
-      backlogs = l .backlogs;
       fresh = l .fresh;
-    }
-
--- the message in work of a stream's queue
-abbrev pub withPlay : Message → Live → Live
-withPlay w l =
-    record {
-      «ram_len» = l .«ram_len»;
-      registers = l .registers;
-      config = l .config;
-      queues = l .queues;
-      play = w;
-      capture = l .capture;
-      states = l .states;
+      «play_dropped» = l .«play_dropped»;
+      «capture_dropped» = l .«capture_dropped»;
       backlogs = l .backlogs;
-      fresh = l .fresh;
-    }
-
-abbrev pub withCapture : Message → Live → Live
-withCapture w l =
-    record {
-      «ram_len» = l .«ram_len»;
-      registers = l .registers;
-      config = l .config;
-      queues = l .queues;
-      play = l .play;
-      capture = w;
-      states = l .states;
-      backlogs = l .backlogs;
-      fresh = l .fresh;
     }
 
 -- the streams' states and backlogs
@@ -73,11 +48,13 @@ withStates v l =
       registers = l .registers;
       config = l .config;
       queues = l .queues;
-      play = l .play;
-      capture = l .capture;
+      outputs = l .outputs;
+      inputs = l .inputs;
       states = v;
-      backlogs = l .backlogs;
       fresh = l .fresh;
+      «play_dropped» = l .«play_dropped»;
+      «capture_dropped» = l .«capture_dropped»;
+      backlogs = l .backlogs;
     }
 
 abbrev pub withBacklogs : List ℕ → Live → Live
@@ -87,9 +64,44 @@ withBacklogs v l =
       registers = l .registers;
       config = l .config;
       queues = l .queues;
-      play = l .play;
-      capture = l .capture;
+      outputs = l .outputs;
+      inputs = l .inputs;
       states = l .states;
-      backlogs = v;
       fresh = l .fresh;
+      «play_dropped» = l .«play_dropped»;
+      «capture_dropped» = l .«capture_dropped»;
+      backlogs = v;
+    }
+
+-- the words of a queue were written: they stand for its lines
+abbrev pub withPlayKept : Live → Live
+withPlayKept l =
+    record {
+      «ram_len» = l .«ram_len»;
+      registers = l .registers;
+      config = l .config;
+      queues = l .queues;
+      outputs = l .outputs;
+      inputs = l .inputs;
+      states = l .states;
+      fresh = l .fresh;
+      «play_dropped» = false;
+      «capture_dropped» = l .«capture_dropped»;
+      backlogs = l .backlogs;
+    }
+
+abbrev pub withCaptureKept : Live → Live
+withCaptureKept l =
+    record {
+      «ram_len» = l .«ram_len»;
+      registers = l .registers;
+      config = l .config;
+      queues = l .queues;
+      outputs = l .outputs;
+      inputs = l .inputs;
+      states = l .states;
+      fresh = l .fresh;
+      «play_dropped» = l .«play_dropped»;
+      «capture_dropped» = false;
+      backlogs = l .backlogs;
     }

@@ -1,46 +1,48 @@
 // The small state of a card, which a monitor lends behind one `&mut` at every call, and the register
-// entries over it. The rest of a card is its parts and the words of its chains; together they are
+// entries over it. The rest of a card is its parts and the words of its queues; together they are
 // the card (`cardIn`). A reset changes the small state only: what it undoes of the parts is told by
-// `fresh`.
+// `fresh`, that the words stand for nothing by `play_dropped` and `capture_dropped`.
 ghost use mathlib.Core.Path.{_≡_};
-ghost use mathlib.Core.Bool.{true};
+ghost use mathlib.Core.Bool.{true, _||_};
 ghost use mathlib.Core.List.{map};
 ghost use Prim.Native.Nat.{_<_};
+ghost use lib.Dec.{eqb};
 ghost use lib.ListN.{set};
-ghost use Rattle.card.specs.Card.{noCounters};
-ghost use Rattle.card.specs.Fit.{Fit};
-ghost use Rattle.card.specs.Rules.{readCard, writeCard};
+ghost use Rattle.card.specs.Card.{noCounters, cardOf};
+ghost use Rattle.card.specs.Fit.{FitParts};
 ghost use Rattle.registers.specs.Rules.{raised};
-ghost use Rattle.live.specs.Live.{jackNow, streamNow, partsNow, cardIn, liveOf, resetLive, basedLive, readLive, writeLive};
-ghost use Rattle.live.specs.Live.{keptLive, poweredBoard, FitLive, Ready};
+ghost use Rattle.live.specs.Live.{jackNow, streamNow, streamsNow, partsNow, cardIn, liveOf, resetLive, basedLive, readLive};
+ghost use Rattle.live.specs.Live.{writeLive, statesOf, backlogsOf, configIn, keptLive, boardOf, poweredBoard, FitLive, FitBoard};
+use card::CAPTURE_WORDS;
 use card::Card;
 use card::Counters;
 use card::Jack;
-use card::Message;
+use card::PLAY_WORDS;
 use card::Params;
 use card::Parts;
-use card::ReadAnswer;
 use card::Stream;
-use card::WriteAnswer;
 use description::Description;
 use description::STREAMS;
 use registers::Config;
 use registers::Effect;
 use registers::Registers;
 
-// What every call may touch. `config` counts the parts; `states` and `backlogs` are those of the
-// streams; `fresh`: since the parts were written a reset came, so that streams have no parameters
-// and jacks the configuration default that was described.
+// What every call may touch. `config` counts the parts, `outputs` and `inputs` the streams of each
+// direction; `states` and `backlogs` are those of the streams; `fresh`: since the parts were written a
+// reset came, so that streams have no parameters and jacks the configuration default that was described;
+// `play_dropped`: since the words of the play queue were written its lines were dropped.
 #[repr(C)]
 pub struct Live {
     pub ram_len: usize,
     pub registers: Registers,
     pub config: Config,
     pub queues: [Counters; 4],
-    pub play: Message,
-    pub capture: Message,
+    pub outputs: u8,
+    pub inputs: u8,
     pub states: [u8; STREAMS],
     pub fresh: bool,
+    pub play_dropped: bool,
+    pub capture_dropped: bool,
     pub backlogs: [u32; STREAMS],
 }
 
@@ -58,7 +60,7 @@ pub struct LiveWrite {
     pub live: Live,
 }
 
-// A card but for the words of its chains.
+// A card but for the words of its queues.
 #[repr(C)]
 pub struct Board {
     pub live: Live,
@@ -71,19 +73,87 @@ pub struct PoweredBoard {
     pub board: Board,
 }
 
-// Power-up: a card with `ram_len` bytes of memory, or answer 10. The words of its chains may hold anything.
-pub fn power_up(d: Description, ram_len: usize) -> PoweredBoard
-    ensures { λ r. ⌜ (r ≡ poweredBoard d «ram_len») × Ready (r .board) ⌝ }
+// The states of the streams.
+fn states_of(streams: [Stream; STREAMS]) -> [u8; STREAMS]
+    ensures { λ r. ⌜ r ≡ statesOf streams ⌝ }
 {
-    let powered = card::power_up(d, ram_len);
-    let card = powered.card;
-    let parts = card.parts;
+    [
+        streams[0].state,
+        streams[1].state,
+        streams[2].state,
+        streams[3].state,
+        streams[4].state,
+        streams[5].state,
+    ]
+}
+
+// The backlogs of the streams.
+fn backlogs_of(streams: [Stream; STREAMS]) -> [u32; STREAMS]
+    ensures { λ r. ⌜ r ≡ backlogsOf streams ⌝ }
+{
+    [
+        streams[0].backlog,
+        streams[1].backlog,
+        streams[2].backlog,
+        streams[3].backlog,
+        streams[4].backlog,
+        streams[5].backlog,
+    ]
+}
+
+// The counts of the parts, as the guest reads them.
+fn config_of(parts: Parts) -> Config
+    requires { ⌜ FitParts parts ⌝ }
+    ensures { λ r. ⌜ r ≡ configIn parts ⌝ }
+{
+    Config {
+        jacks: parts.jack_count as u32,
+        streams: parts.stream_count as u32,
+        chmaps: parts.map_count as u32,
+    }
+}
+
+// A card of these parts as at power-up, but for its words.
+fn board_of(parts: Parts, ram_len: usize) -> Board
+    requires { ⌜ FitParts parts ⌝ }
+    ensures { λ r. ⌜ r ≡ boardOf (cardOf parts «ram_len») ⌝ }
+{
+    let streams = parts.streams;
+    let live = Live {
+        ram_len: ram_len,
+        registers: Registers::power_on(),
+        config: config_of(parts),
+        queues: [Counters {
+            taken: 0,
+            completed: 0,
+        }; 4],
+        outputs: parts.output_count as u8,
+        inputs: (parts.stream_count - parts.output_count) as u8,
+        states: states_of(streams),
+        fresh: false,
+        play_dropped: true,
+        capture_dropped: true,
+        backlogs: backlogs_of(streams),
+    };
+    Board {
+        live: live,
+        parts: parts,
+    }
+}
+
+// Power-up: a card with `ram_len` bytes of memory, or answer 10. The words of its queues may hold anything.
+pub fn power_up(d: Description, ram_len: usize) -> PoweredBoard
+    ensures { λ r. ⌜ (r ≡ poweredBoard d «ram_len») × FitBoard (r .board .live) (r .board .parts) ⌝ }
+{
+    if !description::is_lawful(d) {
+        return PoweredBoard {
+            answer: registers::BAD_DESCRIPTION,
+            board: board_of(card::no_parts(), 0),
+        };
+    }
     PoweredBoard {
-        answer: powered.answer,
-        board: Board {
-            live: of_card(card),
-            parts: parts,
-        },
+        answer: registers::DONE,
+        board: board_of(card::parts_at_power(d), ram_len),
     }
 }
 
@@ -114,11 +184,11 @@ fn reset(live: Live) -> Live
         taken: 0,
         completed: 0,
     }; 4];
-    next.play = card::no_message();
-    next.capture = card::no_message();
     next.states = [card::FRESH; STREAMS];
     next.backlogs = [0; STREAMS];
     next.fresh = true;
+    next.play_dropped = true;
+    next.capture_dropped = true;
     next
 }
 
@@ -152,26 +222,30 @@ fn without(queues: [Counters; 4], queue: u16) -> [Counters; 4]
     }
 }
 
-// After a base write of `queue`, but for the registers.
+// Whether the lines of queue `which` are dropped after a base write of `queue`.
+fn dropped_after(before: bool, which: u16, queue: u16) -> bool
+    ensures { λ r. ⌜ r ≡ (eqb queue which || before) ⌝ }
+{
+    if queue == which {
+        return true;
+    }
+    before
+}
+
+// After a base write of `queue`, but for the registers. Both flags are written, so that none is reached by an address.
 fn based(live: Live, queue: u16) -> Live
     requires { ⌜ queue < 4 ⌝ }
     ensures { λ r. ⌜ r ≡ basedLive queue live ⌝ }
 {
-    let mut next = live;
     let queues = live.queues;
     let cleared = without(queues, queue);
+    let play = dropped_after(live.play_dropped, registers::PLAY_QUEUE, queue);
+    let capture = dropped_after(live.capture_dropped, registers::CAPTURE_QUEUE, queue);
+    let mut next = live;
     next.queues = cleared;
-    match queue {
-        registers::PLAY_QUEUE => {
-            next.play = card::no_message();
-            next
-        }
-        registers::CAPTURE_QUEUE => {
-            next.capture = card::no_message();
-            next
-        }
-        _ => next,
-    }
+    next.play_dropped = play;
+    next.capture_dropped = capture;
+    next
 }
 
 // A write of `value`, `width` bytes wide, to the registers at `offset`.
@@ -265,20 +339,31 @@ fn stream_now(fresh: bool, state: u8, backlog: u32, stream: Stream) -> Stream
     next
 }
 
+// The streams as they are.
+fn streams_now(live: Live, streams: [Stream; STREAMS]) -> [Stream; STREAMS]
+    ensures { λ r. ⌜ r ≡ streamsNow live streams ⌝ }
+{
+    let fresh = live.fresh;
+    let states = live.states;
+    let backlogs = live.backlogs;
+    [
+        stream_now(fresh, states[0], backlogs[0], streams[0]),
+        stream_now(fresh, states[1], backlogs[1], streams[1]),
+        stream_now(fresh, states[2], backlogs[2], streams[2]),
+        stream_now(fresh, states[3], backlogs[3], streams[3]),
+        stream_now(fresh, states[4], backlogs[4], streams[4]),
+        stream_now(fresh, states[5], backlogs[5], streams[5]),
+    ]
+}
+
 // The parts as they are.
 pub fn parts_now(live: Live, parts: Parts) -> Parts
     ensures { λ r. ⌜ r ≡ partsNow live parts ⌝ }
 {
-    let fresh = live.fresh;
     let jacks = parts.jacks;
     let streams = parts.streams;
-    let states = live.states;
-    let backlogs = live.backlogs;
-    let jacks_after = jacks_now(fresh, jacks);
-    let streams_after = [
-        stream_now(fresh, states[0], backlogs[0], streams[0]),
-        stream_now(fresh, states[1], backlogs[1], streams[1]),
-    ];
+    let jacks_after = jacks_now(live.fresh, jacks);
+    let streams_after = streams_now(live, streams);
     let mut next = parts;
     next.jacks = jacks_after;
     next.streams = streams_after;
@@ -290,96 +375,59 @@ pub fn keep(live: Live, parts: Parts) -> Live
     ensures { λ r. ⌜ r ≡ keptLive live parts ⌝ }
 {
     let streams = parts.streams;
-    let first = streams[0];
-    let second = streams[1];
+    let states = states_of(streams);
+    let backlogs = backlogs_of(streams);
     let mut next = live;
-    next.states = [first.state, second.state];
-    next.backlogs = [first.backlog, second.backlog];
+    next.states = states;
+    next.backlogs = backlogs;
     next.fresh = false;
     next
 }
 
 // The small state of a card.
 pub fn of_card(card: Card) -> Live
-    requires { ⌜ Fit card ⌝ }
+    requires { ⌜ FitParts (card .parts) ⌝ }
     ensures { λ r. ⌜ r ≡ liveOf card ⌝ }
 {
     let registers = card.registers;
     let queues = card.queues;
     let parts = card.parts;
     let streams = parts.streams;
-    let first = streams[0];
-    let second = streams[1];
-    let play = card.play;
-    let capture = card.capture;
     Live {
         ram_len: card.ram_len,
         registers: registers,
-        config: Config {
-            jacks: parts.jack_count as u32,
-            streams: parts.stream_count as u32,
-            chmaps: parts.map_count as u32,
-        },
+        config: config_of(parts),
         queues: queues,
-        play: play,
-        capture: capture,
-        states: [first.state, second.state],
-        backlogs: [first.backlog, second.backlog],
+        outputs: parts.output_count as u8,
+        inputs: (parts.stream_count - parts.output_count) as u8,
+        states: states_of(streams),
         fresh: false,
+        play_dropped: card.play_dropped,
+        capture_dropped: card.capture_dropped,
+        backlogs: backlogs_of(streams),
     }
 }
 
-// The card with this small state, these parts and these words of its chains.
-pub fn joined(live: Live, parts: Parts, play_words: [u64; 68], capture_words: [u64; 68]) -> Card
+// The card with this small state, these parts and these words of its queues.
+pub fn joined(
+    live: Live,
+    parts: Parts,
+    play_words: [u64; PLAY_WORDS],
+    capture_words: [u64; CAPTURE_WORDS],
+) -> Card
     ensures { λ r. ⌜ r ≡ cardIn live parts «play_words» «capture_words» ⌝ }
 {
     let registers = live.registers;
     let queues = live.queues;
-    let play = live.play;
-    let capture = live.capture;
     let now = parts_now(live, parts);
     Card {
         ram_len: live.ram_len,
         registers: registers,
         queues: queues,
-        play: play,
-        capture: capture,
         parts: now,
+        play_dropped: live.play_dropped,
+        capture_dropped: live.capture_dropped,
         play_words: play_words,
         capture_words: capture_words,
-    }
-}
-
-// A read of a card's registers.
-pub fn read_register(card: Card, offset: u64, width: u64) -> ReadAnswer
-    requires { ⌜ Fit card ⌝ }
-    ensures { λ r. ⌜ (r ≡ readCard card offset width) × Fit (r .card) ⌝ }
-{
-    let after = read(of_card(card), offset, width);
-    let live = after.live;
-    let parts = card.parts;
-    let play_words = card.play_words;
-    let capture_words = card.capture_words;
-    ReadAnswer {
-        answer: after.answer,
-        value: after.value,
-        card: joined(live, parts, play_words, capture_words),
-    }
-}
-
-// A write of a card's registers.
-pub fn write_register(card: Card, offset: u64, width: u64, value: u64) -> WriteAnswer
-    requires { ⌜ Fit card ⌝ }
-    ensures { λ r. ⌜ (r ≡ writeCard card offset width value) × Fit (r .card) ⌝ }
-{
-    let after = write(of_card(card), offset, width, value);
-    let live = after.live;
-    let parts = card.parts;
-    let play_words = card.play_words;
-    let capture_words = card.capture_words;
-    WriteAnswer {
-        answer: after.answer,
-        rung: after.rung,
-        card: joined(live, parts, play_words, capture_words),
     }
 }

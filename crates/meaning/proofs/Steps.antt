@@ -2,7 +2,7 @@
 use mathlib.Core.Path.{_≡_, refl, sym, ap}
 use mathlib.Core.List.{List, []}
 use mathlib.Core.Bool.{true, cond}
-use Prim.Native.Nat.{ℕ, zero, suc, _<_}
+use Prim.Native.Nat.{ℕ, zero, suc, _+_, _-_, _<_}
 use native.Mathlib.Omega.{arith}
 use lib.ListN.{length, getD, set, take}
 use lib.Seq.{length-take-le, getD-set-same, getD-set-other}
@@ -15,34 +15,45 @@ use Rattle.registers.specs.declared.Effect.{Effect}
 use Rattle.registers.specs.declared.Effect.the-variants.{Nothing, Reset, Based, Rung}
 use Rattle.registers.proofs.Queues.{queueNamed, queue-named}
 use Rattle.card.specs.Card.{noCounters}
+use Rattle.card.specs.Fit.{FitParts}
 use Rattle.card.specs.Setters.{withRegisters}
-use Rattle.card.specs.Fit.{Fit}
 use Rattle.card.specs.Rules.{poweredOf, readCard, writeCard, affected, resetCard, basedCard, rungOf, jackReset, streamReset}
 use Rattle.card.specs.declared.Card.{Card}
-use Rattle.rules.specs.Calls.{ReadRegister, WriteRegister, toldAll, nothingRung, readStep, writeStep, affectedRest, clearsQueue}
-use Rattle.rules.specs.Claim.{start}
-use Rattle.device.specs.Counters.{countersOf}
+use Rattle.rules.specs.Calls.{toldAll, nothingRung, readStep, affectedRest, clearsQueue}
 use Rattle.device.specs.Device as rules
-use Rattle.meaning.specs.Card.{queueOf, countersAt, restOf, deviceOf, stepOf}
+use Rattle.queue_lines.specs.Counters.{Queue}
+use Rattle.line_calls.specs.Calls.{ReadRegister, WriteRegister}
+use Rattle.line_calls.specs.Claim.{card, start}
+use Rattle.line_calls.specs.Streams.{streamsOf, streamsIn}
+use Rattle.meaning.specs.Card.{queueWith, countersAt, restOf, deviceOf, stepOf}
 
 -- ---- power-up
 
-pub power-start : (d : Description) (len : ℕ) → lawful d ≡ true → deviceOf (poweredOf d len .card) ≡ start countersOf d len
-unfolding deviceOf restOf poweredOf
-power-start d len h = rw h
+-- as many inputs as were described
+inputs-left : (a b : ℕ) → a + b - a ≡ b
+inputs-left a b = omega arith
+
+pub power-start : (d : Description) (len : ℕ) → lawful d ≡ true
+    → deviceOf (poweredOf d len .card) ≡ start (streamsOf d) (card (streamsOf d)) d len
+unfolding deviceOf restOf poweredOf queueWith
+power-start d len h = rw (h, inputs-left (d .«output_count») (d .«input_count»))
+
+pub power-streams : (d : Description) (len : ℕ) → lawful d ≡ true → streamsIn (poweredOf d len .card .parts) ≡ streamsOf d
+unfolding poweredOf
+power-streams d len h = rw (h, inputs-left (d .«output_count») (d .«input_count»))
 
 -- ---- reads
 
-module _ (c : Card) (f : Fit c) where
+module _ (c : Card) (f : FitParts (c .parts)) where
   -- the counts are those of the lists
   jacks-counted : length (take (c .parts .«jack_count») (c .parts .jacks)) ≡ c .parts .«jack_count»
-  jacks-counted = length-take-le (c .parts .«jack_count») (c .parts .jacks) (omega (arith, f .parts .jacks, f .parts .four-jacks))
+  jacks-counted = length-take-le (c .parts .«jack_count») (c .parts .jacks) (omega (arith, f .jacks, f .four-jacks))
 
   streams-counted : length (take (c .parts .«stream_count») (c .parts .streams)) ≡ c .parts .«stream_count»
-  streams-counted = length-take-le (c .parts .«stream_count») (c .parts .streams) (omega (arith, f .parts .streams, f .parts .two-streams))
+  streams-counted = length-take-le (c .parts .«stream_count») (c .parts .streams) (omega (arith, f .streams, f .six-streams))
 
   maps-counted : length (take (c .parts .«map_count») (c .parts .maps)) ≡ c .parts .«map_count»
-  maps-counted = length-take-le (c .parts .«map_count») (c .parts .maps) (omega (arith, f .parts .maps, f .parts .four-maps))
+  maps-counted = length-take-le (c .parts .«map_count») (c .parts .maps) (omega (arith, f .maps, f .four-maps))
 
   pub read-step : (offset width : ℕ) (m : List ℕ) → stepOf c (ReadRegister offset width) m
       ≡ record {
@@ -66,10 +77,10 @@ affected-rest : (e : Effect) (c : Card) → length (c .queues) ≡ 4 → queueNa
     → deviceOf (affected e c)
     ≡ record {
       rest = affectedRest e (restOf c);
-      play = cond (clearsQueue rules.output e) rules.emptyQueue (queueOf (c .«play_words») (countersAt c 2) (c .play));
-      capture = cond (clearsQueue rules.input e) rules.emptyQueue (queueOf (c .«capture_words») (countersAt c 3) (c .capture));
+      play = cond (clearsQueue rules.output e) (card (streamsIn (c .parts)) rules.output .empty) (deviceOf c .play);
+      capture = cond (clearsQueue rules.input e) (card (streamsIn (c .parts)) rules.input .empty) (deviceOf c .capture);
     }
-unfolding deviceOf restOf resetCard basedCard
+unfolding deviceOf restOf resetCard basedCard queueWith
 affected-rest Nothing c four h = refl
 affected-rest Reset c four h = rw (map-take jackReset, map-take streamReset)
 affected-rest (Based zero) c four h =
@@ -83,15 +94,15 @@ affected-rest (Based (suc (suc (suc zero)))) c four h =
 affected-rest (Based (suc (suc (suc (suc q))))) c four h = absurd (omega arith)
 affected-rest (Rung q) c four h = refl
 
-pub write-step : (c : Card) (f : Fit c) (offset width v : ℕ) (m : List ℕ) → stepOf c (WriteRegister offset width v) m
+pub write-step : (c : Card) → length (c .queues) ≡ 4 → (offset width v : ℕ) (m : List ℕ) → stepOf c (WriteRegister offset width v) m
     ≡ record {
       state = deviceOf (writeCard c offset width v .card);
       told = toldAll (plain (writeCard c offset width v .answer)) 0 (writeCard c offset width v .rung) 0 [] [] m;
     }
-unfolding writeStep writeCard deviceOf restOf
-write-step c f offset width v m =
+unfolding writeCard deviceOf restOf
+write-step c four offset width v m =
     let w = writeOf (c .registers) offset width v in
     ap
-    (λ (d : rules.Device rules.Queue).
+    (λ (d : rules.Device Queue).
     record { state = d; told = toldAll (plain (w .answer)) 0 (rungOf (w .effect)) 0 [] [] m })
-    (sym (affected-rest (w .effect) (withRegisters (w .registers) c) (f .four) (queue-named (c .registers) v offset width)))
+    (sym (affected-rest (w .effect) (withRegisters (w .registers) c) four (queue-named (c .registers) v offset width)))

@@ -1,18 +1,16 @@
 -- What a form says of the ranges, and the bytes of ids and statuses.
 use mathlib.Core.Path.{_≡_, _∙_, refl, ap}
 use mathlib.Core.List.{List, [], _∷_, _++_, append-nil}
-use mathlib.Core.Bool.{Bool, true, false, cond, _&&_, and-eq-true-iff, false≢true}
+use mathlib.Core.Bool.{Bool, true, false, cond, false≢true}
 use Prim.Native.Nat.{ℕ, zero, suc, _+_, _-_, _≤_, _<_, min}
 use native.Mathlib.Nat.{add-assoc, add-zero}
 use native.Mathlib.Omega.{arith}
-use lib.Dec.{eqb, leb}
 use lib.ListN.{length, take, drop, replicate}
 use lib.Seq.{sets, drop-append-add}
-use Rattle.chain.specs.Walk.{Outcome, walkOf}
 use Rattle.chain.specs.declared.Fault.{Fault}
 use Rattle.counts.specs.declared.PageNumber.{PageNumber}
 use Rattle.registers.specs.Map.{sizeOf}
-use Rattle.ring.specs.Rules.{baseOf, postOf}
+use Rattle.ring.specs.Rules.{postOf}
 use Rattle.ranges.proofs.Laws.{putAt-take, rangesOf-none, sound-none, rangesIn-more, upFrom-add, drop-upFrom, total-append, places-append}
 use Rattle.ranges.proofs.Laws.{length-places}
 use Rattle.message.specs.Message.{answeredOf, answeredLength, FitTaken}
@@ -23,7 +21,7 @@ use Rattle.memory.specs.Bytes.{le, put}
 use Rattle.ranges.specs.Ranges.{allInside, total, places, noRanges, rangeIn, rangesIn, upFrom, bytesAt, putAt}
 use Rattle.ranges.specs.declared.Range.{Range}
 use Rattle.device.specs.Device as rules
-use Rattle.device.specs.Transfer.{formOf, idOf, sized, isWell, statusBytes, statusInReply, walkedTaking, takingOf}
+use Rattle.device.specs.Transfer.{idOf, isWell, statusBytes, statusInReply}
 
 -- four bytes put at the start of four zeros, or fewer, read as they do by themselves
 pub le-of-four : (bs : List ℕ) → length bs ≤ 4 → le 4 (sets (replicate 4 0) 0 bs) 0 ≡ le 4 bs 0
@@ -84,12 +82,6 @@ status-last m ws i n x code latency p w h =
     let f : x .at .0 + (x .len - 4) ≡ x .at .0 + (x .len - 8) + 4 = omega arith in
     rw (r, last-places (rangesIn ws i (n - 1)) x h, status-at m (x .at .0 + (x .len - 8)) code latency, f)
 
--- a taking goes by the outcome of the walk
-pub taken-by : (v : rules.Virtqueue) (m : List ℕ) (head : ℕ) (o : Outcome)
-    → o ≡ walkOf m (baseOf (v .page)) (rules.queueSize v) head (v .negotiated) → walkedTaking (v .direction) m head o ≡ takingOf v m head
-unfolding takingOf
-taken-by v m head o h = ap (walkedTaking (v .direction) m head) h
-
 -- of the addresses a status takes eight
 pub status-take : (m as′ : List ℕ) (code latency : ℕ)
     → putAt m (take 8 as′) (statusBytes code latency) ≡ putAt m as′ (statusBytes code latency)
@@ -125,16 +117,3 @@ pub both-tests : (a b : Bool) → cond a (cond b rules.wellFormed rules.refused)
 both-tests true true w = (refl, refl)
 both-tests true false w = absurd (false≢true (ap isWell w))
 both-tests false b w = absurd (false≢true (ap isWell w))
-
-module _ (d : rules.Direction) (m : List ℕ) (request reply : List Range) (w : formOf d m request reply ≡ rules.wellFormed) where
-  -- a well-formed message lies inside memory
-  tests : ((allInside (length m) reply && leb 8 (total reply)) ≡ true)
-      × ((allInside (length m) request && eqb (idOf m request) (rules.streamNumber d) && sized d (total request) (total reply)) ≡ true)
-  unfolding formOf
-  tests = both-tests _ _ w
-
-  pub reply-inside : allInside (length m) reply ≡ true
-  reply-inside = and-eq-true-iff (allInside (length m) reply) _ .0 (tests .0) .0
-
-  pub request-inside : allInside (length m) request ≡ true
-  request-inside = and-eq-true-iff (allInside (length m) request) _ .0 (and-eq-true-iff _ _ .0 (tests .1) .0) .0

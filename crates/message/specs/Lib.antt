@@ -1,2 +1,3 @@
 -- What the structs of a message stand for in the rules.
 pub mod Message
+pub mod Work

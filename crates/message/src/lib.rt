@@ -1,15 +1,15 @@
-// Messages of a stream's queue (01, "Play, capture, events"): a chain taken and judged, and the
-// completion that answers it.
+// Messages of a stream's queue (01, "Play, capture, events"): what is asked of a chain, and the completion
+// that answers it.
 ghost use mathlib.Core.Path.{_≡_};
 ghost use Prim.Native.Nat.{_-_, _≤_};
 ghost use lib.ListN.{length};
 ghost use Rattle.ranges.specs.Ranges.{rangesOf, Sound};
 ghost use Rattle.registers.specs.Map.{sizeOf};
 ghost use Rattle.ring.specs.Rules.{completion};
-ghost use Rattle.device.specs.Device.{streamNumber, queueNumber};
-ghost use Rattle.device.specs.Transfer.{idOf, sized, formOf, takingOf, statusBytes, statusInReply};
+ghost use Rattle.device.specs.Device.{queueNumber};
+ghost use Rattle.device.specs.Transfer.{idOf, sized, statusBytes, statusInReply};
 ghost use mathlib.Core.Option.{some};
-ghost use Rattle.message.specs.Message.{directionOf, virtqueueIn, formIn, statusIn, takingIn, FitTaken, answeredOf, answeredLength};
+ghost use Rattle.message.specs.Message.{directionOf, statusIn, answeredOf, answeredLength};
 use chain::Fault;
 use counts::DescriptorNumber;
 use counts::PageNumber;
@@ -18,7 +18,7 @@ use ring::Posted;
 pub use rules::IO_ERR;
 pub use rules::OK;
 
-// Output stream 0 on the play queue, input stream 1 on the capture queue.
+// Output streams on the play queue, input streams on the capture queue.
 pub enum Direction {
     Output,
     Input,
@@ -76,15 +76,6 @@ pub fn queue_size(d: Direction) -> u16
     }
 }
 
-fn stream_number(d: Direction) -> u32
-    ensures { λ r. ⌜ r ≡ streamNumber (directionOf d) ⌝ }
-{
-    match d {
-        Direction::Output => 0,
-        Direction::Input => 1,
-    }
-}
-
 // The request's first four bytes, zeros where it has fewer: one number where the first range has them all.
 pub fn stream_id(m: &[u8], list: &[u64], request: Ranges) -> u32
     ensures { λ r. ⌜ r ≡ idOf (now (m .entry)) (rangesOf (now (list .entry)) request) ⌝ }
@@ -128,65 +119,6 @@ pub fn is_sized(d: Direction, request: u32, reply: u32) -> bool
             }
             false
         }
-    }
-}
-
-// The form of a chain that was walked whole.
-fn form_of(m: &[u8], list: &[u64], d: Direction, request: Ranges, reply: Ranges) -> Form
-    requires { ⌜ Sound (now list) request × Sound (now list) reply ⌝ }
-    ensures { λ r. ⌜ formIn r
-        ≡ formOf (directionOf d) (now (m .entry)) (rangesOf (now (list .entry)) request) (rangesOf (now (list .entry)) reply) ⌝ }
-{
-    if !ranges::all_inside(m.len(), list, reply) {
-        return Form::Silent;
-    }
-    if reply.bytes < 8 {
-        return Form::Silent;
-    }
-    if !ranges::all_inside(m.len(), list, request) {
-        return Form::Refused;
-    }
-    if stream_id(m, list, request) != stream_number(d) {
-        return Form::Refused;
-    }
-    if is_sized(d, request.bytes, reply.bytes) {
-        return Form::WellFormed;
-    }
-    Form::Refused
-}
-
-// The chain at `head`, its ranges put into the list, judged as memory shows it now.
-pub fn take_chain(m: &[u8], list: &mut [u64], q: Virtqueue, head: DescriptorNumber) -> Taken
-    requires { ⌜ 68 ≤ length (now list) ⌝ }
-    ensures { λ r. ⌜ (takingIn (now (list .exit)) r ≡ takingOf (virtqueueIn q) (now (m .entry)) (head .0))
-        × FitTaken (length (now (m .entry))) (now (list .exit)) r ⌝ }
-{
-    let direction = q.direction;
-    let walked = chain::walk(
-        m,
-        list,
-        q.page.address(),
-        queue_size(direction),
-        head,
-        q.indirect,
-    );
-    let end = walked.end;
-    if let chain::End::Faulted(fault) = end {
-        return Taken {
-            form: Form::Unwalked(fault),
-            head: head,
-            request: Ranges::none(),
-            reply: Ranges::none(),
-        };
-    }
-    let chain = walked.chain;
-    let request = chain.request;
-    let reply = chain.reply;
-    Taken {
-        form: form_of(m, list, direction, request, reply),
-        head: head,
-        request: request,
-        reply: reply,
     }
 }
 

@@ -2,6 +2,5 @@
 pub mod Laws
 pub mod Host
 pub mod Outcomes
-pub mod Fits
 pub mod Backlog
 pub mod Lent

@@ -13,7 +13,7 @@ use Rattle.device.specs.Histories.{History as Story, number, current, handedNow
 use Rattle.device.specs.Transfer.{payloadOf, memoryMoved, bytesMoved}
 use Rattle.device.proofs.Keeps.{none-left}
 use Rattle.device.proofs.Grown.{grows-none, grows-more, each-append, order-higher, order-append, order-notes}
-use Rattle.device.proofs.Runs.{released-not}
+use Rattle.device.proofs.Cases.{released-not}
 use Rattle.queue_lines.specs.Chains.{Virtqueue, inLine, atOnce, readingOf}
 use Rattle.queue_lines.specs.Claim.{Beside}
 use Rattle.queue_lines.specs.Histories.{Taken, Answer, Line, History, blankLine, lineAt, entryOf, withJoined, withStory, taking}

@@ -17,8 +17,8 @@ use Rattle.device.specs.Answers.{going}
 use Rattle.device.specs.Device.{Taking, Ending, finished, released, illFormed, Message}
 use Rattle.device.specs.Histories.{number, took, noted, withEntry}
 use Rattle.device.specs.Transfer.{Run, begun, isNil, isWell, bytesMoved}
-use Rattle.device.proofs.Drained.{new-reaches, found-based}
-use Rattle.device.proofs.Runs.{some-of}
+use Rattle.device.proofs.Found.{new-reaches, found-based}
+use Rattle.device.proofs.Lists.{some-of}
 use Rattle.queue_lines.specs.Chains.{Virtqueue, queueSize, Arrival, inLine, atOnce, arrivalOf, readingOf}
 use Rattle.queue_lines.specs.Claim.{account, Good, also, TakenAll, Drained}
 use Rattle.queue_lines.specs.Histories.{Line, History, blankLine, lineAt, standing, withStory, joining, bounced, beginning, handing}

@@ -1,5 +1,5 @@
 -- Histories with lines run as counters with lines do: each operation on a history, shown as counters, is the operation on the counters.
-use mathlib.Core.Path.{_≡_, refl, sym, ap}
+use mathlib.Core.Path.{_≡_, refl, sym}
 use mathlib.Core.Bool.{Bool, true, false, cond}
 use mathlib.Core.List.{List, [], _∷_, _++_, map, map-append}
 use mathlib.Core.Option.{Option, none, some}
@@ -10,10 +10,9 @@ use lib.ListN.{length, drop, getD, length-append, length-drop, length-map, List�
 use lib.Seq.{drop-append-le, drop-drop, getD-set-same}
 use Rattle.device.specs.Claim.{workOf, Good as GoodStory}
 use Rattle.device.specs.Counters.{further}
-use Rattle.device.specs.Device.{Direction, Taking, Ending, Message, Queue as OneQueue}
+use Rattle.device.specs.Device.{Direction, Taking, Ending, Message}
 use Rattle.device.specs.Histories.{History as Story, number, current, handedNow, took, noted, withEntry}
-use Rattle.device.proofs.Histories as story
-use Rattle.device.proofs.Histories.{free, place-wrap, next-wrap}
+use Rattle.device.proofs.Histories.{free, place-wrap, next-wrap, took-work, entered-work, noted-work}
 use Rattle.queue_lines.specs.Chains.{Virtqueue, inLine}
 use Rattle.queue_lines.specs.Claim.{shownLine, queueOf, card, account, GoodLine, Good}
 use Rattle.queue_lines.specs.Counters as counters
@@ -51,18 +50,6 @@ shown-changed :
 shown-changed lines i f k e = rw (shown-at lines i, e) (sym (map-set shownLine lines i (f (getD lines i blankLine))))
 
 module _ (d : Direction) where
-  -- ---- the message in work, by what holds of 01's account
-
-  module _ (w : List ℕ) (s : Story) (g : GoodStory d w s) where
-    took-work : (t : Taking) → free s ≡ true → some (fresh t) ≡ workOf (took d t s)
-    took-work t e = ap (λ (q : OneQueue). q .work) (story.alike d .take-same w s t g e)
-
-    pub entered-work : (e : Ending) (latency : ℕ) → free s ≡ false → none ≡ workOf (withEntry d e latency s)
-    entered-work e latency busy = ap (λ (q : OneQueue). q .work) (story.alike d .complete-same w s e latency g busy)
-
-  noted-work : (s : Story) (bytes xs : List ℕ) → free s ≡ false → further (length xs) (workOf s) ≡ workOf (noted d bytes xs s)
-  noted-work s bytes xs busy = ap (λ (q : OneQueue). q .work) (story.alike d .hand-same s bytes xs busy)
-
   -- ---- how many stand in a line
 
   if-begun : (s : Story) → number s ≤ length (s .takings) → length (s .takings) ≤ suc (number s)
@@ -107,7 +94,7 @@ module _ (d : Direction) where
       → free (l .story) ≡ true
       → record { begun = some (fresh t); heads = drop 1 (shownLine l .heads) } ≡ shownLine (withStory (took d t) l)
   unfolding shownLine took
-  took-shown w l g t e = line-same (took-work w (l .story) g t e)
+  took-shown w l g t e = line-same (took-work d w (l .story) g t e)
       (rw (length-append, ← drop-drop) (sym (map-drop (λ (x : Taken). x .head) 1 (unreadIn l))))
 
   noted-shown :
@@ -115,16 +102,15 @@ module _ (d : Direction) where
       → free (l .story) ≡ false
       → record { begun = further (length xs) (shownLine l .begun); heads = shownLine l .heads } ≡ shownLine (withStory (noted d bytes xs) l)
   unfolding shownLine noted
-  noted-shown l bytes xs e = line-same (noted-work (l .story) bytes xs e) refl
+  noted-shown l bytes xs e = line-same (noted-work d (l .story) bytes xs e) refl
 
   entered-shown :
       (w : List ℕ) (l : Line)
       → GoodStory d w (l .story)
       → (e : Ending) (latency : ℕ)
-      → free (l .story) ≡ false
       → record { begun = none; heads = shownLine l .heads } ≡ shownLine (withStory (withEntry d e latency) l)
   unfolding shownLine withEntry
-  entered-shown w l g e latency busy = line-same (entered-work w (l .story) g e latency busy) refl
+  entered-shown w l g e latency = line-same (entered-work d w (l .story) g e latency) refl
 
   -- ---- each operation
 
@@ -163,7 +149,7 @@ module _ (d : Direction) where
       begin-front i t e =
           rw (
             getD-set-same (h .lines) i (withStory (took d t) (lineAt h i)) blankLine (unread-inside h i (t .head) e),
-            ← (took-work (w i) (lineAt h i .story) (g .line i .story) t (is-free h i (t .head) e)),
+            ← (took-work d (w i) (lineAt h i .story) (g .line i .story) t (is-free h i (t .head) e)),
           )
 
       complete-same :
@@ -176,7 +162,7 @@ module _ (d : Direction) where
             next-wrap,
             length-append,
             shown-changed (h .lines) i (withStory (withEntry d e latency)) (λ l. record { begun = none; heads = l .heads })
-                (entered-shown (w i) (lineAt h i) (g .line i .story) e latency (is-busy h i m front)),
+                (entered-shown (w i) (lineAt h i) (g .line i .story) e latency),
           )
 
     module _ (h : History) (i : ℕ) (m : Message) (bytes xs : List ℕ) (front : frontAt h i ≡ working m) where
@@ -192,7 +178,7 @@ module _ (d : Direction) where
       hand-front =
           rw (
             getD-set-same (h .lines) i (withStory (noted d bytes xs) (lineAt h i)) blankLine (working-inside h i m front),
-            ← (noted-work (lineAt h i .story) bytes xs (is-busy h i m front)),
+            ← (noted-work d (lineAt h i .story) bytes xs (is-busy h i m front)),
             is-work h i m front,
           )
 

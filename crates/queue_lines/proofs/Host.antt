@@ -9,7 +9,7 @@ use lib.Seq.{drop-drop}
 use Rattle.ring.specs.declared.Cause.{Cause}
 use Rattle.device.specs.Device.{Message, Ending}
 use Rattle.device.specs.Transfer.{Run, begun, bytesMoved}
-use Rattle.device.proofs.Host.{moved-long}
+use Rattle.device.proofs.Lists.{moved-long}
 use Rattle.queue_lines.specs.Chains.{Virtqueue}
 use Rattle.queue_lines.specs.Rules.{Ops, withQueue, stopped, posted, moved}
 

@@ -18,7 +18,7 @@ use Rattle.device.specs.Device.{Direction, Taking, Form, wellFormed, Ending, fi
 use Rattle.device.specs.Transfer.{Run, begun, isNil, isWell, payloadOf, idOf, bytesMoved}
 use Rattle.device.proofs.Cases.{map-cond}
 use Rattle.device.proofs.Lists.{nil-true}
-use Rattle.device.proofs.Natural.{ill-formed-none}
+use Rattle.device.proofs.Keeps.{ill-formed-none}
 use Rattle.queue_lines.specs.Chains.{Virtqueue, queueSize, walked, isOn, Arrival, inLine, atOnce, arrival, arrivalOf, reading}
 use Rattle.queue_lines.specs.Chains.{readingOf}
 use Rattle.queue_lines.specs.Claim.{shownRun, also}

@@ -18,10 +18,9 @@ use Rattle.device.specs.Claim.{workOf}
 use Rattle.device.specs.Device.{Direction, wellFormed, Taking, Ending, finished, released, illFormed, Message}
 use Rattle.device.specs.Histories.{withEntry}
 use Rattle.device.specs.Transfer.{Run, isNil, isWell, payloadOf}
-use Rattle.device.proofs.Cases.{none-some}
-use Rattle.device.proofs.Keeps.{done-le}
-use Rattle.device.proofs.Natural.{ill-formed-none}
-use Rattle.device.proofs.Runs.{well-of, released-not}
+use Rattle.device.proofs.Cases.{none-some, well-of, released-not}
+use Rattle.device.proofs.Histories.{entered-work}
+use Rattle.device.proofs.Keeps.{done-le, ill-formed-none}
 use Rattle.queue_lines.specs.Chains.{Virtqueue, Arrival, inLine, atOnce, arrivalOf, readingOf}
 use Rattle.queue_lines.specs.Claim.{account, also}
 use Rattle.queue_lines.specs.Histories.{Line, History, blankLine, lineAt, withJoined, withStory, taking, joining, bounced, answerTo}
@@ -33,8 +32,8 @@ use Rattle.queue_lines.specs.Turn.{written, wanted, Waits, Due, ill, end
 use Rattle.queue_lines.specs.Turn.{ends, nextHead}
 use Rattle.queue_lines.specs.Rules as rules
 use Rattle.queue_lines.specs.Turn as turn
-use Rattle.queue_lines.proofs.Fronts.{is-work, is-busy, is-now, working-inside}
-use Rattle.queue_lines.proofs.Histories.{entered-work, pair}
+use Rattle.queue_lines.proofs.Fronts.{is-work, is-now, working-inside}
+use Rattle.queue_lines.proofs.Histories.{pair}
 use Rattle.queue_lines.proofs.Host.{stopped-past}
 use Rattle.queue_lines.proofs.Lists.{times-keeps, changed-keeps, drop-taken}
 use Rattle.queue_lines.proofs.Natural.{arrival-fits, reading-head, Fine, Begun, taken-keeps, completed-keeps, read-begun}
@@ -186,7 +185,7 @@ module _ (v : Virtqueue) (i : ℕ) (call : Ending) (m₀ : List ℕ) (h₀ : His
         let l : Line = lineAt (s .queue) i in
         absurd
         (none-some w
-        (entered-work d (g (s .bytes) i) (l .story) (p .fine .kept .line i .story) e (v .latency) (is-busy (s .queue) i m (p .front))
+        (entered-work d (g (s .bytes) i) (l .story) (p .fine .kept .line i .story) e (v .latency)
         ∙ rw (getD-set-same (s .queue .lines) i (withStory (withEntry d e (v .latency)) l) blankLine
         (working-inside (s .queue) i m (p .front))) at q))
 

@@ -16,8 +16,8 @@ any-host : (q : Request) (h g : List ℕ) (line irq : ℕ) (t : Told) → textFo
 any-host (Read offset width) h g line irq t = refl
 any-host (Write offset width v) h g line irq t = refl
 any-host Control h g line irq t = refl
-any-host (Play backlog) h g line irq t = refl
-any-host (Capture backlog) h g line irq t = refl
+any-host (Play stream backlog) h g line irq t = refl
+any-host (Capture stream backlog) h g line irq t = refl
 any-host (Event code info) h g line irq t = refl
 
 -- a play's host buffer is told, the others leave theirs
@@ -25,8 +25,8 @@ pub host-left : (q : Request) (o : Outcome) (h h′ m : List ℕ) → h′ ≡ h
 host-left (Read offset width) o h h′ m e = e
 host-left (Write offset width v) o h h′ m e = e
 host-left Control o h h′ m e = e
-host-left (Play backlog) o h h′ m e = refl
-host-left (Capture backlog) o h h′ m e = e
+host-left (Play stream backlog) o h h′ m e = refl
+host-left (Capture stream backlog) o h h′ m e = e
 host-left (Event code info) o h h′ m e = e
 
 module _ (c : Card) (q : Request) (o : Outcome) (h h′ m m′ : List ℕ)

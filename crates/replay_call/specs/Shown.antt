@@ -3,15 +3,17 @@ use mathlib.Core.Path.{_≡_}
 use mathlib.Core.Bool.{cond}
 use mathlib.Core.List.{List}
 use Prim.Native.Nat.{ℕ}
-use Rattle.card.specs.Fit.{Fit}
 use Rattle.card.specs.declared.Card.{Card}
 use Rattle.meaning.specs.Card.{deviceOf, stepOf}
+use Rattle.meaning.specs.Fit.{Fit}
 use Rattle.registers.specs.Rules.{raised}
 use Rattle.replay_text.specs.Adler.{adler}
 use Rattle.replay_text.specs.Text.{registerText, callText, playText}
 use Rattle.replay_text.specs.declared.Text.{Text}
-use Rattle.rules.specs.Calls.{Request, ReadRegister, WriteRegister, Control, Play, Capture, Event, Told, Step}
-use Rattle.device.specs.Device.{Device, Queue}
+use Rattle.rules.specs.Calls.{Told, Step}
+use Rattle.device.specs.Device.{Device}
+use Rattle.queue_lines.specs.Counters.{Queue}
+use Rattle.line_calls.specs.Calls.{Request, ReadRegister, WriteRegister, Control, Play, Capture, Event}
 use Rattle.replay_call.specs.declared.Shown.{Shown}
 
 -- "IRQ 1 while the interrupt line is raised after the call, else 0"
@@ -39,8 +41,8 @@ abbrev pub textFor : Request → ℕ → ℕ → Told → Text
 textFor (ReadRegister offset width) = registerTold
 textFor (WriteRegister offset width v) = registerTold
 textFor Control = callTold
-textFor (Play host backlog) = playTold
-textFor (Capture host backlog) = callTold
+textFor (Play stream host backlog) = playTold
+textFor (Capture stream host backlog) = callTold
 textFor (Event code info) = callTold
 
 -- .. of the rules' step

@@ -2,8 +2,8 @@
 // card after it.
 ghost use mathlib.Core.Path.{_≡_};
 ghost use Rattle.calls.specs.Calls.{requestOf, toldOf, hostOf};
-ghost use Rattle.card.specs.Fit.{Fit};
 ghost use Rattle.meaning.specs.Card.{stepOf};
+ghost use Rattle.meaning.specs.Fit.{Fit};
 ghost use Rattle.replay_text.specs.Adler.{adler};
 ghost use Rattle.replay_text.specs.Text.{callText};
 ghost use Rattle.replay_call.specs.Shown.{irqOf, textFor, Shows};
@@ -22,7 +22,8 @@ pub struct Shown {
 fn irq(card: Card) -> u8
     ensures { λ r. ⌜ r ≡ irqOf card ⌝ }
 {
-    if card::interrupt_line(card) {
+    let registers = card.registers;
+    if registers.line() {
         return 1;
     }
     0
@@ -52,7 +53,7 @@ fn text(line: u64, request: Request, told: Outcome, m: &[u8], host: &[u8]) -> Te
             replay_text::register_text(line, told.answer.number, told.value, told.rung, raised)
         }
         Request::Control => sum_text(line, told, raised, m),
-        Request::Play(_) => {
+        Request::Play(_, _) => {
             let sum = replay_text::adler32(m);
             let heard = replay_text::adler32(host);
             replay_text::play_text(
@@ -65,7 +66,7 @@ fn text(line: u64, request: Request, told: Outcome, m: &[u8], host: &[u8]) -> Te
                 told.answer.queue,
             )
         }
-        Request::Capture(_) => sum_text(line, told, raised, m),
+        Request::Capture(_, _) => sum_text(line, told, raised, m),
         Request::Event(_, _) => sum_text(line, told, raised, m),
     }
 }

@@ -1,10 +1,12 @@
--- "One more jack", "one more channel map", "output stream 0", "input stream 1". "More than four jacks or maps are
--- counted, and the card's description carries the count."
+-- "One more jack", "one more channel map"; order 8: "`out` and `in` may come several times, each one more stream: outputs are numbered
+-- first, in the order of their lines, then inputs". "More than four jacks or maps are counted, and the card's description carries the
+-- count."
 use mathlib.Core.List.{List}
-use mathlib.Core.Bool.{cond}
+use mathlib.Core.Bool.{cond, _&&_}
 use Prim.Native.Nat.{ℕ, _+_}
-use lib.Dec.{ltb}
-use lib.ListN.{set, replicate, drop}
+use lib.Dec.{leb, ltb}
+use lib.ListN.{getD, set, replicate, drop}
+use Rattle.description.specs.Lawful.{noStream}
 use Rattle.description.specs.declared.Description.{Description}
 use Rattle.description.specs.declared.JackInfo.{JackInfo}
 use Rattle.description.specs.declared.MapInfo.{MapInfo}
@@ -38,16 +40,23 @@ unfoldable pub mapAt : List ℕ → ℕ → ℕ → ℕ → ℕ → MapInfo
 mapAt s nid direction channels at =
     record { nid = nid; direction = direction; channels = channels; positions = poured (bytesOfHex (drop at s)) (replicate 18 0) 0 }
 
--- of several the last is kept
+-- a stream put at i, the two from there on moved up by one
+abbrev pub putBefore : ℕ → StreamInfo → List StreamInfo → List StreamInfo
+putBefore i info l = set (set (set l (i + 2) (getD l (i + 1) noStream)) (i + 1) (getD l i noStream)) i info
+
+-- behind the outputs and before the inputs; the first four are kept
 unfoldable pub withOutput : Description → StreamInfo → Description
 withOutput d info =
     describes (d .«jack_count») (d .«map_count») (nextCount (d .«output_count»)) (d .«input_count»)
-    (d .jacks) (d .maps) (set (d .streams) 0 info)
+    (d .jacks) (d .maps) (cond (ltb (d .«output_count») 4) (putBefore (d .«output_count») info (d .streams)) (d .streams))
 
+-- behind all streams; the first two are kept
 unfoldable pub withInput : Description → StreamInfo → Description
 withInput d info =
     describes (d .«jack_count») (d .«map_count») (d .«output_count») (nextCount (d .«input_count»))
-    (d .jacks) (d .maps) (set (d .streams) 1 info)
+    (d .jacks) (d .maps)
+    (cond (leb (d .«output_count») 4 && ltb (d .«input_count») 2) (set (d .streams) (d .«output_count» + d .«input_count») info)
+    (d .streams))
 
 -- one more part, described by the line s
 abbrev pub withPart : Description → Part → List ℕ → Description

@@ -59,22 +59,39 @@ fn map_at(s: &[u8], nid: u32, direction: u8, channels: u8, at: usize) -> MapInfo
     }
 }
 
-// Of several streams of one direction the last is kept; the count says how many there were.
+// One more output, behind the outputs so far: the inputs, of which two are kept, move up by one. Past the
+// fourth only the count is kept.
 fn with_output(d: Description, info: StreamInfo) -> Description
     ensures { λ r. ⌜ r ≡ withOutput d info ⌝ }
 {
     let mut next = d;
-    next.streams[0] = info;
     next.output_count = next_count(d.output_count);
+    let i = d.output_count as usize;
+    if 4 <= i {
+        return next;
+    }
+    let streams = d.streams;
+    next.streams[i + 2] = streams[i + 1];
+    next.streams[i + 1] = streams[i];
+    next.streams[i] = info;
     next
 }
 
+// One more input, behind all streams. Past the second only the count is kept.
 fn with_input(d: Description, info: StreamInfo) -> Description
     ensures { λ r. ⌜ r ≡ withInput d info ⌝ }
 {
     let mut next = d;
-    next.streams[1] = info;
     next.input_count = next_count(d.input_count);
+    let outputs = d.output_count as usize;
+    let inputs = d.input_count as usize;
+    if 4 < outputs {
+        return next;
+    }
+    if 2 <= inputs {
+        return next;
+    }
+    next.streams[outputs + inputs] = info;
     next
 }
 

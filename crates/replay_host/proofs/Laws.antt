@@ -15,7 +15,7 @@ use Rattle.replay_call.specs.declared.Shown.{Shown}
 use Rattle.card.specs.declared.Card.{Card}
 use Rattle.replay_line.specs.declared.Call.{Call}
 use Rattle.replay_line.specs.declared.Call.the-variants.{Read, Write, Control, Play, Capture, Event}
-use Rattle.rules.specs.Calls.{Request}
+use Rattle.line_calls.specs.Calls.{Request}
 use Rattle.replay_host.specs.Host.{hostBuffer, hostBytes, capturedBytes, askedBy, madeBy, hostFilled, hostCount, hexFilled, hexCount}
 use Rattle.replay_host.specs.Host.{upTo}
 
@@ -85,8 +85,8 @@ asked-as : (call : Call) (s : List ℕ)
 asked-as (Read offset width) s = refl
 asked-as (Write offset width v) s = refl
 asked-as Control s = refl
-asked-as (Play n backlog) s = refl
-asked-as (Capture at behind backlog) s = refl
+asked-as (Play stream n backlog) s = refl
+asked-as (Capture stream at behind backlog) s = refl
 asked-as (Event code info) s = refl
 
 pub asked-from : (call : Call) (s : List ℕ) {q : calls.Request} {n : ℕ} {host host′ : List ℕ}

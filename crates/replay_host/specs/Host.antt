@@ -7,7 +7,7 @@ use Rattle.calls.specs.declared.Request.the-variants as asks
 use Rattle.replay_field.specs.Hex.{bytesOfHex, poured}
 use Rattle.replay_line.specs.declared.Call.{Call}
 use Rattle.replay_line.specs.declared.Call.the-variants.{Read, Write, Control, Play, Capture, Event}
-use Rattle.rules.specs.Calls as rules
+use Rattle.line_calls.specs.Calls as rules
 
 -- "a host buffer of N bytes (at most 65,536), each 238 before the call"
 unfoldable pub hostBuffer : List ℕ
@@ -36,8 +36,8 @@ abbrev pub askedBy : Call → List ℕ → rules.Request
 askedBy (Read offset width) s = rules.ReadRegister offset width
 askedBy (Write offset width v) s = rules.WriteRegister offset width v
 askedBy Control s = rules.Control
-askedBy (Play n backlog) s = rules.Play (hostBytes n) backlog
-askedBy (Capture at behind backlog) s = rules.Capture (capturedBytes s at behind) backlog
+askedBy (Play stream n backlog) s = rules.Play stream (hostBytes n) backlog
+askedBy (Capture stream at behind backlog) s = rules.Capture stream (capturedBytes s at behind) backlog
 askedBy (Event code info) s = rules.Event code info
 
 -- ---- the parts that it is put together from: the request, and the host buffer with how many of its bytes are lent
@@ -46,22 +46,22 @@ abbrev pub madeBy : Call → Request
 madeBy (Read offset width) = asks.Read offset width
 madeBy (Write offset width v) = asks.Write offset width v
 madeBy Control = asks.Control
-madeBy (Play n backlog) = asks.Play backlog
-madeBy (Capture at behind backlog) = asks.Capture backlog
+madeBy (Play stream n backlog) = asks.Play stream backlog
+madeBy (Capture stream at behind backlog) = asks.Capture stream backlog
 madeBy (Event code info) = asks.Event code info
 
 abbrev pub hostFilled : Call → List ℕ → List ℕ → List ℕ
 hostFilled (Read offset width) s host = host
 hostFilled (Write offset width v) s host = host
 hostFilled Control s host = host
-hostFilled (Play n backlog) s host = host
-hostFilled (Capture at behind backlog) s host = hexFilled (upTo s behind) at host
+hostFilled (Play stream n backlog) s host = host
+hostFilled (Capture stream at behind backlog) s host = hexFilled (upTo s behind) at host
 hostFilled (Event code info) s host = host
 
 abbrev pub hostCount : Call → List ℕ → ℕ → ℕ
 hostCount (Read offset width) s len = 0
 hostCount (Write offset width v) s len = 0
 hostCount Control s len = 0
-hostCount (Play n backlog) s len = min n len
-hostCount (Capture at behind backlog) s len = hexCount (upTo s behind) at len
+hostCount (Play stream n backlog) s len = min n len
+hostCount (Capture stream at behind backlog) s len = hexCount (upTo s behind) at len
 hostCount (Event code info) s len = 0

@@ -2,8 +2,8 @@
 ghost use mathlib.Core.Path.{_≡_};
 ghost use Prim.Native.Nat.{_-_, _/_};
 ghost use lib.ListN.{length};
-ghost use Rattle.card.specs.Fit.{Fit};
 ghost use Rattle.io.specs.Counts.{Counts};
+ghost use Rattle.meaning.specs.Fit.{Fit};
 ghost use Rattle.replay_call.specs.Shown.{Shows};
 ghost use Rattle.replay_host.specs.Host.{hostBuffer, madeBy, hostFilled, hostCount, hexFilled, hexCount, askedBy};
 use calls::Request;
@@ -30,8 +30,8 @@ fn request(call: Call) -> Request
         Call::Read(offset, width) => Request::Read(offset, width),
         Call::Write(offset, width, value) => Request::Write(offset, width, value),
         Call::Control => Request::Control,
-        Call::Play(_, backlog) => Request::Play(backlog),
-        Call::Capture(_, _, backlog) => Request::Capture(backlog),
+        Call::Play(stream, _, backlog) => Request::Play(stream, backlog),
+        Call::Capture(stream, _, _, backlog) => Request::Capture(stream, backlog),
         Call::Event(code, data) => Request::Event(code, data),
     }
 }
@@ -67,8 +67,8 @@ fn lend(call: Call, s: &[u8], host: &mut [u8]) -> usize
         Call::Read(_, _) => 0,
         Call::Write(_, _, _) => 0,
         Call::Control => 0,
-        Call::Play(n, _) => replay_memory::within(n, host),
-        Call::Capture(at, behind, _) => {
+        Call::Play(_, n, _) => replay_memory::within(n, host),
+        Call::Capture(_, at, behind, _) => {
             let end = replay_memory::within(behind, s);
             lend_hex(&s[..end], at, host)
         }

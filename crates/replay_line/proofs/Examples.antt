@@ -16,6 +16,7 @@ use Rattle.replay_line.specs.Line.{
   writeForm,
   controlForm,
   playForm,
+  capturedForm,
   captureForm,
   eventForm,
   storeForm,
@@ -50,16 +51,16 @@ pub forms :
     × (reads "r 18 1" ≡ Called (Read 18 1))
     × (reads "w 18 1 11" ≡ Called (Write 18 1 11))
     × (reads "control" ≡ Called Control)
-    × (reads "play 65536 960" ≡ Called (Play 65536 960))
-    × (reads "capture 0aff 4294967295" ≡ Called (Capture 8 12 4294967295))
-    × (reads "capture - 0" ≡ Called (Capture 8 9 0))
+    × (reads "play 3 65536 960" ≡ Called (Play 3 65536 960))
+    × (reads "capture 4 0aff 4294967295" ≡ Called (Capture 4 10 14 4294967295))
+    × (reads "capture 4294967295 - 0" ≡ Called (Capture 4294967295 19 20 0))
     × (reads "event 4352 0" ≡ Called (Event 4352 0))
     × (reads "m 16 00ff" ≡ Lent (Store (record { 0 = 16 }) 5))
     × (reads "f 18446744073709551615 18446744073709551615 255" ≡ Lent (Fill (record { 0 = 18446744073709551615 }) 18446744073709551615 255))
     × (reads "ram 0" ≡ Lent (Ram 0))
     × (reads "d 0 65536" ≡ Lent (Dump (record { 0 = 0 }) 65536))
 unfolding isDigit digits numberAt fieldAt pairAt isHexDigit everyHexDigit isHex hexAt begins sizeAt spanOf
-    jackForm mapForm streamForm powerForm readForm writeForm controlForm playForm captureForm eventForm
+    jackForm mapForm streamForm powerForm readForm writeForm controlForm playForm capturedForm captureForm eventForm
     storeForm fillForm ramForm dumpForm guestLine callLine partLine lineOf
 forms = (refl, refl, refl, refl, refl, refl, refl, refl, refl, refl, refl, refl, refl, refl, refl, refl, refl, refl)
 
@@ -77,22 +78,26 @@ pub unreadable :
     × (reads "f 0 18446744073709551616 0" ≡ Unreadable)
     × (reads "f 0 0 256" ≡ Unreadable)
     × (reads "power 1048577" ≡ Unreadable)
-    × (reads "play 65537 0" ≡ Unreadable)
-    × (reads "play 8" ≡ Unreadable)
-    × (reads "play 8 4294967296" ≡ Unreadable)
+    × (reads "play 0 65537 0" ≡ Unreadable)
+    × (reads "play 0 8" ≡ Unreadable)
+    × (reads "play 0 8 4294967296" ≡ Unreadable)
+    × (reads "play 4294967296 8 0" ≡ Unreadable)
     × (reads "d 0 65537" ≡ Unreadable)
     × (reads "capture" ≡ Unreadable)
-    × (reads "capture  0" ≡ Unreadable)
-    × (reads "capture 0 0" ≡ Unreadable)
-    × (reads "capture 0A 0" ≡ Unreadable)
-    × (reads "capture 0a" ≡ Unreadable)
-    × (reads "capture 0a 0 0" ≡ Unreadable)
+    × (reads "capture 1" ≡ Unreadable)
+    × (reads "capture 1  0" ≡ Unreadable)
+    × (reads "capture 1 0 0" ≡ Unreadable)
+    × (reads "capture 1 0A 0" ≡ Unreadable)
+    × (reads "capture 1 0a" ≡ Unreadable)
+    × (reads "capture 1 0a 0 0" ≡ Unreadable)
     × (reads "m 0 00 " ≡ Unreadable)
     × (reads "map 1 2 3 -" ≡ Unreadable)
 unfolding isDigit digits numberAt fieldAt pairAt isHexDigit everyHexDigit isHex hexAt begins sizeAt spanOf
-    jackForm mapForm streamForm powerForm readForm writeForm controlForm playForm captureForm eventForm
+    jackForm mapForm streamForm powerForm readForm writeForm controlForm playForm capturedForm captureForm eventForm
     storeForm fillForm ramForm dumpForm guestLine callLine partLine lineOf
 unreadable = (
+  refl,
+  refl,
   refl,
   refl,
   refl,

@@ -91,21 +91,30 @@ writeForm s = pair s 1 max32 (λ offset width a. field s a max32 (λ value end. 
 unfoldable pub controlForm : List ℕ → Line
 controlForm s = atEnd s 7 (Called Control)
 
--- play N BACKLOG: "at most 65,536"; "BACKLOG fits 32 bits"
+-- play STREAM N BACKLOG: "STREAM fits 32 bits"; "at most 65,536"; "BACKLOG fits 32 bits"
 unfoldable pub playForm : List ℕ → Line
-playForm s = field s 4 65536 (λ n a. field s a max32 (λ backlog end. atEnd s end (Called (Play n backlog))))
+playForm s =
+    field s 4 max32 (λ stream a.
+    field s a 65536 (λ n b.
+    field s b max32 (λ backlog end.
+    atEnd s end (Called (Play stream n backlog)))))
 
 -- the place behind the word at `at`: the next space, or the end
 abbrev pub wordEnd : List ℕ → ℕ → ℕ
 wordEnd s at = at + spanOf 32 (drop at s)
 
--- capture HEX BACKLOG: "at most 65,536"
-unfoldable pub captureForm : List ℕ → Line
-captureForm s =
-    cond (ltb (length s) (wordEnd s 8)) Unreadable
-    (hex (take (wordEnd s 8) s) 7 (λ place count.
+-- what a stream captures, HEX BACKLOG from `at` on: "at most 65,536"
+unfoldable pub capturedForm : List ℕ → ℕ → ℕ → Line
+capturedForm s stream at =
+    cond (ltb (length s) (wordEnd s (at + 1))) Unreadable
+    (hex (take (wordEnd s (at + 1)) s) at (λ place count.
     cond (ltb 65536 count) Unreadable
-    (field s (wordEnd s 8) max32 (λ backlog end. atEnd s end (Called (Capture place (wordEnd s 8) backlog))))))
+    (field s (wordEnd s (at + 1)) max32 (λ backlog end.
+    atEnd s end (Called (Capture stream place (wordEnd s (at + 1)) backlog))))))
+
+-- capture STREAM HEX BACKLOG
+unfoldable pub captureForm : List ℕ → Line
+captureForm s = field s 7 max32 (λ stream at. capturedForm s stream at)
 
 -- event CODE DATA
 unfoldable pub eventForm : List ℕ → Line

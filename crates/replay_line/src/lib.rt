@@ -2,7 +2,7 @@
 // stays in the line: the line read says where it starts.
 ghost use mathlib.Core.Path.{_≡_};
 ghost use Rattle.replay_line.specs.Line.{jackForm, mapForm, streamForm, powerForm};
-ghost use Rattle.replay_line.specs.Line.{readForm, writeForm, controlForm, playForm, captureForm, eventForm};
+ghost use Rattle.replay_line.specs.Line.{readForm, writeForm, controlForm, playForm, capturedForm, captureForm, eventForm};
 ghost use Rattle.replay_line.specs.Line.{storeForm, fillForm, ramForm, dumpForm};
 ghost use Rattle.replay_line.specs.Line.{partLine, callLine, guestLine, lineOf};
 use counts::GuestAddress;
@@ -34,14 +34,14 @@ pub enum Part {
     Input(StreamInfo),
 }
 
-// A call on the card: offset and width, then a value; the bytes of a host buffer, and the backlog; the
-// place of the captured bytes, the place behind them, and the backlog; an event's code and data.
+// A call on the card: offset and width, then a value; a stream, the bytes of a host buffer, and the backlog;
+// a stream, the place of the captured bytes, the place behind them, and the backlog; an event's code and data.
 pub enum Call {
     Read(u64, u64),
     Write(u64, u64, u64),
     Control,
-    Play(usize, u32),
-    Capture(usize, usize, u32),
+    Play(u32, usize, u32),
+    Capture(u32, usize, usize, u32),
     Event(u32, u32),
 }
 
@@ -186,31 +186,37 @@ fn control_form(s: &[u8]) -> Line
     Line::Called(Call::Control)
 }
 
-// `play N BACKLOG`
+// `play STREAM N BACKLOG`
 fn play_form(s: &[u8]) -> Line
     ensures { λ r. ⌜ r ≡ playForm (now (s .entry)) ⌝ }
 {
-    let Number::Is(n, a) = replay_field::field_at(s, 4, MAX_BYTES) else {
+    let Number::Is(stream, a) = replay_field::field_at(s, 4, MAX_32) else {
         return Line::Unreadable;
     };
-    let Number::Is(backlog, end) = replay_field::field_at(s, a, MAX_32) else {
+    let Number::Is(n, b) = replay_field::field_at(s, a, MAX_BYTES) else {
+        return Line::Unreadable;
+    };
+    let Number::Is(backlog, end) = replay_field::field_at(s, b, MAX_32) else {
         return Line::Unreadable;
     };
     if end < s.len() {
         return Line::Unreadable;
     }
-    Line::Called(Call::Play(n as usize, backlog as u32))
+    Line::Called(Call::Play(stream as u32, n as usize, backlog as u32))
 }
 
-// `capture HEX BACKLOG`: the HEX ends at the next space.
-fn capture_form(s: &[u8]) -> Line
-    ensures { λ r. ⌜ r ≡ captureForm (now (s .entry)) ⌝ }
+// What a stream captures, `HEX BACKLOG` from `at` on: the HEX ends at the next space.
+fn captured_form(s: &[u8], stream: u32, at: usize) -> Line
+    ensures { λ r. ⌜ r ≡ capturedForm (now (s .entry)) stream at ⌝ }
 {
-    let behind = lines::find(s, 8, b' ');
+    if s.len() <= at {
+        return Line::Unreadable;
+    }
+    let behind = lines::find(s, at + 1, b' ');
     if s.len() < behind {
         return Line::Unreadable;
     }
-    let Hex::At(place, count) = replay_field::hex_at(&s[..behind], 7) else {
+    let Hex::At(place, count) = replay_field::hex_at(&s[..behind], at) else {
         return Line::Unreadable;
     };
     if 65536 < count {
@@ -222,7 +228,17 @@ fn capture_form(s: &[u8]) -> Line
     if end < s.len() {
         return Line::Unreadable;
     }
-    Line::Called(Call::Capture(place, behind, backlog as u32))
+    Line::Called(Call::Capture(stream, place, behind, backlog as u32))
+}
+
+// `capture STREAM HEX BACKLOG`
+fn capture_form(s: &[u8]) -> Line
+    ensures { λ r. ⌜ r ≡ captureForm (now (s .entry)) ⌝ }
+{
+    let Number::Is(stream, at) = replay_field::field_at(s, 7, MAX_32) else {
+        return Line::Unreadable;
+    };
+    captured_form(s, stream as u32, at)
 }
 
 // `event CODE DATA`

@@ -5,6 +5,8 @@ use mathlib.Core.Bool.{true, false}
 use Prim.Native.Nat.{ℕ, _+_, _-_, _%_, _^_, _≤_, _<_, min}
 use lib.Dec.{eqb}
 use lib.ListN.{length, take, drop, drop-of-length-le}
+use Rattle.calls.specs.Calls.{Powers}
+use Rattle.calls.proofs.Whole.{powered-device}
 use Rattle.card.specs.Rules.{poweredOf}
 use Rattle.card.specs.declared.Card.{Card}
 use Rattle.card.specs.declared.Powered.{Powered}
@@ -14,6 +16,7 @@ use Rattle.description.specs.declared.Description.{Description}
 use Rattle.lines.specs.Lines.{linesOf, joined, spanOf, behindOf}
 use Rattle.lines.proofs.Laws.{lines-next}
 use Rattle.meaning.specs.Card.{stepOf}
+use Rattle.meaning.proofs.Streams.{streams-shown}
 use Rattle.replay_call.specs.Shown.{shownFor, Left, leftBy, left}
 use Rattle.replay_host.specs.Host.{askedBy}
 use Rattle.replay_line.specs.Line.{lineOf}
@@ -23,8 +26,10 @@ use Rattle.replay_line.specs.declared.Line.{Line}
 use Rattle.replay_memory.specs.Lent.{filled, touchedLength, touchedRam}
 use Rattle.replay_text.specs.Text.{answerBytes, kept}
 use Rattle.replay_text.proofs.Laws.{kept-call, kept-play, kept-register}
-use Rattle.rules.specs.Calls.{Request, ReadRegister, WriteRegister, Control, Play, Capture, Event, Step}
-use Rattle.device.specs.Device.{Device, Queue}
+use Rattle.rules.specs.Calls.{Step}
+use Rattle.device.specs.Device.{Device}
+use Rattle.queue_lines.specs.Counters.{Queue}
+use Rattle.line_calls.specs.Calls.{Request, ReadRegister, WriteRegister, Control, Play, Capture, Event}
 use Rattle.replay_run.specs.Calls.{printed}
 use Rattle.replay_run.specs.Session.{
   World,
@@ -57,8 +62,8 @@ called-text : (q : Request) (line : ℕ) (s : Step (Device Queue)) → kept (sho
 called-text (ReadRegister offset width) line s = kept-register line _ _ _ _
 called-text (WriteRegister offset width v) line s = kept-register line _ _ _ _
 called-text Control line s = kept-call line _ _ _ _ _
-called-text (Play host backlog) line s = kept-play line _ _ _ _ _ _
-called-text (Capture host backlog) line s = kept-call line _ _ _ _ _
+called-text (Play stream host backlog) line s = kept-play line _ _ _ _ _ _
+called-text (Capture stream host backlog) line s = kept-call line _ _ _ _ _
 called-text (Event code info) line s = kept-call line _ _ _ _ _
 
 -- a line's call, on the first `lent` bytes of the array
@@ -68,14 +73,14 @@ module _ (st : State) (call : Call) (s ram : List ℕ) (lent : ℕ) (p : st .pow
 
   pub made-text : kept (shownFor (askedBy call s) (st .line) made-step) ≡ calledText call s (worldOf st ram)
   unfolding calledText
-  made-text = rw (p, ← e) (called-text (askedBy call s) (st .line) made-step)
+  made-text = rw (p, ← e, streams-shown (st .card)) (called-text (askedBy call s) (st .line) made-step)
 
   abbrev after : Left → World
   after l = record { desk = deskOf st; device = l .device; ram = l .memory ++ drop lent ram }
 
   made : after (leftBy made-step) ≡ calledWorld call s (worldOf st ram)
   unfolding calledWorld
-  made = rw (p, ← e)
+  made = rw (p, ← e, streams-shown (st .card))
 
   pub made-world : (c : Card) (m : List ℕ) → leftBy made-step ≡ left c m → after (left c m) ≡ calledWorld call s (worldOf st ram)
   made-world c m h = ap after (sym h) ∙ made
@@ -93,14 +98,14 @@ module _ (st : State) (call : Call) (s ram : List ℕ) (p : st .powered ≡ fals
 -- ---- power-up, with `lent` bytes
 
 module _ (st : State) (n lent : ℕ) (ram : List ℕ) (p : Powered) (e : lent ≡ min n (length ram))
-    (h : p ≡ poweredOf (st .described) lent) where
+    (h : Powers (st .described) lent p) where
   pub powered-text : answerBytes (st .line) (p .answer) ≡ answerBytes (st .line) (poweredOf (st .described) (min n (length ram)) .answer)
-  powered-text = rw (h, e)
+  powered-text = rw (h .answer, e)
 
   pub powered-world : (ram′ : List ℕ) (d : Description) → ram′ ≡ filled 1048576 ram 0 0 → d ≡ nothingDescribed
       → worldOf (record { line = st .line; len = lent; powered = eqb (p .answer) 0; described = d; card = p .card }) ram′
       ≡ poweredWorld (min n (length ram)) (worldOf st ram)
-  powered-world ram′ d f g = rw (h, e, f, g)
+  powered-world ram′ d f g = rw (h .answer, powered-device (st .described) lent p h, e, f, g)
 
 -- ---- a line that reads so, from the state with its number
 

@@ -4,13 +4,16 @@ use Prim.Native.Nat.{ℕ}
 use Rattle.replay_call.specs.Shown.{irqIn}
 use Rattle.replay_text.specs.Adler.{adler}
 use Rattle.replay_text.specs.Text.{registerBytes, callBytes, playBytes}
-use Rattle.rules.specs.Calls.{Request, ReadRegister, WriteRegister, Control, Play, Capture, Event, Step, step}
-use Rattle.device.specs.Counters.{countersOf}
-use Rattle.device.specs.Device.{Device, Queue}
+use Rattle.rules.specs.Calls.{Step}
+use Rattle.device.specs.Device.{Device}
+use Rattle.queue_lines.specs.Counters.{Queue}
+use Rattle.line_calls.specs.Calls.{Request, ReadRegister, WriteRegister, Control, Play, Capture, Event, step}
+use Rattle.line_calls.specs.Claim.{card}
+use Rattle.meaning.specs.Card.{streamsShown}
 
 -- the rules' step for a call on this device, with this memory lent
 abbrev pub stepIn : Device Queue → Request → List ℕ → Step (Device Queue)
-stepIn d q m = step countersOf d (record { asked = q; lent = m })
+stepIn d q m = step (streamsShown d) (card (streamsShown d)) d (record { asked = q; lent = m })
 
 -- "r, w: LINE ANSWER VALUE RUNG IRQ"; "control, event, capture: LINE ANSWER COUNT IRQ SUM QUEUE", and "play" with HOST before QUEUE
 abbrev pub registerPrinted : ℕ → Step (Device Queue) → List ℕ
@@ -29,6 +32,6 @@ abbrev pub printed : Request → ℕ → Step (Device Queue) → List ℕ
 printed (ReadRegister offset width) = registerPrinted
 printed (WriteRegister offset width v) = registerPrinted
 printed Control = callPrinted
-printed (Play host backlog) = playPrinted
-printed (Capture host backlog) = callPrinted
+printed (Play stream host backlog) = playPrinted
+printed (Capture stream host backlog) = callPrinted
 printed (Event code info) = callPrinted

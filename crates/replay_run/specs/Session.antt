@@ -6,13 +6,13 @@ use mathlib.Core.Bool.{Bool, false, cond}
 use Prim.Native.Nat.{ℕ, _+_, _-_, _%_, _^_, _≤_, _<_, min}
 use lib.Dec.{eqb}
 use lib.ListN.{length, take, drop}
-use Rattle.card.specs.Fit.{Fit}
 use Rattle.card.specs.Rules.{poweredOf}
 use Rattle.decimal.specs.Write.{Put}
 use Rattle.description.specs.Nothing.{nothingDescribed}
 use Rattle.description.specs.declared.Description.{Description}
 use Rattle.lines.specs.Lines.{spanOf, behindOf}
 use Rattle.meaning.specs.Card.{deviceOf}
+use Rattle.meaning.specs.Fit.{Fit}
 use Rattle.replay_call.specs.Shown.{Left, leftBy}
 use Rattle.replay_description.specs.Parts.{withPart}
 use Rattle.replay_host.specs.Host.{askedBy}
@@ -23,7 +23,8 @@ use Rattle.replay_line.specs.declared.Line.{Line}
 use Rattle.replay_line.specs.declared.Line.the-variants.{Skipped, Unreadable, Described, Power, Called, Lent}
 use Rattle.replay_memory.specs.Lent.{filled, touchedLength, touchedRam, touchedText}
 use Rattle.replay_text.specs.Text.{answerBytes}
-use Rattle.device.specs.Device as rules
+use Rattle.device.specs.Device.{Device}
+use Rattle.queue_lines.specs.Counters.{Queue}
 use Rattle.replay_run.specs.Calls.{stepIn, printed}
 use Rattle.replay_run.specs.declared.State.{State}
 use Rattle.replay_run.specs.declared.Turn.{Turn}
@@ -40,7 +41,7 @@ pub record Desk : Type 0 where
 -- with what the card stands for in the rules, and the array of which the first bytes are lent
 pub record World : Type 0 where
   pub desk : Desk
-  pub device : rules.Device rules.Queue
+  pub device : Device Queue
   pub ram : List ℕ
 
 abbrev pub deskOf : State → Desk

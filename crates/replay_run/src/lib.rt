@@ -4,10 +4,10 @@
 ghost use mathlib.Core.Path.{_≡_};
 ghost use Prim.Native.Nat.{_≤_, min};
 ghost use lib.ListN.{length};
-ghost use Rattle.card.specs.Fit.{Fit};
 ghost use Rattle.card.specs.Rules.{poweredOf};
 ghost use Rattle.decimal.specs.Write.{Put};
 ghost use Rattle.lines.specs.Lines.{linesOf};
+ghost use Rattle.meaning.specs.Fit.{Fit};
 ghost use Rattle.replay_text.specs.Text.{answerBytes};
 ghost use Rattle.replay_run.specs.Session.{worldOf, firstWorld, poweredWorld, calledWorld, calledText};
 ghost use Rattle.replay_run.specs.Session.{stepWorld, stepText, sessionWorld, Steps};
@@ -75,7 +75,7 @@ fn power(state: State, n: usize, ram: &mut [u8], out: &mut [u8]) -> Turn
     let len = replay_memory::within(n, ram);
     replay_memory::fill(ram, 0, MAX_RAM, 0);
     let d = state.described;
-    let powered = card::power_up(d, len);
+    let powered = calls::power_up(d, len);
     let end = answer(state.line, powered.answer, out);
     let card = powered.card;
     let next = State {
@@ -166,7 +166,7 @@ fn step(state: State, s: &[u8], ram: &mut [u8], out: &mut [u8]) -> Turn
 fn first_state(ram: &[u8]) -> State
     ensures { λ r. ⌜ (worldOf r (now (ram .entry)) ≡ firstWorld (now (ram .entry))) × Fit (r .card) ⌝ }
 {
-    let powered = card::power_up(description::nothing(), 0);
+    let powered = calls::power_up(description::nothing(), 0);
     let card = powered.card;
     State {
         line: 0,

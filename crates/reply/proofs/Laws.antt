@@ -11,15 +11,13 @@ use Rattle.ranges.specs.Ranges.{putAt}
 use Rattle.ranges.proofs.Laws.{putAt-nil}
 use Rattle.ring.specs.Rules.{Completion, completion}
 use Rattle.ring.specs.declared.Posted.{Posted}
-use Rattle.card.specs.Card.{noStream}
 use Rattle.card.specs.Fit.{FitParts}
 use Rattle.card.specs.Setters.{withJackAt, withStreamAt}
 use Rattle.card.specs.declared.Jack.{Jack}
 use Rattle.card.specs.declared.Parts.{Parts}
 use Rattle.card.specs.declared.Stream.{Stream}
 use Rattle.card.proofs.Setters.{fit-with-jack, fit-with-stream}
-use Rattle.meaning.specs.Card.{partsOf}
-pub use Rattle.meaning.proofs.Streams.{stream-at}
+use Rattle.rules.specs.Parts.{partsOf}
 use Rattle.rules.specs.Control as rules
 use Rattle.device.specs.Device.{bytesOf}
 use Rattle.reply.specs.Reply.{Outcome, outcome, completedWith, postedBy, partsWith, Serves}
@@ -88,7 +86,7 @@ module _ (p : Parts) where
     jack-total = rw length-take (omega (arith, f .jacks, f .four-jacks))
 
     pub stream-total : length (partsOf p .streams) ≡ p .«stream_count»
-    stream-total = rw length-take (omega (arith, f .streams, f .two-streams))
+    stream-total = rw length-take (omega (arith, f .streams, f .six-streams))
 
   pub jack-at : (i : ℕ) → i < p .«jack_count» → rules.jackIn (partsOf p) i ≡ getD (p .jacks) i rules.noJack
   jack-at i h = getD-take (p .«jack_count») (p .jacks) i rules.noJack h

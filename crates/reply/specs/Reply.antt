@@ -2,7 +2,7 @@
 -- of it, as the rules have it (01, Completing and Control messages).
 use mathlib.Core.Path.{_≡_}
 use mathlib.Core.List.{List}
-use Prim.Native.Nat.{ℕ}
+use Prim.Native.Nat.{ℕ, _<_}
 use lib.ListN.{length}
 use lib.Seq.{sets}
 use Rattle.ranges.specs.Ranges.{rangesOf, places, putAt}
@@ -11,7 +11,7 @@ use Rattle.ring.specs.Rules.{Completion, postOf}
 use Rattle.ring.specs.declared.Posted.{Posted}
 use Rattle.card.specs.Fit.{FitParts}
 use Rattle.card.specs.declared.Parts.{Parts}
-use Rattle.meaning.specs.Card.{partsOf}
+use Rattle.rules.specs.Parts.{partsOf}
 use Rattle.rules.specs.Control as rules
 use Rattle.device.specs.Numbers.{controlQueue}
 use Rattle.reply.specs.declared.Kind.the-variants as kinds
@@ -58,6 +58,7 @@ partsWith r p =
       «jack_count» = p .«jack_count»;
       «map_count» = p .«map_count»;
       «stream_count» = p .«stream_count»;
+      «output_count» = p .«output_count»;
       jacks = sets (p .jacks) 0 (r .jacks);
       maps = p .maps;
       streams = sets (p .streams) 0 (r .streams);
@@ -68,10 +69,10 @@ abbrev pub outcomeOf : List ℕ → Pending → Parts → rules.Served → List 
 outcomeOf ws p parts (rules.Reply after bytes) m = completedWith ws p (partsWith after parts) bytes m
 outcomeOf ws p parts (rules.Release id) m = outcome m (record { parts = parts; kind = kinds.Release id })
 
--- the parts stand for those of the rule
+-- the parts stand for those of the rule; a stream to be released is there
 abbrev pub standFor : rules.Served → Parts → Type 0
 standFor (rules.Reply after bytes) parts = partsOf parts ≡ after
-standFor (rules.Release id) parts = Unit
+standFor (rules.Release id) parts = id < parts .«stream_count»
 
 -- a request is served as a rule has it, over memory before and after
 pub record Serves (ws : List ℕ) (pending : Pending) (parts : Parts) (rule : rules.Served) (r : Served) (before after : List ℕ)

@@ -10,7 +10,7 @@ use lib.Dec.{ltb}
 use lib.ListN.{getD}
 use Rattle.card.specs.Fit.{FitParts}
 use Rattle.card.specs.declared.Parts.{Parts}
-use Rattle.meaning.specs.Card.{partsOf}
+use Rattle.rules.specs.Parts.{partsOf}
 use Rattle.reply.proofs.Laws.{jack-total, jack-at}
 use Rattle.rules.specs.Control as rules
 use Rattle.device.specs.Numbers.{sBadMsg, sNotSupp}

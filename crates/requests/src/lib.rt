@@ -6,11 +6,13 @@ ghost use Prim.Native.Nat.{_+_, _*_, _≤_, _<_};
 ghost use lib.Dec.{ltb};
 ghost use lib.ListN.{length, take, drop};
 ghost use Rattle.card.specs.Fit.{FitParts};
-ghost use Rattle.meaning.specs.Card.{partsOf};
+ghost use Rattle.rules.specs.Parts.{partsOf};
+ghost use Rattle.information.specs.Items.{itemsIn};
+ghost use Rattle.line_calls.specs.Streams.{streamsIn, directionNumber};
 ghost use Rattle.reply.specs.Reply.{Serves, completionOf};
 ghost use Rattle.ring.specs.Rules.{completion};
-ghost use Rattle.rules.specs.Control.{information as informationOf, remap as remapOf, remapAt, remappable, fourBits, itemsOf, fitted};
-ghost use Rattle.rules.specs.Control.{joined, spaced, listed, roomy, status};
+ghost use Rattle.rules.specs.Control.{itemsBy, informBy, remap as remapOf, remapAt, remappable, fourBits, fitted, joined};
+ghost use Rattle.rules.specs.Control.{spaced, listedIn, roomy, status};
 ghost use Rattle.device.specs.Numbers.{sOk};
 ghost use Rattle.requests.specs.Requests.{checked, partFound, Replies};
 use card::Jack;
@@ -128,7 +130,7 @@ fn is_spaced(count: u32, size: u32) -> Check
 // Information: the items asked for are there.
 fn is_listed(parts: Parts, l: Listing, start: u32, count: u32) -> Check
     requires { ⌜ FitParts parts ⌝ }
-    ensures { λ r. ⌜ r ≡ checked (listed l (partsOf parts) start count) ⌝ }
+    ensures { λ r. ⌜ r ≡ checked (listedIn (itemsIn l parts) start count) ⌝ }
 {
     let total = information::total(parts, l) as u64;
     if start as u64 + count as u64 <= total {
@@ -162,10 +164,10 @@ fn list_items(
     count: u32,
     size: u32,
 ) -> Posted
-    requires { ⌜ FitParts parts × (start + count ≤ length (itemsOf l (partsOf parts))) × (4 + count * size ≤ 4294967295) ⌝ }
+    requires { ⌜ FitParts parts × (start + count ≤ length (itemsIn l parts)) × (4 + count * size ≤ 4294967295) ⌝ }
     ensures { λ r. ⌜ completion (now (m .exit)) r
         ≡ completionOf (now (list .entry)) pending
-        (status sOk ++ joined (take count (drop start (map (fitted size) (itemsOf l (partsOf parts))))))
+        (status sOk ++ joined (take count (drop start (map (fitted size) (itemsIn l parts)))))
         (now (m .entry)) ⌝ }
 {
     let reply = pending.reply;
@@ -195,7 +197,8 @@ pub fn inform(
 ) -> Posted
     requires { ⌜ FitParts parts ⌝ }
     ensures { λ r. ⌜ Replies (now (list .entry)) pending (partsOf parts)
-        (informationOf (partsOf parts) l (now (request .entry)) room) r (now (m .entry)) (now (m .exit)) ⌝ }
+        (informBy (itemsBy (directionNumber (streamsIn parts))) (partsOf parts) l (now (request .entry)) room)
+        r (now (m .entry)) (now (m .exit)) ⌝ }
 {
     let start = memory::number32(request, 4);
     let count = memory::number32(request, 8);

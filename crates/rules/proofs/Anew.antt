@@ -15,10 +15,9 @@ use Rattle.registers.specs.declared.Written.{Written}
 use Rattle.register_map.specs.declared.Register.{Register}
 use Rattle.register_map.specs.declared.Register.the-variants.{GuestFeatures, QueuePfn, QueueSel, QueueNotify, Status, DeviceConfig, Absent}
 use Rattle.registers.proofs.Keeps.{by-cond}
-use Rattle.rules.specs.Account.{startsAnew, writesAnew}
-use Rattle.rules.specs.Calls.{Request, ReadRegister, WriteRegister, Control, Play, Capture, Event, clearsQueue}
-use Rattle.rules.specs.Claim.{clears}
-use Rattle.device.specs.Device.{output, Rest, Direction, input, queueNumber}
+use Rattle.rules.specs.Account.{writesAnew}
+use Rattle.rules.specs.Calls.{clearsQueue}
+use Rattle.device.specs.Device.{output, Direction, input, queueNumber}
 
 -- an effect that no write has but one of STATUS or QUEUE_PFN
 module _ (F : Effect → Bool) (nothing : F Effect.Nothing ≡ false) (rung : (q : ℕ) → F (Effect.Rung q) ≡ false) (r : Registers) (v : ℕ) where
@@ -127,12 +126,3 @@ module _ (d : Direction) where
 pub clears-by : (d : Direction) (r : Registers) (v offset width : ℕ)
     → clearsQueue d (writeOf r offset width v .effect) ≡ writesAnew (queueNumber d) offset width v r
 clears-by d r v offset width = write-clears d r v offset width (ℕ-discrete offset 18) (ℕ-discrete offset 8)
-
-pub anew-clears : (q : Request) (r : Rest) → clears output q r ≡ startsAnew q r
-unfolding clears startsAnew
-anew-clears (ReadRegister offset width) r = refl
-anew-clears (WriteRegister offset width v) r = clears-by output (r .registers) v offset width
-anew-clears Control r = refl
-anew-clears (Play host backlog) r = refl
-anew-clears (Capture host backlog) r = refl
-anew-clears (Event code data′) r = refl

@@ -3,14 +3,13 @@
 use mathlib.Core.Path.{_≡_, refl, sym, _∙_, ap}
 use mathlib.Core.Bool.{Bool, true, false, cond, _&&_, not}
 use mathlib.Core.List.{List, [], _∷_, map}
-use Prim.Native.Nat.{ℕ, zero, suc, _+_, _<_, _^_}
+use Prim.Native.Nat.{ℕ, zero, suc, _<_, _^_}
 use native.Mathlib.Decide.{ℕ-discrete}
 use native.Mathlib.Omega.{arith}
 use borrow.Author.Tests.{eqb-true, eqb-false, ne-eqb, ltb-true}
 use lib.Dec.{eqb, ltb}
 use lib.ListN.{length, getD, set, take, List·getD-map}
 use lib.Seq.{getD-set-same, getD-set-other}
-use Rattle.description.specs.declared.Description.{Description}
 use Rattle.description.specs.declared.StreamInfo.{StreamInfo}
 use Rattle.registers.proofs.Keeps.{by-cond}
 use Rattle.registers.specs.Answers.{done, plain}
@@ -25,17 +24,15 @@ use Rattle.card.specs.Card.{freshStream, noStream, runningState}
 use Rattle.card.specs.Rules.{streamReset}
 use Rattle.card.specs.declared.Jack.{Jack}
 use Rattle.card.specs.declared.Stream.{Stream}
-use Rattle.rules.specs.Backlog.{writtenBacklog, movedBacklog, backlogAfter, lastBacklog, Remembers}
-use Rattle.rules.specs.Calls.{Request, ReadRegister, WriteRegister, Control, Play, Capture, Event, Call, affectedRest}
-use Rattle.rules.specs.Calls.{isRunning, virtqueueOf, untouched, admittedIf, transferFound, transferred, transferStep, readStep}
-use Rattle.rules.specs.Calls.{writeStep, rememberedIf, remembering, transferBy, asked, step}
-use Rattle.device.specs.Transfer.{Transferred, Ops, found}
-use Rattle.rules.specs.Claim.{start, after, toldBy}
+use Rattle.rules.specs.Backlog.{writtenBacklog, movedBacklog}
+use Rattle.rules.specs.Calls.{affectedRest}
+use Rattle.rules.specs.Calls.{isRunning, untouched, admittedIf, transferStep}
+use Rattle.rules.specs.Calls.{rememberedIf, remembering}
+use Rattle.device.specs.Transfer.{Transferred}
 use Rattle.rules.specs.Control.{withBacklog}
-use Rattle.device.specs.Device.{Direction, output, input, streamNumber, Rest, Device, queueFor, withRegisters, streamAt}
+use Rattle.device.specs.Device.{Direction, output, input, Rest, Device, withRegisters, streamAt}
 use Rattle.rules.proofs.Anew.{register-other}
-use Rattle.rules.proofs.Closed.{Closed, control-kept, sent-kept}
-use Rattle.rules.proofs.Along.{last-word}
+use Rattle.rules.proofs.Closed.{Closed}
 
 abbrev pub word : Stream → ℕ
 word s = s .backlog
@@ -183,40 +180,3 @@ written-word r offset width v id =
     affected-word (w .effect) (withRegisters (w .registers) r) id
     ∙ ap (λ (x : Bool). cond x 0 (streamAt r id .backlog))
     (write-resets (r .registers) v offset width (ℕ-discrete offset 18) (ℕ-discrete offset 8))
-
-module _ {Q : Type 0} (ops : Direction → Ops Q) where
-  transferBy-word : (d : Direction) (host : List ℕ) (backlog : ℕ) (b : Device Q) (m : List ℕ) (id : ℕ)
-      → streamAt (transferBy ops d host backlog b m .state .rest) id .backlog
-      ≡ movedBacklog id (streamNumber d) backlog (transferBy ops d host backlog b m .told) (streamAt (b .rest) id .backlog)
-  unfolding transferred
-  transferBy-word d host backlog b m id =
-      let v = virtqueueOf (b .rest) d backlog in
-      let q = queueFor d b in
-      moved-word d (streamNumber d) host backlog b (transferred (ops d) d backlog (b .rest) q m host) id
-      (done-admitted (isRunning (b .rest) (streamNumber d)) (b .rest) q m
-      (transferFound (ops d) d backlog (b .rest) q m host (found (ops d) v q m))
-      (λ t. streamNumber d < length (b .rest .streams)) (λ e a. running-there (b .rest) (streamNumber d) e))
-
-  asked-word : (q : Request) (b : Device Q) (m : List ℕ) (id : ℕ)
-      → streamAt (asked ops q b m .state .rest) id .backlog ≡ backlogAfter id q (asked ops q b m .told) (streamAt (b .rest) id .backlog)
-  unfolding backlogAfter readStep writeStep
-  asked-word (ReadRegister offset width) b m id = refl
-  asked-word (WriteRegister offset width v) b m id = written-word (b .rest) offset width v id
-  asked-word Control b m id =
-      same-word (asked ops Control b m .state .rest .streams) (b .rest .streams) id
-      (control-kept _ (closed-words (map word (b .rest .streams))) ops b m refl)
-  asked-word (Play host backlog) b m id = transferBy-word output host backlog b m id
-  asked-word (Capture host backlog) b m id = transferBy-word input host backlog b m id
-  asked-word (Event code data′) b m id =
-      same-word (asked ops (Event code data′) b m .state .rest .streams) (b .rest .streams) id
-      (sent-kept _ (closed-words (map word (b .rest .streams))) ops code data′ b m refl)
-
-  pub after-word : (b : Device Q) (n id : ℕ) (cs : List Call) → streamAt (b .rest) id .backlog ≡ n
-      → streamAt (after ops b cs .rest) id .backlog ≡ lastBacklog id n cs (toldBy ops b cs)
-  unfolding after toldBy lastBacklog
-  after-word b n id cs e =
-      last-word (step ops) (λ (b : Device Q). streamAt (b .rest) id .backlog) (λ (c : Call). backlogAfter id (c .asked))
-      (λ b c. asked-word (c .asked) b (c .lent) id) b n cs e
-
-  pub remembers : (d : Description) (len : ℕ) → Remembers ops d len
-  remembers d len cs id = after-word (start ops d len) 0 id cs (fresh-word (d .«output_count» + d .«input_count») (d .streams) id)

@@ -33,16 +33,16 @@ use Rattle.ring.specs.declared.Check.{Check}
 use Rattle.ring.specs.declared.Head.{Head}
 use Rattle.ring.specs.declared.Stop.{Stop}
 use Rattle.device.specs.Answers.{numberOf, brokenAnswer, answerBy, brokenBy}
-use Rattle.rules.specs.Calls.{Request, ReadRegister, WriteRegister, Control, Play, Capture, Event, Call, Step, Result, Order, Pending}
-use Rattle.rules.specs.Calls.{replied, acted, orderOf, virtqueueOf, indirect, releasedOf, isRunning, transferFound, transferred}
+use Rattle.rules.specs.Calls.{Step, Result, Order, Pending}
+use Rattle.rules.specs.Calls.{replied, acted, indirect}
 use Rattle.rules.specs.Calls.{eventAllowed, recorded, eventPosted, eventRoom, Tried, Ended, Further, Sent, eventChain, eventHead}
-use Rattle.rules.specs.Calls.{tried, onward, eventRun, eventFound, eventOf, affectedRest, readStep, writeStep, releaseStep}
-use Rattle.rules.specs.Calls.{transferStep, remembering, asked, step, configOf, admittedIf, untouched, releasedOn, endedOn, orderedBy}
-use Rattle.rules.specs.Calls.{readMessageBy, controlHeadBy, controlFoundBy, orderBy, writeBy, releaseBy, releaseQueue}
-use Rattle.device.specs.Transfer.{Transferred, Ops, begun, transferRun, found, Run, emptied, transferredBy}
-use Rattle.rules.specs.Causes.{saysBroken, queueMet, Split, Unchanged, orderQueueBy}
-use Rattle.rules.specs.Control.{Served, Reply, Release, served, partsIn, status, Parts}
-use Rattle.device.specs.Device.{Direction, output, input, streamNumber, queueNumber, directionOf, Rest, Device, queueFor, withQueue}
+use Rattle.rules.specs.Calls.{tried, onward, eventRun, eventFound, eventOf, affectedRest, readStep}
+use Rattle.rules.specs.Calls.{transferStep, remembering, configOf, admittedIf, untouched, releasedOn, endedOn, orderedBy}
+use Rattle.rules.specs.Calls.{readMessageBy, controlHeadBy, controlFoundBy, orderBy, writeBy}
+use Rattle.device.specs.Transfer.{Transferred, Run, transferredBy}
+use Rattle.rules.specs.Causes.{saysBroken, Split, Unchanged, orderQueueBy}
+use Rattle.rules.specs.Control.{Served, Reply, Release, partsIn, status, Parts}
+use Rattle.device.specs.Device.{Direction, output, input, queueNumber, Rest, Device, withQueue}
 use Rattle.device.specs.Device.{withControl, oneTaken, pageOf, signalledIf}
 use Rattle.device.specs.Numbers.{controlQueue, eventQueue, jackConnected, jackDisconnected, sBadMsg}
 
@@ -285,22 +285,6 @@ pub run-split : {Q : Type 0} (d : Direction) (g : Registers) (run : Run Q) → l
     → Split g (transferredBy (queueNumber d) g run .registers) (queueNumber d) (transferredBy (queueNumber d) g run .answer)
 run-split d g run l = by-stop g (run .stop) (signalledIf (run .signal) g) (queueNumber d) l (signalled-status (run .signal) g)
 
-module _ {Q : Type 0} (ops : Ops Q) (d : Direction) (backlog : ℕ) (r : Rest) (q : Q) (m host : List ℕ) where
-  found-moves : (c : Check) → live (r .registers) ≡ true
-      → Split (r .registers) (transferFound ops d backlog r q m host c .registers) (queueNumber d)
-      (transferFound ops d backlog r q m host c .answer)
-  found-moves Check.Idle l = kept (r .registers) (r .registers) (queueNumber d) 0 refl refl
-  found-moves (Check.Broken cause) l = loud (r .registers) (r .registers) (queueNumber d) cause l
-  found-moves (Check.New n) l = run-split d (r .registers) (transferRun ops (virtqueueOf r d backlog) n (begun q m host)) l
-
-  transferred-split :
-      Split (r .registers) (transferred ops d backlog r q m host .registers) (queueNumber d) (transferred ops d backlog r q m host .answer)
-  unfolding transferred
-  transferred-split =
-      admitted-split d (isRunning r (streamNumber d)) r q m
-      (transferFound ops d backlog r q m host (found ops (virtqueueOf r d backlog) q m))
-      (found-moves (found ops (virtqueueOf r d backlog) q m))
-
 -- ---- control, and with it a Release
 
 module _ {Q : Type 0} (b : Device Q) where
@@ -412,41 +396,5 @@ module _ {Q : Type 0} (b : Device Q) where
 
 -- ---- every call
 
-module _ {Q : Type 0} (ops : Direction → Ops Q) (b : Device Q) (m : List ℕ) where
-  release-split : (id : ℕ) (p : Pending) → live (g b) ≡ true → p .rest .registers .status ≡ g b .status
-      → Split (g b) (releaseBy ops id p b m .state .rest .registers) (queueNumber (directionOf id)) (releaseBy ops id p b m .told .answer)
-  unfolding releaseStep releasedOf
-  release-split id p l h =
-      let d = directionOf id in
-      let e = emptied (ops d) (releaseQueue id (p .rest)) (queueFor d b) m in
-      ended-split b l d id p h (e .mem) (e .stop) (e .signal) (e .queue)
-
-  pub asked-split :
-      (q : Request)
-      → Split (g b) (asked ops q b m .state .rest .registers) (queueMet q (b .rest) m) (asked ops q b m .told .answer)
-  unfolding writeStep orderOf
-  asked-split (ReadRegister offset width) = read-call b offset width m
-  asked-split (WriteRegister offset width v) = write-call b (λ (d : Direction). ops d .empty) offset width v m
-  asked-split Control = control-split b served directionOf (releaseBy ops) m release-split
-  asked-split (Play host backlog) =
-      moved-split b output 0 host backlog _ (transferred-split (ops output) output backlog (b .rest) (b .play) m host)
-  asked-split (Capture host backlog) =
-      moved-split b input 1 host backlog _ (transferred-split (ops input) input backlog (b .rest) (b .capture) m host)
-  asked-split (Event code data′) = event-split (b .rest) code data′ m
-
--- an answer is 9, 11 or 12 exactly where the base answered 9
-pub split :
-    {Q : Type 0} (ops : Direction → Ops Q) (b : Device Q) (c : Call)
-    → Split (b .rest .registers) (step ops b c .state .rest .registers) (queueMet (c .asked) (b .rest) (c .lent))
-    (step ops b c .told .answer)
-split ops b c = asked-split ops b (c .lent) (c .asked)
-
-pub unchanged : {Q : Type 0} (ops : Ops Q) (c c′ : Cause) → Unchanged ops c c′
-unfolding releasedOf
-unchanged ops c c′ =
-    record {
-      results = λ queue r m. refl;
-      releases = λ id p m signal. refl;
-      checks = λ d backlog r q m host. refl;
-      heads = λ v queue g r. refl;
-    }
+pub unchanged : (c c′ : Cause) → Unchanged c c′
+unchanged c c′ = record { results = λ queue r m. refl }

@@ -23,17 +23,15 @@ use Rattle.card.specs.Card.{freshState, releasedState, noStream}
 use Rattle.card.specs.declared.Jack.{Jack}
 use Rattle.card.specs.declared.Params.{Params}
 use Rattle.card.specs.declared.Stream.{Stream}
-use Rattle.rules.specs.Calls.{Control, Event, Order, Done, ReleaseFirst, Pending, Result, Tried, Ended, Further, Sent, replied, acted}
-use Rattle.rules.specs.Calls.{orderOf, releasedOf, releaseStep, endedOn, releaseBy, orderedBy, readMessageBy, controlHeadBy}
+use Rattle.rules.specs.Calls.{Order, Done, ReleaseFirst, Pending, Result, Tried, Ended, Further, Sent, replied, acted}
+use Rattle.rules.specs.Calls.{endedOn, orderedBy, readMessageBy, controlHeadBy}
 use Rattle.rules.specs.Calls.{controlFoundBy, orderBy, releasedOn, Step, recorded, withConnected, eventPosted, eventChain, eventHead}
-use Rattle.rules.specs.Calls.{tried, onward, eventRun, eventFound, eventOf, asked, indirect, eventRoom, eventAllowed, releaseQueue}
-use Rattle.device.specs.Transfer.{emptied, Ops}
-use Rattle.rules.specs.Claim.{start}
+use Rattle.rules.specs.Calls.{tried, onward, eventRun, eventFound, eventOf, indirect, eventRoom, eventAllowed}
 use Rattle.rules.specs.Control.{Parts, Served, Reply, Release, partsIn, passing, refusal, word, remappedTo, withDefconf, withState}
-use Rattle.rules.specs.Control.{withParams, jackIn, streamIn, noJack, information, remap, remapAt, spaced, listedIn, roomy, fourBits}
+use Rattle.rules.specs.Control.{withParams, jackIn, streamIn, noJack, remap, remapAt, spaced, listedIn, roomy, fourBits}
 use Rattle.rules.specs.Control.{layoutOf, status, judgedParams, setParams, paramsOf, setBy, moves, led, remappable, commanded}
-use Rattle.rules.specs.Control.{decodedOf, served, informed, informBy, answerBy, answeredBy, servedBy, itemsOf}
-use Rattle.device.specs.Device.{Direction, output, input, Rest, Device, queueFor, withQueue, withJacks, withControl, directionOf, pageOf}
+use Rattle.rules.specs.Control.{decodedOf, informed, informBy, answerBy, answeredBy, servedBy}
+use Rattle.device.specs.Device.{Direction, output, input, Rest, Device, withQueue, withJacks, withControl, pageOf}
 use Rattle.device.specs.Device.{oneTaken, streamAt}
 use Rattle.rules.specs.Lifecycle.{transition}
 use Rattle.device.specs.Numbers.{controlQueue, eventQueue, jackConnected, jackDisconnected, sOk, sBadMsg, sNotSupp}
@@ -304,22 +302,3 @@ module _ (P : List Stream → List Jack → Type 0) (closed : Closed P) where
         → RestKept (orderedBy release o b m .state .rest)
     ordered-kept release b m h (Done o) k = k .is
     ordered-kept release b m h (ReleaseFirst id p) k = h id p (k .is)
-
-  module _ {Q : Type 0} (ops : Direction → Ops Q) where
-    release-kept : (b : Device Q) (m : List ℕ) (id : ℕ) (p : Pending) → OrderKept (ReleaseFirst id p)
-        → RestKept (releaseBy ops id p b m .state .rest)
-    unfolding releaseStep releasedOf
-    release-kept b m id p k =
-        let d = directionOf id in
-        let e = emptied (ops d) (releaseQueue id (p .rest)) (queueFor d b) m in
-        ended-kept d id p (e .mem) (e .stop) (e .signal) (e .queue) b k
-
-    pub control-kept : (b : Device Q) (m : List ℕ) → RestKept (b .rest) → RestKept (asked ops Control b m .state .rest)
-    unfolding orderOf served information
-    control-kept b m k =
-        ordered-kept (releaseBy ops) b m (release-kept b m) (orderOf (b .rest) m) (order-kept itemsOf (b .rest) m k)
-
-    pub sent-kept : (code data′ : ℕ) (b : Device Q) (m : List ℕ)
-        → RestKept (b .rest)
-        → RestKept (asked ops (Event code data′) b m .state .rest)
-    sent-kept code data′ b m k = event-kept code data′ (b .rest) m k .is

@@ -9,8 +9,6 @@ use lib.ListN.{getD, set, take}
 use Rattle.description.specs.declared.Description.{Description}
 use Rattle.description.specs.declared.StreamInfo.{StreamInfo}
 use Rattle.description.specs.declared.JackInfo.{JackInfo}
-use Rattle.registers.specs.Answers.{done}
-use Rattle.registers.specs.Rules.{writeOf}
 use Rattle.registers.specs.declared.Effect.{Effect}
 use Rattle.registers.specs.declared.Effect.the-variants.{Nothing, Reset, Based, Rung}
 use Rattle.card.specs.Card.{freshStream, jackAtPower, noStream}
@@ -18,18 +16,14 @@ use Rattle.card.specs.Rules.{jackReset, streamReset}
 use Rattle.card.specs.declared.Jack.{Jack}
 use Rattle.card.specs.declared.Params.{Params}
 use Rattle.card.specs.declared.Stream.{Stream}
-use Rattle.rules.specs.Calls.{Request, ReadRegister, WriteRegister, Control, Play, Capture, Event, Call, transferStep, readStep}
-use Rattle.rules.specs.Calls.{writeStep, affectedRest, withConnected, asked, step, rememberedIf, remembering, transferred}
-use Rattle.rules.specs.Claim.{start, after, restAtPower}
+use Rattle.rules.specs.Calls.{affectedRest, withConnected, rememberedIf}
+use Rattle.rules.specs.Claim.{restAtPower}
 use Rattle.rules.specs.Control.{need, remappedTo, withDefconf, withBacklog, noJack, judgedParams, remappable}
-use Rattle.device.specs.Device.{Direction, output, input, Rest, Device, withRegisters, streamAt}
+use Rattle.device.specs.Device.{Rest, streamAt}
 use Rattle.device.specs.Numbers.{sOk, sBadMsg}
 use Rattle.device.specs.Account.{Each}
 use Rattle.rules.specs.Reached.{Accepted, Described, Reached}
-use Rattle.device.specs.Transfer.{Ops}
-use Rattle.rules.specs.declared.Command.the-variants as command
-use Rattle.rules.proofs.Closed.{Closed, control-kept, sent-kept}
-use Rattle.rules.proofs.Along.{along-keeps}
+use Rattle.rules.proofs.Closed.{Closed}
 
 -- ---- lists
 
@@ -135,30 +129,3 @@ power-reached d len = (
       (each-map Accepted freshStream fresh-accepted (d .streams)),
   each-take Described (d .«jack_count») (map jackAtPower (d .jacks)) (each-map Described jackAtPower power-described (d .jacks)),
 )
-
-module _ {Q : Type 0} (ops : Direction → Ops Q) where
-  asked-kept : (q : Request) (b : Device Q) (m : List ℕ) → Reached (b .rest) → Reached (asked ops q b m .state .rest)
-  unfolding readStep writeStep transferStep remembering
-  asked-kept (ReadRegister offset width) b m k = k
-  asked-kept (WriteRegister offset width v) b m k =
-      let w = writeOf (b .rest .registers) offset width v in
-      affected-kept (w .effect) (withRegisters (w .registers) (b .rest)) k
-  asked-kept Control b m k = control-kept KeptAs closed-reached ops b m k
-  asked-kept (Play host backlog) b m k =
-      let t = transferred (ops output) output backlog (b .rest) (b .play) m host in
-      remembered-kept (eqb (t .answer .number) done) 0 backlog (withRegisters (t .registers) (b .rest)) k
-  asked-kept (Capture host backlog) b m k =
-      let t = transferred (ops input) input backlog (b .rest) (b .capture) m host in
-      remembered-kept (eqb (t .answer .number) done) 1 backlog (withRegisters (t .registers) (b .rest)) k
-  asked-kept (Event code data′) b m k = sent-kept KeptAs closed-reached ops code data′ b m k
-
-  pub step-reached : (b : Device Q) (c : Call) → Reached (b .rest) → Reached (step ops b c .state .rest)
-  step-reached b c k = asked-kept (c .asked) b (c .lent) k
-
-  pub after-reached : (b : Device Q) (cs : List Call) → Reached (b .rest) → Reached (after ops b cs .rest)
-  unfolding after
-  after-reached b cs k = along-keeps (step ops) (λ (b : Device Q). Reached (b .rest)) step-reached b cs k
-
-  -- of any list of calls from power-up
-  pub reached : (d : Description) (len : ℕ) (cs : List Call) → Reached (after ops (start ops d len) cs .rest)
-  reached d len cs = after-reached (start ops d len) cs (power-reached d len)

@@ -1,9 +1,10 @@
--- The five kinds of call, each from the state, its arguments and the memory lent to it to the answer, the count, the next
--- state and memory; for any way `Q` of keeping the stream queues. At counters they are the card's, at histories the account's.
+-- What the five kinds of call are made of, each from the state, its arguments and the memory lent to it to the answer, the count, the next
+-- state and memory; for any way `Q` of keeping the stream queues. Registers, control messages and events are here; what a play, a capture
+-- or a Release does to its stream's queue is queue_lines', and the calls are line_calls'.
 use mathlib.Core.Bool.{Bool, true, false, cond, _&&_, _||_}
 use mathlib.Core.List.{List, [], _++_, map}
 use mathlib.Core.Option.{Option, none, some}
-use Prim.Native.Nat.{ℕ, zero, suc, _+_}
+use Prim.Native.Nat.{ℕ, zero, suc}
 use lib.Dec.{eqb, leb, ltb}
 use lib.ListN.{length, getD, set}
 use lib.Seq.{sets}
@@ -29,32 +30,15 @@ use Rattle.card.specs.Card.{noCounters, runningState, releasedState}
 use Rattle.card.specs.Rules.{jackReset, streamReset, rungOf}
 use Rattle.card.specs.declared.Jack.{Jack}
 use Rattle.device.specs.Answers.{brokenAnswer, byStop}
-use Rattle.rules.specs.Control.{Parts, Served, Reply, Release, served, partsIn, withParts, status, noJack, withState, withBacklog}
+use Rattle.rules.specs.Control.{Parts, Served, Reply, Release, partsIn, withParts, status, noJack, withState, withBacklog}
 use Rattle.rules.specs.Control.{withStream}
-use Rattle.device.specs.Device.{Direction, output, input, streamNumber, queueNumber, directionOf, Virtqueue, Rest, Device, queueFor}
+use Rattle.device.specs.Device.{Direction, output, input, queueNumber, Rest, Device}
 use Rattle.device.specs.Device.{withQueue, withRegisters, withJacks, withControl, withEvent, pageOf, streamAt, signalledIf, oneTaken}
 use Rattle.device.specs.Device.{oneCompleted, bytesOf}
 use Rattle.device.specs.Numbers.{controlQueue, eventQueue, jackConnected, jackDisconnected, pcmXrun, sOk, sBadMsg}
-use Rattle.device.specs.Transfer.{Ops, begun, transferRun, found, Emptied, emptied, Transferred, transferredBy}
+use Rattle.device.specs.Transfer.{Transferred}
 
 -- ---- calls, and what their callers are told
-
--- "Play lends a host buffer, capture lends host bytes; both answer a byte count." Order 5: "The play and capture calls now take the host's
--- backlog
--- in bytes (32 bits)": the number behind them
-pub data Request : Type 0 where
-  ReadRegister : ℕ → ℕ → Request
-  WriteRegister : ℕ → ℕ → ℕ → Request
-  Control : Request
-  Play : List ℕ → ℕ → Request
-  Capture : List ℕ → ℕ → Request
-  Event : ℕ → ℕ → Request
-
--- a call: what is asked, and the memory lent to it. "nobody else writes memory during one; between calls the length of memory may change
--- too": each call brings its own
-pub record Call : Type 0 where
-  pub asked : Request
-  pub lent : List ℕ
 
 -- "count": messages completed for control, bytes for play and capture; "bytes" are those a play handed on or a capture consumed;
 -- "host" is the host buffer after a play
@@ -94,15 +78,6 @@ admitted r m refuse go = cond (eqb (length m) (r .ram)) (cond (live (r .register
 -- "without bit 28 negotiated": as the guest features have it
 abbrev pub indirect : Rest → Bool
 indirect r = indirectNegotiated (r .registers)
-
--- the queue of a direction in a call whose statuses carry this latency
-abbrev pub virtqueueOf : Rest → Direction → ℕ → Virtqueue
-virtqueueOf r d latency = record { direction = d; page = pageOf r (queueNumber d); negotiated = indirect r; latency = latency }
-
--- the queue of a stream in its Release. Order 5: "A Release carries the backlog of the last such call on that stream since reset that
--- answered 0, else 0."
-abbrev pub releaseQueue : ℕ → Rest → Virtqueue
-releaseQueue id r = virtqueueOf r (directionOf id) (streamAt r id .backlog)
 
 -- ---- registers
 
@@ -213,18 +188,6 @@ module _ (serve : Parts → List ℕ → ℕ → Served) where
       admitted r m (λ answer. Done (refusedWith answer r m))
       (controlFoundBy r m (checkOf m (pageOf r controlQueue) (sizeOf controlQueue) (r .control .taken) 0))
 
-abbrev pub readMessage : Rest → List ℕ → ℕ → Outcome → Order
-readMessage r m head o = readMessageBy served r m head o
-
-abbrev pub controlHead : Rest → List ℕ → Head → Order
-controlHead r m h = controlHeadBy served r m h
-
-abbrev pub controlFound : Rest → List ℕ → Check → Order
-controlFound r m c = controlFoundBy served r m c
-
-unfoldable pub orderOf : Rest → List ℕ → Order
-orderOf r m = orderBy served r m
-
 -- ---- a Release, past its checks: the stream's queue, then the reply
 
 -- ".. then replies." "If the queue breaks, the control message stays taken, uncompleted, and the stream keeps its state."
@@ -233,9 +196,6 @@ releasedOn d id p m stop signal =
     let r : Rest = withRegisters (signalledIf signal (p .rest .registers)) (p .rest) in
     byStop stop (replied (withRest (withStream r id (withState releasedState (streamAt r id))) p) (status sOk) m)
     (λ cause. broke (queueNumber d) cause r m)
-
-unfoldable pub releasedOf : ℕ → Pending → List ℕ → Stop → Bool → Result
-releasedOf id p m stop signal = releasedOn (directionOf id) id p m stop signal
 
 -- ---- play and capture
 
@@ -249,24 +209,6 @@ isRunning r id = ltb id (length (r .streams)) && eqb (streamAt r id .state) runn
 -- .. behind 1 and 5
 abbrev pub admittedIf : {A : Type 0} → Bool → Rest → List ℕ → (ℕ → A) → A → A
 admittedIf runs r m refuse go = admitted r m refuse (cond runs go (refuse notRunning))
-
-abbrev pub admittedFor : {A : Type 0} → Rest → List ℕ → ℕ → (ℕ → A) → A → A
-admittedFor r m id refuse go = admittedIf (isRunning r id) r m refuse go
-
--- order 5: ".. and every status completed in that call carries it"
-module _ {Q : Type 0} (ops : Ops Q) (d : Direction) (backlog : ℕ) where
-  abbrev pub transferFound : Rest → Q → List ℕ → List ℕ → Check → Transferred Q
-  transferFound r q m host Check.Idle = untouched (plain done) (r .registers) q m
-  transferFound r q m host (Check.Broken cause) =
-      untouched (brokenAnswer (queueNumber d) cause) (broken (r .registers)) q m
-  transferFound r q m host (Check.New n) =
-      transferredBy (queueNumber d) (r .registers) (transferRun ops (virtqueueOf r d backlog) n (begun q m host))
-
-  -- "Play and capture: 1, 5, 6, 9."
-  unfoldable pub transferred : Rest → Q → List ℕ → List ℕ → Transferred Q
-  transferred r q m host =
-      admittedFor r m (streamNumber d) (λ number. untouched (plain number) (r .registers) q m)
-      (transferFound r q m host (found ops (virtqueueOf r d backlog) q m))
 
 -- ---- events
 
@@ -391,9 +333,6 @@ endedOn d o q b =
       told = toldAll (o .answer) 0 nothingRung (o .count) [] [] (o .mem);
     }
 
-unfoldable pub releaseStep : {Q : Type 0} → ℕ → Pending → Device Q → Emptied Q → Step (Device Q)
-releaseStep id p b e = endedOn (directionOf id) (releasedOf id p (e .mem) (e .stop) (e .signal)) (e .queue) b
-
 -- "Host bytes past the count keep their value."
 abbrev pub hostAfter : Direction → List ℕ → List ℕ → List ℕ
 hostAfter output host bytes = sets host 0 bytes
@@ -440,30 +379,3 @@ writeBy empty offset width v b m =
 abbrev pub orderedBy : {Q : Type 0} → (ℕ → Pending → Device Q → List ℕ → Step (Device Q)) → Order → Device Q → List ℕ → Step (Device Q)
 orderedBy release (Done o) b m = stepBy o b
 orderedBy release (ReleaseFirst id p) b m = release id p b m
-
-module _ {Q : Type 0} (ops : Direction → Ops Q) where
-  unfoldable pub writeStep : ℕ → ℕ → ℕ → Device Q → List ℕ → Step (Device Q)
-  writeStep offset width v b m = writeBy (λ (d : Direction). ops d .empty) offset width v b m
-
-  abbrev pub releaseBy : ℕ → Pending → Device Q → List ℕ → Step (Device Q)
-  releaseBy id p b m =
-      let d : Direction = directionOf id in
-      releaseStep id p b (emptied (ops d) (releaseQueue id (p .rest)) (queueFor d b) m)
-
-  abbrev pub ordered : Order → Device Q → List ℕ → Step (Device Q)
-  ordered o b m = orderedBy releaseBy o b m
-
-  abbrev pub transferBy : Direction → List ℕ → ℕ → Device Q → List ℕ → Step (Device Q)
-  transferBy d host backlog b m =
-      remembering (streamNumber d) backlog (transferStep d host b (transferred (ops d) d backlog (b .rest) (queueFor d b) m host))
-
-  abbrev pub asked : Request → Device Q → List ℕ → Step (Device Q)
-  asked (ReadRegister offset width) b m = readStep offset width b m
-  asked (WriteRegister offset width v) b m = writeStep offset width v b m
-  asked Control b m = ordered (orderOf (b .rest) m) b m
-  asked (Play host backlog) b m = transferBy output host backlog b m
-  asked (Capture host backlog) b m = transferBy input host backlog b m
-  asked (Event code data′) b m = stepBy (eventOf (b .rest) code data′ m) b
-
-  abbrev pub step : Device Q → Call → Step (Device Q)
-  step b c = asked (c .asked) b (c .lent)

@@ -89,16 +89,6 @@ abbrev pub pcmItemsBy : (ℕ → ℕ) → ℕ → List Stream → List (List ℕ
 pcmItemsBy direction number [] = []
 pcmItemsBy direction number (s ∷ ss) = pcmItemOf (direction number) s ∷ pcmItemsBy direction (suc number) ss
 
--- stream 0 is the output (0), the others are inputs (1)
-abbrev pub directionNumber : ℕ → ℕ
-directionNumber number = cond (eqb number 0) 0 1
-
-abbrev pub pcmItem : ℕ → Stream → List ℕ
-pcmItem number s = pcmItemOf (directionNumber number) s
-
-abbrev pub pcmItems : ℕ → List Stream → List (List ℕ)
-pcmItems number ss = pcmItemsBy directionNumber number ss
-
 -- "Chmap item: nid, direction, channels, 18 positions."
 abbrev pub mapItem : MapInfo → List ℕ
 mapItem m = bytesOf 4 (m .nid) ++ (m .direction ∷ m .channels ∷ []) ++ m .positions
@@ -107,9 +97,6 @@ abbrev pub itemsBy : (ℕ → ℕ) → Listing → Parts → List (List ℕ)
 itemsBy direction Jacks p = map jackItem (p .jacks)
 itemsBy direction Streams p = pcmItemsBy direction 0 (p .streams)
 itemsBy direction Maps p = map mapItem (p .maps)
-
-abbrev pub itemsOf : Listing → Parts → List (List ℕ)
-itemsOf l p = itemsBy directionNumber l p
 
 abbrev pub joined : List (List ℕ) → List ℕ
 joined [] = []
@@ -133,9 +120,6 @@ spaced count size = eqb count 0 || not (eqb size 0)
 abbrev pub listedIn : List (List ℕ) → ℕ → ℕ → Bool
 listedIn items start count = leb (start + count) (length items)
 
-abbrev pub listed : Listing → Parts → ℕ → ℕ → Bool
-listed l p start count = listedIn (itemsOf l p) start count
-
 -- "reply room at least 4 + count·size"
 abbrev pub roomy : ℕ → ℕ → ℕ → Bool
 roomy count size room = leb (4 + count * size) room
@@ -153,9 +137,6 @@ informed p items request room =
 
 abbrev pub informBy : (Listing → Parts → List (List ℕ)) → Parts → Listing → List ℕ → ℕ → Served
 informBy items p l request room = informed p (items l p) request room
-
-unfoldable pub information : Parts → Listing → List ℕ → ℕ → Served
-information p l request room = informBy itemsOf p l request room
 
 -- ---- JACK_REMAP: header, jack_id, association, sequence
 
@@ -363,12 +344,3 @@ module _ (inform : Parts → Listing → List ℕ → ℕ → Served) where
 
   abbrev pub servedBy : Parts → List ℕ → ℕ → Served
   servedBy p request room = answeredBy (decodedOf (word request 0)) p request room
-
-abbrev pub answerTo : Asked → Parts → List ℕ → ℕ → Served
-answerTo a p request room = answerBy information a p request room
-
-abbrev pub answered : Decoded → Parts → List ℕ → ℕ → Served
-answered d p request room = answeredBy information d p request room
-
-unfoldable pub served : Parts → List ℕ → ℕ → Served
-served p request room = servedBy information p request room

@@ -1,6 +1,8 @@
--- Document 01 as definitions: the rules of each call, the account, and the claim about any list of calls.
+-- Document 01 as definitions, but for the stream queues: registers, control messages and events, the lifecycle of a stream, and the parts
+-- that whole calls are made of in `line_calls`.
 pub mod Lifecycle
 pub mod Control
+pub mod Parts
 pub mod Calls
 pub mod Account
 pub mod Claim

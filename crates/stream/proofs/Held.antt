@@ -3,21 +3,20 @@ use mathlib.Core.Path.{_≡_}
 use mathlib.Core.List.{List}
 use Prim.Native.Nat.{ℕ, zero, suc, _<_}
 use native.Mathlib.Omega.{arith}
+use lib.ListN.{length}
 use lib.Seq.{getD-set-same, getD-set-other}
 use Rattle.registers.specs.Fit.{FitRegisters}
 use Rattle.registers.specs.declared.Registers.{Registers}
-use Rattle.card.specs.Setters as card
 use Rattle.card.specs.Card.{noCounters}
-use Rattle.card.specs.Fit.{Fit}
 use Rattle.card.specs.declared.Card.{Card}
 use Rattle.card.specs.declared.Counters.{Counters}
 use Rattle.card.specs.declared.Parts.{Parts}
-use Rattle.card.proofs.Keeps.{fit-with-registers, fit-with-counters}
-use Rattle.live.specs.Live.{cardIn, Fits}
+use Rattle.live.specs.Setters as live
 use Rattle.live.specs.declared.Live.{Live}
-use Rattle.live.proofs.Laws.{fits-card, card-fits}
-use Rattle.meaning.specs.Card.{restOf, deviceOf}
+use Rattle.live.proofs.Laws.{board-with-registers, board-with-counters}
 use Rattle.device.specs.Device.{Rest, withRegisters, withControl, withEvent}
+use Rattle.meaning.specs.Card.{restOf, deviceOf}
+use Rattle.meaning.specs.Fit.{Fits}
 use Rattle.stream.specs.Held.{holding, holdingLive}
 
 -- the rules' rest with them
@@ -25,32 +24,32 @@ abbrev pub restHolding : ℕ → Registers → Counters → Rest → Rest
 restHolding zero g v r = withRegisters g (withControl v r)
 restHolding (suc q) g v r = withRegisters g (withEvent v r)
 
-module _ (c : Card) (f : Fit c) (g : Registers) (v : Counters) where
+module _ (c : Card) (four : length (c .queues) ≡ 4) (g : Registers) (v : Counters) where
   pub held-device : (q : ℕ) → q < 2
       → deviceOf (holding q g v c) ≡ record { rest = restHolding q g v (restOf c); play = deviceOf c .play; capture = deviceOf c .capture }
   unfolding restOf deviceOf
   held-device zero h =
       rw (
-        getD-set-same (c .queues) 0 v noCounters (omega (arith, f .four)),
+        getD-set-same (c .queues) 0 v noCounters (omega arith),
         getD-set-other (c .queues) 0 1 v noCounters (λ e. omega arith),
         getD-set-other (c .queues) 0 2 v noCounters (λ e. omega arith),
         getD-set-other (c .queues) 0 3 v noCounters (λ e. omega arith),
       )
   held-device (suc zero) h =
       rw (
-        getD-set-same (c .queues) 1 v noCounters (omega (arith, f .four)),
+        getD-set-same (c .queues) 1 v noCounters (omega arith),
         getD-set-other (c .queues) 1 0 v noCounters (λ e. omega arith),
         getD-set-other (c .queues) 1 2 v noCounters (λ e. omega arith),
         getD-set-other (c .queues) 1 3 v noCounters (λ e. omega arith),
       )
   held-device (suc (suc q)) h = absurd (omega arith)
 
-  pub held-fit : FitRegisters g → (q : ℕ) → q < 2 → Fit (holding q g v c)
-  held-fit k q h = fit-with-counters (card.withRegisters g c) (fit-with-registers c f g k) q v h
-
 -- .. and so the small state
 module _ (l : Live) (p : Parts) (pw cw : List ℕ) (f : Fits l p pw cw) where
   pub held-fits : (g : Registers) (v : Counters) → FitRegisters g → (q : ℕ) → q < 2 → Fits (holdingLive q g v l) p pw cw
   held-fits g v k q h =
-      card-fits (holdingLive q g v l) p pw cw (held-fit (cardIn l p pw cw) (fits-card l p pw cw f) g v k q h)
-      (f .live .states) (f .live .backlogs) (f .counts)
+      record {
+        board = board-with-counters (live.withRegisters g l) p (board-with-registers l p (f .board) g k) q v;
+        play = rw (getD-set-other (l .queues) q 2 v noCounters (λ e. omega arith)) (f .play);
+        capture = rw (getD-set-other (l .queues) q 3 v noCounters (λ e. omega arith)) (f .capture);
+      }

@@ -1,112 +1,75 @@
--- A stream's queue, its check and a card with another one, in the rules' terms.
+-- A stream queue of the small state and of its cards, in the rules' terms; a card after a job on it.
 use mathlib.Core.Path.{_≡_, refl, ap, _∙_}
 use mathlib.Core.List.{List}
-use mathlib.Core.Bool.{cond}
-use Prim.Native.Nat.{ℕ, zero, suc, _≤_, _<_}
-use native.Mathlib.Nat.{sub-zero}
+use Prim.Native.Nat.{ℕ, _≤_, _<_}
 use native.Mathlib.Omega.{arith}
-use lib.ListN.{length, getD}
 use lib.Seq.{getD-set-same, getD-set-other}
-use Rattle.ring.specs.Rules.{checkOf}
 use Rattle.card.specs.Card.{noCounters, noStream}
-use Rattle.card.specs.declared.Card.{Card}
-use Rattle.card.specs.declared.Counters.{Counters}
-use Rattle.card.specs.declared.Message.{Message}
-use Rattle.meaning.specs.Card.{queueOf, messageOf, restOf, deviceOf}
-use Rattle.message.specs.Message.{directionOf, virtqueueIn}
+use Rattle.card.specs.declared.Parts.{Parts}
+use Rattle.live.specs.Live.{partsNow, streamAt, cardIn, FitBoard}
+use Rattle.live.specs.declared.Live.{Live}
+use Rattle.live.proofs.Streams.{stream-now}
+use Rattle.registers.specs.declared.Config.{Config}
+use Rattle.message.specs.Message.{directionOf}
 use Rattle.message.specs.declared.Direction.{Direction}
 use Rattle.message.specs.declared.Direction.the-variants.{Output, Input}
-use Rattle.rules.specs.Calls.{virtqueueOf}
-use Rattle.device.specs.Counters.{countersOf, isNone}
 use Rattle.device.specs.Device as rules
-use Rattle.device.specs.Transfer.{begun, found}
-use Rattle.flow.specs.Flow.{runOf, freshFlow}
-use Rattle.flow.specs.declared.Flow.{Flow}
-use Rattle.card.specs.declared.Parts.{Parts}
-use Rattle.live.specs.Live.{partsNow, streamAt, cardIn, Fits}
-use Rattle.live.specs.declared.Live.{Live}
-use Rattle.meaning.proofs.Streams.{stream-at, stream-past, rest-stream}
-use Rattle.registers.specs.declared.Config.{Config}
-use Rattle.stream.specs.Queue.{laidOut, countersIn, workIn, wordsIn, withFlow, messageIn, flowLive, cardWith}
+use Rattle.rules.proofs.Parts.{stream-at, stream-past}
+use Rattle.queue_lines.specs.Counters.{Queue}
+use Rattle.line_words.specs.Slots.{queueIn}
+use Rattle.line_taking.specs.declared.Progress.{Progress}
+use Rattle.line_calls.specs.Calls.{virtqueueOf}
+use Rattle.line_calls.specs.Streams.{streamsIn}
+use Rattle.meaning.specs.Card.{queueWith, restOf, deviceOf}
+use Rattle.meaning.specs.Fit.{droppedLive, countersLive}
+use Rattle.meaning.proofs.Streams.{rest-stream}
+use Rattle.stream.specs.Queue.{virtqueueIn, progressLive, cardWith}
 
 -- ---- where it is
 
--- the queue as the guest laid it out
-pub virtqueue-in : (c : Card) (d : Direction) (latency : ℕ)
-    → virtqueueIn (laidOut (c .registers) d latency) ≡ virtqueueOf (restOf c) (directionOf d) latency
-unfolding restOf
-virtqueue-in c d latency = refl
+module _ (l : Live) (p : Parts) (ws other : List ℕ) (f : FitBoard l p) (latency : ℕ) where
+  -- the queue as the guest laid it out
+  pub virtqueue-in : (d : Direction) → let c = cardWith d l p ws other in
+      virtqueueOf (streamsIn (c .parts)) (restOf c) (directionOf d) latency ≡ virtqueueIn l d latency
+  unfolding restOf
+  virtqueue-in Output = rw (f .outputs)
+  virtqueue-in Input = rw (f .outputs, f .inputs)
 
--- the rules' queue is the card's counters and message
-pub queue-in : (c : Card) (d : Direction) → rules.queueFor (directionOf d) (deviceOf c)
-    ≡ queueOf (wordsIn c d) (countersIn c d) (workIn c d)
-unfolding deviceOf restOf
-queue-in c Output = refl
-queue-in c Input = refl
+  -- the rules' queue is counters and words
+  pub queue-in : (d : Direction) → rules.queueFor (directionOf d) (deviceOf (cardWith d l p ws other))
+      ≡ queueWith (virtqueueIn l d latency) (droppedLive (directionOf d) l) ws (countersLive (directionOf d) l)
+  unfolding deviceOf queueWith queueIn
+  queue-in Output = rw (f .outputs)
+  queue-in Input = rw (f .outputs, f .inputs)
 
--- ---- the queue check
+  -- ---- after a job
 
--- a count of at most one is what the rules count in work
-in-work : (n : ℕ) (ws : List ℕ) (message : Message) → message .count ≡ n → n ≤ 1 → cond (isNone (messageOf ws message)) 0 1 ≡ n
-in-work zero ws message e h = rw e
-in-work (suc zero) ws message e h = rw e
-in-work (suc (suc n)) ws message e h = absurd (omega arith)
-
-pub found-check : (v : rules.Virtqueue) (ws m : List ℕ) (c : Counters) (message : Message) → message .count ≤ 1
-    → found (countersOf (v .direction)) v (queueOf ws c message) m ≡ checkOf m (v .page) (rules.queueSize v) (c .taken) (message .count)
-found-check v ws m c message h = rw (in-work (message .count) ws message refl h)
-
--- ---- a flow on it
-
--- a flow that begins is a run that begins
-pub fresh-run : (ws : List ℕ) (c : Counters) (message : Message) (m host : List ℕ)
-    → runOf ws (freshFlow c message) m host ≡ begun (queueOf ws c message) m host
-unfolding runOf
-fresh-run ws c message m host = rw sub-zero
-
--- a card after a flow stands for the device with another queue
-module _ (c : Card) (f : Flow) (ws : List ℕ) (four : length (c .queues) ≡ 4) where
-  pub flowed-device : (d : Direction)
-      → deviceOf (withFlow d f ws c) ≡ rules.withQueue (directionOf d) (restOf c) (queueOf ws (f .counters) (f .message)) (deviceOf c)
-  unfolding deviceOf restOf
-  flowed-device Output =
-      rw (
-        getD-set-same (c .queues) 2 (f .counters) noCounters (omega arith),
-        getD-set-other (c .queues) 2 0 (f .counters) noCounters (λ e. omega arith),
-        getD-set-other (c .queues) 2 1 (f .counters) noCounters (λ e. omega arith),
-        getD-set-other (c .queues) 2 3 (f .counters) noCounters (λ e. omega arith),
-      )
-  flowed-device Input =
-      rw (
-        getD-set-same (c .queues) 3 (f .counters) noCounters (omega arith),
-        getD-set-other (c .queues) 3 0 (f .counters) noCounters (λ e. omega arith),
-        getD-set-other (c .queues) 3 1 (f .counters) noCounters (λ e. omega arith),
-        getD-set-other (c .queues) 3 2 (f .counters) noCounters (λ e. omega arith),
-      )
-
--- .. and the small state after it the card after it
-module _ (f : Flow) (ws′ : List ℕ) (l : Live) (p : Parts) (ws other : List ℕ) where
-  pub flowed-in : (d : Direction) → withFlow d f ws′ (cardWith d l p ws other) ≡ cardWith d (flowLive d f l) p ws′ other
-  flowed-in Output = refl
-  flowed-in Input = refl
-
--- what of a card the queue of a direction is: its counters, its message, its words
-module _ (l : Live) (p : Parts) (ws other : List ℕ) where
-  pub with-live : (d : Direction) → let c = cardWith d l p ws other in
-      (c .registers ≡ l .registers) × (c .«ram_len» ≡ l .«ram_len») × (c .queues ≡ l .queues) × (workIn c d ≡ messageIn l d)
-      × (wordsIn c d ≡ ws)
-  with-live Output = (refl, refl, refl, refl, refl)
-  with-live Input = (refl, refl, refl, refl, refl)
+  module _ (r : Progress) (ws′ : List ℕ) where
+    -- a card after a job stands for the device with another queue
+    pub progressed : (d : Direction) → let c = cardWith d l p ws other in
+        deviceOf (cardWith d (progressLive d r l) p ws′ other)
+        ≡ rules.withQueue (directionOf d) (restOf c) (queueIn (virtqueueIn l d latency) ws′ (r .counters)) (deviceOf c)
+    unfolding deviceOf restOf queueWith queueIn
+    progressed Output =
+        rw (
+          getD-set-same (l .queues) 2 (r .counters) noCounters (omega (arith, f .live .four)),
+          getD-set-other (l .queues) 2 0 (r .counters) noCounters (λ e. omega arith),
+          getD-set-other (l .queues) 2 1 (r .counters) noCounters (λ e. omega arith),
+          getD-set-other (l .queues) 2 3 (r .counters) noCounters (λ e. omega arith),
+          f .outputs,
+        )
+    progressed Input =
+        rw (
+          getD-set-same (l .queues) 3 (r .counters) noCounters (omega (arith, f .live .four)),
+          getD-set-other (l .queues) 3 0 (r .counters) noCounters (λ e. omega arith),
+          getD-set-other (l .queues) 3 1 (r .counters) noCounters (λ e. omega arith),
+          getD-set-other (l .queues) 3 2 (r .counters) noCounters (λ e. omega arith),
+          f .inputs,
+        )
 
 -- ---- a stream
 
--- of the card's streams the one at i is the one in the parts with what the small state says of it
-pub stream-now : (l : Live) (p : Parts) (i : ℕ) → i < 2 → getD (partsNow l p .streams) i noStream ≡ streamAt l p i
-stream-now l p zero h = refl
-stream-now l p (suc zero) h = refl
-stream-now l p (suc (suc i)) h = absurd (omega arith)
-
-module _ (l : Live) (p : Parts) (pw cw : List ℕ) (f : Fits l p pw cw) (i : ℕ) where
+module _ (l : Live) (p : Parts) (pw cw : List ℕ) (f : FitBoard l p) (i : ℕ) where
   abbrev counted : l .config .streams ≡ p .«stream_count»
   counted = ap (λ (c : Config). c .streams) (f .counts)
 
@@ -121,15 +84,15 @@ module _ (l : Live) (p : Parts) (pw cw : List ℕ) (f : Fits l p pw cw) (i : ℕ
 
 -- ---- the queue of a device
 
-pub with-own-queue : (d : rules.Direction) (b : rules.Device rules.Queue) → b ≡ rules.withQueue d (b .rest) (rules.queueFor d b) b
-with-own-queue rules.output b = refl
-with-own-queue rules.input b = refl
+module _ (d : rules.Direction) (r : rules.Rest) (q : Queue) (b : rules.Device Queue) where
+  pub queue-for-with : rules.queueFor d (rules.withQueue d r q b) ≡ q
+  queue-for-with = by d where
+    by : (e : rules.Direction) → rules.queueFor e (rules.withQueue e r q b) ≡ q
+    by rules.output = refl
+    by rules.input = refl
 
-pub queue-for-with : (d : rules.Direction) (r : rules.Rest) (q : rules.Queue) (b : rules.Device rules.Queue)
-    → rules.queueFor d (rules.withQueue d r q b) ≡ q
-queue-for-with rules.output r q b = refl
-queue-for-with rules.input r q b = refl
-
-pub rest-with : (d : rules.Direction) (r : rules.Rest) (q : rules.Queue) (b : rules.Device rules.Queue) → rules.withQueue d r q b .rest ≡ r
-rest-with rules.output r q b = refl
-rest-with rules.input r q b = refl
+  pub rest-with : rules.withQueue d r q b .rest ≡ r
+  rest-with = by d where
+    by : (e : rules.Direction) → rules.withQueue e r q b .rest ≡ r
+    by rules.output = refl
+    by rules.input = refl

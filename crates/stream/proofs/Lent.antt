@@ -1,63 +1,131 @@
 -- A job on a queue of a card that is lent, in terms of the small state and the words.
-use mathlib.Core.Path.{_≡_, _∙_, refl, sym}
-use mathlib.Core.List.{List, [], _∷_}
+use mathlib.Core.Path.{_≡_, _∙_, refl, sym, ap}
+use mathlib.Core.Bool.{Bool}
+use mathlib.Core.List.{List}
 use Prim.Native.Nat.{ℕ}
-use native.Mathlib.Omega.{arith}
 use lib.ListN.{length}
 use Rattle.card.specs.declared.Counters.{Counters}
-use Rattle.card.specs.declared.Message.{Message}
 use Rattle.card.specs.declared.Parts.{Parts}
 use Rattle.live.specs.declared.Live.{Live}
-use Rattle.meaning.specs.Card.{restOf}
-use Rattle.message.specs.Message.{directionOf, virtqueueIn}
+use Rattle.device.specs.Device as rules
+use Rattle.device.specs.Transfer.{Run}
+use Rattle.message.specs.Message.{directionOf}
 use Rattle.message.specs.declared.Direction.{Direction}
 use Rattle.message.specs.declared.Direction.the-variants.{Output, Input}
-use Rattle.message.specs.declared.Virtqueue.{Virtqueue}
-use Rattle.flow.specs.Flow.{freshFlow, StepsOn}
-use Rattle.flow.specs.declared.Flow.{Flow}
+use Rattle.queue_lines.specs.Chains.{Virtqueue}
+use Rattle.queue_lines.specs.Claim.{card}
+use Rattle.queue_lines.specs.Counters.{Queue}
+use Rattle.queue_lines.specs.Rules.{emptied}
 use Rattle.flow.specs.declared.Job.{Job}
 use Rattle.flow.specs.declared.Job.the-variants.{Release}
-use Rattle.transfer.specs.Runs.{checkAt, foundRun}
-use Rattle.stream.specs.Queue.{laidOut, countersLive, messageIn, flowLive, cardWith, FlowsOn, EmptiesOn}
-use Rattle.stream.proofs.Fits.{with-fit, flow-fits}
-use Rattle.stream.proofs.Found.{FlowsIn}
-use Rattle.stream.proofs.Laws.{flowed-in}
-use Rattle.stream.proofs.Outcomes.{empties, empties-fit}
+use Rattle.line_chains.specs.Queue as chains
+use Rattle.line_chains.specs.declared.LineQueue.{LineQueue}
+use Rattle.line_words.specs.Slots.{queueIn}
+use Rattle.line_taking.specs.Progress.{runWith}
+use Rattle.line_taking.specs.declared.Progress.{Progress}
+use Rattle.line_queue.specs.Between.{FitLines}
+use Rattle.line_queue.specs.Runs.{ranOf, Ran}
+use Rattle.meaning.specs.Card.{queueWith, restOf, deviceOf}
+use Rattle.meaning.specs.Fit.{droppedLive, countersLive}
+use Rattle.meaning.proofs.Words.{words-relaid}
+use Rattle.stream.specs.Queue.{lineQueueIn, virtqueueIn, Settles, RunsOn, progressLive, cardWith, FitsWith, FitOwn}
+use Rattle.stream.specs.Queue.{emptiedIn, Empties, EmptiesOn}
+use Rattle.stream.proofs.Fits.{board-with, progressed-fits}
+use Rattle.stream.proofs.Laws.{virtqueue-in, queue-in, progressed, queue-for-with}
+use Rattle.stream.proofs.Settled.{settled-queue, settled-fit}
 
--- the queue's place, its counters and its message are those of the small state
-pub flows-by : (d : Direction) (latency : ℕ) (job : Job) (l : Live) (ws m host ws′ m′ host′ : List ℕ) (g : Flow) (q : Virtqueue)
-    (c : Counters) (message : Message) → q ≡ laidOut (l .registers) d latency → c ≡ countersLive l d → message ≡ messageIn l d
-    → StepsOn (directionOf (q .direction)) (foundRun job (virtqueueIn q) (checkAt (virtqueueIn q) c message m)) ws m host
-    (freshFlow c message) ws′ m′ host′ g
-    → FlowsOn d latency job l ws m host ws′ m′ host′ g
-flows-by d latency job l ws m host ws′ m′ host′ g q c message laid counts work s = rw (laid, counts, work) at s
+-- ---- a job, by what the code knows of the queue
 
-module _ (l : Live) (p : Parts) (ws other : List ℕ) where
-  -- of every card with this small state and these words
-  pub flows-in : (d : Direction) (latency : ℕ) (job : Job) (m host ws′ m′ host′ : List ℕ) (g : Flow)
-      → FlowsOn d latency job l ws m host ws′ m′ host′ g → FlowsIn (cardWith d l p ws other) d latency job m host ws′ m′ host′ g
-  unfolding restOf
-  flows-in Output latency job m host ws′ m′ host′ g s = s
-  flows-in Input latency job m host ws′ m′ host′ g s = s
+module _ (d : Direction) (latency : ℕ) (l : Live) (ws ws₁ : List ℕ) (q : LineQueue) (c : Counters) (dropped : Bool)
+    (laid : q ≡ lineQueueIn l d latency) (counts : c ≡ countersLive (directionOf d) l) (drops : dropped ≡ droppedLive (directionOf d) l)
+    (s : Settles (chains.virtqueueOf q) dropped ws ws₁) where
+  settles : Settles (virtqueueIn l d latency) (droppedLive (directionOf d) l) ws ws₁
+  settles = rw (laid, drops) at s
 
-  pub ram-in : (d : Direction) → cardWith d l p ws other .«ram_len» ≡ l .«ram_len»
-  ram-in Output = refl
-  ram-in Input = refl
+  pub own-lines : (len : ℕ) → FitOwn d l ws → len ≡ l .«ram_len» → FitLines (chains.virtqueueOf q) len ws₁ c
+  own-lines len f e =
+      rw (laid, counts, e)
+      (settled-fit (virtqueueIn l d latency) ws ws₁ _ (l .«ram_len») _ (words-relaid (directionOf d) _ _ _ _ ws _ (l .«ram_len») _ (f .1))
+      settles)
 
-none-left : (l : List ℕ) → length l ≡ 0 → l ≡ []
-none-left [] e = refl
-none-left (x ∷ l) e = absurd (omega arith)
+  pub runs-by : (line : ℕ) (job : Job) (m host ws′ m′ host′ : List ℕ) (r : Progress)
+      → Ran (chains.virtqueueOf q) line job ws₁ m host c ws′ m′ host′ r
+      → RunsOn d latency line job l ws m host ws′ m′ host′ r
+  runs-by line job m host ws′ m′ host′ r t =
+      let v = virtqueueIn l d latency in
+      let u : Ran v line job ws₁ m host (countersLive (directionOf d) l) ws′ m′ host′ r = rw (laid, counts) at t in
+      record {
+        run = u .run ∙ ap (λ (x : Queue). ranOf job v line x m host) (settled-queue v ws ws₁ _ _ settles);
+        fit = u .fit;
+        inside = u .inside;
+        long = u .long;
+        host-long = u .host-long;
+        read = u .read;
+      }
 
--- a Release with an empty host buffer empties the queue
-pub lent-emptied : (d : Direction) (latency : ℕ) (l : Live) (ws m ws′ m′ host host′ : List ℕ) (g : Flow)
-    → FlowsOn d latency Release l ws m host ws′ m′ host′ g → host ≡ [] → length m ≡ l .«ram_len» → length ws′ ≡ 68
-    → EmptiesOn d latency l ws m ws′ m′ (record { stop = g .stop; signal = g .signal; live = flowLive d g l })
-lent-emptied d latency l ws m ws′ m′ host host′ g s none long room p other f =
-    let c = cardWith d l p ws other in
-    let fit = with-fit l p ws other d f in
-    let left = none-left host′ (s .host-long ∙ rw none) in
-    let t = flows-in l p ws other d latency Release m [] ws′ m′ [] g (rw (none, left) at s) in
-    let at = long ∙ sym (ram-in l p ws other d) in (
-      rw (← (flowed-in g ws′ l p ws other d)) (empties c d latency m fit ws′ m′ g t),
-      flow-fits l p ws other d g ws′ f (empties-fit c d latency m fit ws′ m′ g t at room),
-    )
+-- ---- in every card with this small state and these words
+
+-- a job changes its queue alone
+kept : (d : Direction) (r : Progress) (l : Live) (p : Parts) (ws ws′ other : List ℕ) → let c = cardWith d l p ws other in
+    let n = cardWith d (progressLive d r l) p ws′ other in
+    (n .«ram_len» ≡ c .«ram_len») × (n .registers ≡ c .registers) × (n .parts ≡ c .parts)
+kept Output r l p ws ws′ other = (refl, refl, refl)
+kept Input r l p ws ws′ other = (refl, refl, refl)
+
+module _ (d : Direction) (line latency : ℕ) (l : Live) (ws m host ws′ m′ host′ : List ℕ) (r : Progress)
+    (s : RunsOn d latency line Release l ws m host ws′ m′ host′ r) (long : length m ≡ l .«ram_len») where
+  -- the rules' run
+  abbrev ended : Run Queue
+  ended =
+      let v = virtqueueIn l d latency in
+      emptied (card v) v line (queueWith v (droppedLive (directionOf d) l) ws (countersLive (directionOf d) l)) m
+
+  -- what the job leaves of it
+  left : (queueIn (virtqueueIn l d latency) ws′ (r .counters) ≡ ended .queue) × (m′ ≡ ended .mem) × (r .stop ≡ ended .stop)
+      × (r .signal ≡ ended .signal)
+  unfolding runWith queueIn
+  left = (
+    ap (λ (x : Run Queue). x .queue) (s .run),
+    ap (λ (x : Run Queue). x .mem) (s .run),
+    ap (λ (x : Run Queue). x .stop) (s .run),
+    ap (λ (x : Run Queue). x .signal) (s .run),
+  )
+
+  module _ (p : Parts) (other : List ℕ) (f : FitsWith d l p ws other) where
+    emptied-in : emptiedIn (directionOf d) line latency (cardWith d l p ws other) m ≡ ended
+    emptied-in =
+        let b = board-with l p ws other d f in
+        let v = virtqueueIn l d latency in
+        ap (λ (x : Virtqueue). emptied (card x) x line (rules.queueFor (directionOf d) (deviceOf (cardWith d l p ws other))) m)
+        (virtqueue-in l p ws other b latency d)
+        ∙ ap (λ (x : Queue). emptied (card v) v line x m) (queue-in l p ws other b latency d)
+
+    queue-after : rules.queueFor (directionOf d) (deviceOf (cardWith d (progressLive d r l) p ws′ other))
+        ≡ queueIn (virtqueueIn l d latency) ws′ (r .counters)
+    queue-after =
+        ap (rules.queueFor (directionOf d)) (progressed l p ws other (board-with l p ws other d f) latency r ws′ d)
+        ∙ queue-for-with (directionOf d) _ _ _
+
+    empties : Empties (directionOf d) line latency (cardWith d l p ws other) m m′ (r .stop) (r .signal)
+        (cardWith d (progressLive d r l) p ws′ other)
+    empties =
+        let k = kept d r l p ws ws′ other in
+        record {
+          queue = ap (λ (x : Run Queue). x .queue) emptied-in ∙ sym (left .0) ∙ sym queue-after;
+          memory = ap (λ (x : Run Queue). x .mem) emptied-in ∙ sym (left .1);
+          stops = ap (λ (x : Run Queue). x .stop) emptied-in ∙ sym (left .2);
+          signals = ap (λ (x : Run Queue). x .signal) emptied-in ∙ sym (left .3);
+          device =
+              progressed l p ws other (board-with l p ws other d f) latency r ws′ d
+              ∙ ap (λ x. rules.withQueue (directionOf d) (restOf (cardWith d l p ws other)) x (deviceOf (cardWith d l p ws other)))
+              (sym queue-after);
+          ram = k .0;
+          registers = k .1;
+          parts = k .2;
+          long = s .long;
+        }
+
+  -- a Release empties the line
+  pub lent-emptied : EmptiesOn d line latency l ws m ws′ m′ (record { stop = r .stop; signal = r .signal; live = progressLive d r l })
+  lent-emptied p other f =
+      (empties p other f, progressed-fits l p ws other latency r ws′ d f (rw long at (s .fit)))

@@ -1,8 +1,7 @@
--- Laws of a stream's queue in the card, and of its emptying.
+-- Laws of a stream queue in the card, of a job on it, and of the emptying of a line.
 pub mod Laws
 pub mod Fits
-pub mod Found
-pub mod Outcomes
-pub mod Released
+pub mod Settled
 pub mod Lent
+pub mod Released
 pub mod Held

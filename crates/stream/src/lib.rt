@@ -1,23 +1,29 @@
-// A stream's queue in the small state of the card: where the guest laid it out, its counters and message in
-// work, the state with another one, and its emptying by a RELEASE (01, "Control messages"). The words of its
-// chain are lent beside the state.
+// A stream queue in the small state of the card: where the guest laid it out, its streams and its counters, a
+// job on one of its lines, and the emptying of a line by a RELEASE (01, "Control messages"). The words of the
+// queue, in which its lines stand, are lent beside the state.
 ghost use mathlib.Core.Path.{_≡_};
+ghost use Prim.Native.Nat.{_*_, _≤_, _<_};
 ghost use lib.ListN.{length};
-ghost use Rattle.card.specs.Card.{noMessage};
 ghost use Rattle.live.specs.Live.{FitLive};
 ghost use Rattle.device.specs.Answers.{brokenBy};
+ghost use Rattle.message.specs.Message.{directionOf};
 ghost use Rattle.registers.specs.Fit.{FitRegisters};
 ghost use Rattle.device.specs.Device.{signalledIf};
-ghost use Rattle.stream.specs.Queue.{laidOut, messageIn, countersLive, Remembers, flowLive, FitOwn, FlowsOn, EmptiesOn};
+ghost use Rattle.queue_lines.specs.Chains.{queueSize};
+ghost use Rattle.line_chains.specs.Queue.{virtqueueOf};
+ghost use Rattle.line_words.specs.Slots.{slotWords};
+ghost use Rattle.line_calls.specs.Streams.{countOf};
+ghost use Rattle.meaning.specs.Fit.{streamsLive, droppedLive, countersLive};
+ghost use Rattle.stream.specs.Queue.{laidOut, lineQueueIn, Settles, RunsOn, progressLive, FitOwn, Remembers, EmptiesOn};
 use card::Counters;
-use card::Message;
+use line_chains::LineQueue;
+pub use line_queue::Job;
+pub use line_queue::Progress;
 use live::Live;
 use message::Direction;
 use message::Virtqueue;
 use registers::Registers;
 use ring::Stop;
-use transfer::Flow;
-use transfer::Job;
 
 // The queues of the streams, as places in the card's arrays.
 const PLAY: usize = registers::PLAY_QUEUE as usize;
@@ -68,8 +74,8 @@ pub fn backlog(live: Live, id: u32) -> u32
     backlogs[i]
 }
 
-// The queue of a stream as the guest laid it out, in a call whose statuses carry this latency.
-pub fn virtqueue(registers: Registers, direction: Direction, latency: u32) -> Virtqueue
+// The queue of a direction as the guest laid it out, in a call whose statuses carry this latency.
+fn virtqueue(registers: Registers, direction: Direction, latency: u32) -> Virtqueue
     requires { ⌜ FitRegisters registers ⌝ }
     ensures { λ r. ⌜ r ≡ laidOut registers direction latency ⌝ }
 {
@@ -87,10 +93,31 @@ pub fn virtqueue(registers: Registers, direction: Direction, latency: u32) -> Vi
     }
 }
 
-// The counters of a stream's queue.
+// .. with its streams: the outputs first, the inputs behind them.
+fn queue_of(live: Live, direction: Direction, latency: u32) -> LineQueue
+    requires { ⌜ FitLive live ⌝ }
+    ensures { λ r. ⌜ r ≡ lineQueueIn live direction latency ⌝ }
+{
+    let registers = live.registers;
+    let queue = virtqueue(registers, direction, latency);
+    match direction {
+        Direction::Output => LineQueue {
+            queue: queue,
+            first: 0,
+            streams: live.outputs as u32,
+        },
+        Direction::Input => LineQueue {
+            queue: queue,
+            first: live.outputs as u32,
+            streams: live.inputs as u32,
+        },
+    }
+}
+
+// The counters of the queue of a direction.
 fn counters_of(live: Live, direction: Direction) -> Counters
     requires { ⌜ FitLive live ⌝ }
-    ensures { λ r. ⌜ r ≡ countersLive live direction ⌝ }
+    ensures { λ r. ⌜ r ≡ countersLive (directionOf direction) live ⌝ }
 {
     let queues = live.queues;
     match direction {
@@ -99,50 +126,27 @@ fn counters_of(live: Live, direction: Direction) -> Counters
     }
 }
 
-// The message in work of a stream's queue.
-fn message_of(live: Live, direction: Direction) -> Message
-    ensures { λ r. ⌜ r ≡ messageIn live direction ⌝ }
+// Whether the lines of the queue of a direction were dropped.
+fn is_dropped(live: Live, direction: Direction) -> bool
+    ensures { λ r. ⌜ r ≡ droppedLive (directionOf direction) live ⌝ }
 {
     match direction {
-        Direction::Output => live.play,
-        Direction::Input => live.capture,
+        Direction::Output => live.play_dropped,
+        Direction::Input => live.capture_dropped,
     }
 }
 
-// The message that a flow left. Where there is none, one without anything is written anew: nothing then waits for the flow's.
-fn left_of(message: Message) -> Message
-    requires { ⌜ (message .count ≡ 0 → message ≡ noMessage) ⌝ }
-    ensures { λ r. ⌜ r ≡ message ⌝ }
+// The words of a queue as its lines: where these were dropped, every line is empty.
+fn settle(words: &mut [u64], q: LineQueue, dropped: bool)
+    requires { ⌜ slotWords (queueSize (virtqueueOf q)) * q .streams ≤ length (now words) ⌝ }
+    ensures { λ r. ⌜ Settles (virtqueueOf q) dropped (now (words .entry)) (now (words .exit)) ⌝ }
 {
-    if message.count == 0 {
-        return card::no_message();
-    }
-    message
-}
-
-// The small state with the counters and the message that a flow left of a stream's queue.
-pub fn with_flow(live: Live, direction: Direction, f: Flow) -> Live
-    requires { ⌜ (f .message .count ≡ 0 → f .message ≡ noMessage) ⌝ }
-    ensures { λ r. ⌜ r ≡ flowLive direction f live ⌝ }
-{
-    let mut next = live;
-    let counters = f.counters;
-    let message = left_of(f.message);
-    match direction {
-        Direction::Output => {
-            next.queues[PLAY] = counters;
-            next.play = message;
-            next
-        }
-        Direction::Input => {
-            next.queues[CAPTURE] = counters;
-            next.capture = message;
-            next
-        }
+    if dropped {
+        line_words::clear(words, q);
     }
 }
 
-// A job on a stream's queue, with statuses of this latency.
+// A job on a line of the queue of a direction, with statuses of this latency.
 pub fn run(
     live: Live,
     words: &mut [u64],
@@ -150,37 +154,69 @@ pub fn run(
     host: &mut [u8],
     direction: Direction,
     latency: u32,
+    line: u32,
     job: Job,
-) -> Flow
-    requires { ⌜ FitOwn direction live (now words) × (length (now m) ≡ live .«ram_len») ⌝ }
-    ensures { λ r. ⌜ FlowsOn direction latency job live (now (words .entry)) (now (m .entry)) (now (host .entry))
+) -> Progress
+    requires { ⌜ FitOwn direction live (now words) × (length (now m) ≡ live .«ram_len»)
+        × (line < countOf (streamsLive live) (directionOf direction)) ⌝ }
+    ensures { λ r. ⌜ RunsOn direction latency line job live (now (words .entry)) (now (m .entry)) (now (host .entry))
         (now (words .exit)) (now (m .exit)) (now (host .exit)) r ⌝ }
 {
-    let registers = live.registers;
-    let q = virtqueue(registers, direction, latency);
+    let q = queue_of(live, direction, latency);
     let counters = counters_of(live, direction);
-    let message = message_of(live, direction);
-    transfer::run(m, words, host, q, counters, message, job)
+    settle(words, q, is_dropped(live, direction));
+    line_queue::run(m, words, host, q, counters, line, job)
 }
 
-// A RELEASE of a stream, past its checks: its queue is checked, its message in work completed, then
-// all entries there, with statuses of this latency. The interrupt is the caller's to set.
+// The small state after a job on the queue of a direction: its counters, and its lines stand in its words.
+pub fn with_progress(live: Live, direction: Direction, p: Progress) -> Live
+    ensures { λ r. ⌜ r ≡ progressLive direction p live ⌝ }
+{
+    let mut next = live;
+    let counters = p.counters;
+    match direction {
+        Direction::Output => {
+            next.queues[PLAY] = counters;
+            next.play_dropped = false;
+            next
+        }
+        Direction::Input => {
+            next.queues[CAPTURE] = counters;
+            next.capture_dropped = false;
+            next
+        }
+    }
+}
+
+// A RELEASE of the stream of this line, past its checks: the queue is checked, all entries are taken, and the
+// line is ended, with statuses of this latency. The interrupt is the caller's to set.
 pub fn empty(
     live: Live,
     words: &mut [u64],
     m: &mut [u8],
     direction: Direction,
     latency: u32,
+    line: u32,
 ) -> Emptied
-    requires { ⌜ FitOwn direction live (now words) × (length (now m) ≡ live .«ram_len») ⌝ }
-    ensures { λ r. ⌜ EmptiesOn direction latency live (now (words .entry)) (now (m .entry)) (now (words .exit)) (now (m .exit)) r ⌝ }
+    requires { ⌜ FitOwn direction live (now words) × (length (now m) ≡ live .«ram_len»)
+        × (line < countOf (streamsLive live) (directionOf direction)) ⌝ }
+    ensures { λ r. ⌜ EmptiesOn direction line latency live (now (words .entry)) (now (m .entry)) (now (words .exit)) (now (m .exit)) r ⌝ }
 {
     let mut host = [0u8; 0];
-    let f = run(live, words, m, &mut host, direction, latency, Job::Release);
-    let stop = f.stop;
+    let p = run(
+        live,
+        words,
+        m,
+        &mut host,
+        direction,
+        latency,
+        line,
+        Job::Release,
+    );
+    let stop = p.stop;
     Emptied {
         stop: stop,
-        signal: f.signal,
-        live: with_flow(live, direction, f),
+        signal: p.signal,
+        live: with_progress(live, direction, p),
     }
 }

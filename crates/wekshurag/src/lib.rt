@@ -3,8 +3,8 @@
 // copies the struct out of its borrow, calls the entry of the card that it is named after, and stores the
 // next; its contract is that entry's, whole.
 ghost use mathlib.Core.Path.{_≡_};
-ghost use Rattle.event.specs.Event.{FitAside};
-ghost use Rattle.live.specs.Live.{readLive, writeLive, poweredBoard, FitLive, Fits, Ready};
+ghost use Rattle.live.specs.Live.{readLive, writeLive, poweredBoard, FitLive, FitBoard};
+ghost use Rattle.meaning.specs.Fit.{Fits, Ready};
 ghost use Rattle.message.specs.declared.Direction.{Direction};
 ghost use Rattle.entries.specs.Entries.{ControlsOn, EventsOn};
 ghost use Rattle.pcm.specs.Entry.{TransfersOn};
@@ -38,7 +38,7 @@ pub struct CallResult {
     pub count: usize,
 }
 
-// Power-up: the card with `ram_len` bytes of memory; beside answer 10, one with no part. The words of its chains
+// Power-up: the card with `ram_len` bytes of memory; beside answer 10, one with no part. The words of its queues
 // may hold anything.
 #[no_mangle]
 pub extern "C" fn wekshurag_card_power_up(
@@ -124,21 +124,23 @@ pub extern "C" fn wekshurag_card_control(
     }
 }
 
-// The play call: payload of the play queue handed to the host buffer. The backlog is the host's, in bytes.
+// The play call: payload of a stream of the play queue handed to the host buffer. The backlog is the host's, in bytes.
 #[no_mangle]
 pub extern "C" fn wekshurag_card_play(
     live: &mut Live,
     words: &mut [u64],
     ram: &mut [u8],
     host: &mut [u8],
+    stream: u32,
     backlog: u32,
 ) -> CallResult
     requires { ⌜ FitOwn Direction.Output (now live) (now words) ⌝ }
-    ensures { λ r. ⌜ TransfersOn Direction.Output backlog (now (live .entry)) (now (words .entry)) (now (ram .entry)) (now (host .entry))
+    ensures { λ r. ⌜ TransfersOn Direction.Output stream backlog (now (live .entry))
+        (now (words .entry)) (now (ram .entry)) (now (host .entry))
         (now (words .exit)) (now (ram .exit)) (now (host .exit)) (told r (now (live .exit))) ⌝ }
 {
     let before = *live;
-    let after = entries::play(before, words, ram, host, backlog);
+    let after = entries::play(before, words, ram, host, stream, backlog);
     *live = after.live;
     CallResult {
         answer: after.answer,
@@ -147,21 +149,23 @@ pub extern "C" fn wekshurag_card_play(
     }
 }
 
-// The capture call: host bytes recorded into the payload of the capture queue. They are only read.
+// The capture call: host bytes recorded into the payload of a stream of the capture queue. They are only read.
 #[no_mangle]
 pub extern "C" fn wekshurag_card_capture(
     live: &mut Live,
     words: &mut [u64],
     ram: &mut [u8],
     host: &mut [u8],
+    stream: u32,
     backlog: u32,
 ) -> CallResult
     requires { ⌜ FitOwn Direction.Input (now live) (now words) ⌝ }
-    ensures { λ r. ⌜ TransfersOn Direction.Input backlog (now (live .entry)) (now (words .entry)) (now (ram .entry)) (now (host .entry))
+    ensures { λ r. ⌜ TransfersOn Direction.Input stream backlog (now (live .entry))
+        (now (words .entry)) (now (ram .entry)) (now (host .entry))
         (now (words .exit)) (now (ram .exit)) (now (host .exit)) (told r (now (live .exit))) × (now (host .exit) ≡ now (host .entry)) ⌝ }
 {
     let before = *live;
-    let after = entries::capture(before, words, ram, host, backlog);
+    let after = entries::capture(before, words, ram, host, stream, backlog);
     *live = after.live;
     CallResult {
         answer: after.answer,
@@ -178,7 +182,7 @@ pub extern "C" fn wekshurag_card_event(
     code: u32,
     data: u32,
 ) -> CallResult
-    requires { ⌜ FitAside (now board .live) (now board .parts) ⌝ }
+    requires { ⌜ FitBoard (now board .live) (now board .parts) ⌝ }
     ensures { λ r. ⌜ EventsOn (now (board .entry)) code «data» (now (ram .entry)) (now (ram .exit)) (toldBoard r (now (board .exit))) ⌝ }
 {
     let before = *board;

@@ -1,6 +1,7 @@
--- The description is lawful, so power-up makes the card.
+-- The description is lawful, so power-up makes its board.
 use borrow.Author.Needs.{needs}
 use Rattle.card.specs.Rules.{poweredOf}
+use Rattle.live.specs.Live.{poweredBoard}
 use Rattle.access_run.proofs.Laws.{panel-lawful}
 use Rattle.access_run.proofs.first_session.Statement.{statement}
 use Rattle.access_run.proofs.first_session.Tie as tie
@@ -15,10 +16,10 @@ empty-requires : tie.Need-empty-requires
 empty-requires c κs = search needs
 
 returns : tie.Need-returns
-unfolding poweredOf
+unfolding poweredBoard poweredOf
 returns c =
-    let p = c .before .before .power-up .ensures in
-    (rw (c .empty .ensures, p .0, c .before .before .before .description .ensures, panel-lawful), p .1)
+    let p = c .before .before .before .power-up .ensures in
+    (rw (c .empty .ensures, p .0, c .before .before .before .before .description .ensures, panel-lawful), p .1 .live)
 
 pub first-session-spec : {M : Type 1} → statement M
 first-session-spec =

@@ -1,14 +1,14 @@
--- The session's card stays fit, and the buffers keep their lengths; the measure is how many blocks are left.
+-- The session's small state stays fit, and the buffers keep their lengths; the measure is how many blocks are left.
 use mathlib.Core.Path.{_≡_, sym, _∙_}
 use native.Mathlib.Omega.{arith}
 use lib.ListN.{length}
 use lib.Seq.{length-take-le}
-use Rattle.card.specs.Fit.{Fit}
+use Rattle.live.specs.Live.{FitLive}
 use Rattle.access_run.proofs.run.Statement.{statement}
 use Rattle.access_run.proofs.run.Tie as tie
 
 abbrev Inv-loop : tie.InvT-loop
-Inv-loop session₀ block₀ out₀ left₀ session block out left = Fit (session .card) × (4096 ≡ length block) × (262144 ≡ length out)
+Inv-loop session₀ block₀ out₀ left₀ session block out left = FitLive (session .live) × (4096 ≡ length block) × (262144 ≡ length out)
 
 abbrev μ-loop : tie.MeasureT-loop
 μ-loop session₀ block₀ out₀ left₀ session block out left = left

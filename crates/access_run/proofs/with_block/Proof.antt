@@ -5,8 +5,8 @@ use mathlib.Core.List.{List, foldl}
 use Prim.Native.Nat.{ℕ, _-_, _*_, _≤_, _<_}
 use native.Mathlib.Omega.{arith}
 use lib.ListN.{length, drop}
-use Rattle.card.specs.Fit.{Fit}
 use Rattle.decimal.proofs.Writing.{Rest, rest-first, rest-more, rest-none}
+use Rattle.live.specs.Live.{FitLive}
 use Rattle.access_run.specs.Session.{fed, blockText}
 use Rattle.access_run.specs.declared.Session.{Session}
 use Rattle.decimal.proofs.Folds.{fold-more, fold-end}
@@ -18,7 +18,7 @@ record Going (bytes out₀ : List ℕ) (first : Session) (out : List ℕ) (now :
   inside : i ≤ length bytes
   long : length out ≡ length out₀
   room : end ≤ 63 * i
-  fit : Fit (now .card)
+  fit : FitLive (now .live)
   session : foldl fed now (drop i bytes) ≡ foldl fed first bytes
   text : Rest (blockText first bytes) out₀ 0 out end (blockText now (drop i bytes))
 

@@ -9,8 +9,8 @@ use Rattle.calls.proofs.call.Tie as tie
 enum-known-request : tie.Need-enum-known-request
 enum-known-request c = search needs
 
-read-register-requires : tie.Need-read-register-requires
-read-register-requires c κs = search needs
+read-requires : tie.Need-read-requires
+read-requires c κs = search needs
 
 plain-requires : tie.Need-plain-requires
 plain-requires c κs = search needs
@@ -18,8 +18,8 @@ plain-requires c κs = search needs
 enum-known-request-2 : tie.Need-enum-known-request-2
 enum-known-request-2 c = search needs
 
-write-register-requires : tie.Need-write-register-requires
-write-register-requires c κs = search needs
+write-requires : tie.Need-write-requires
+write-requires c κs = search needs
 
 plain-requires-2 : tie.Need-plain-requires-2
 plain-requires-2 c κs = search needs
@@ -66,10 +66,8 @@ returns c =
     let s = r .before .before .before .before .before .before in
     let a = s .args in
     rw (c .plain .ensures, r .before .before .request .given .1) (
-      record {
-        says = rw (r .read-register .ensures .0) (read-step (a .card) (s .pre) _ _ (a .m .now));
-        fit = r .read-register .ensures .1;
-      },
+      record { says = rw (r .read .ensures .0) (read-step (a .card) (s .pre .parts) _ _ (a .m .now)) },
+      r .read .ensures .1,
       refl,
     )
 
@@ -79,10 +77,8 @@ returns-2 c =
     let s = w .before .before .before .before .before .before in
     let a = s .args in
     rw (c .plain2 .ensures, w .before .before .request2 .given .1) (
-      record {
-        says = rw (w .write-register .ensures .0) (write-step (a .card) (s .pre) _ _ _ (a .m .now));
-        fit = w .write-register .ensures .1;
-      },
+      record { says = rw (w .write .ensures .0) (write-step (a .card) (s .pre .fits .board .live .four) _ _ _ (a .m .now)) },
+      w .write .ensures .1,
       refl,
     )
 
@@ -93,7 +89,7 @@ returns-3 : tie.Need-returns-3
 returns-3 c =
     let e = c .before .before .before .control in
     let o : c .queue-outcome .result ≡ queueOutcome (e .result .answer) (e .result .count) (e .result .card) = c .queue-outcome .ensures in
-    rw (c .before .before .before .before .before .enum-told .given .1, o) (record { says = e .ensures .0; fit = e .ensures .1 }, refl)
+    rw (c .before .before .before .before .before .enum-told .given .1, o) (record { says = e .ensures .0 }, e .ensures .1, refl)
 
 same-length-2 : tie.Need-same-length-2
 same-length-2 c = search needs
@@ -107,7 +103,7 @@ returns-4 c =
     let e = p .play in
     let q = c .queue-outcome2 in
     let o : q .result ≡ queueOutcome (e .result .answer) (e .result .count) (e .result .card) = q .ensures in
-    rw (p .before .before .before .before .request3 .given .1, o) (record { says = e .ensures .0; fit = e .ensures .1 }, refl)
+    rw (p .before .before .before .before .request3 .given .1, o) (record { says = e .ensures .0 }, e .ensures .1, refl)
 
 same-length-4 : tie.Need-same-length-4
 same-length-4 c = search needs
@@ -121,7 +117,7 @@ returns-5 c =
     let e = p .capture in
     let q = c .queue-outcome3 in
     let o : q .result ≡ queueOutcome (e .result .answer) (e .result .count) (e .result .card) = q .ensures in
-    rw (p .before .before .before .before .request4 .given .1, o) (record { says = e .ensures .0; fit = e .ensures .1 }, e .ensures .2)
+    rw (p .before .before .before .before .request4 .given .1, o) (record { says = e .ensures .0 }, e .ensures .1, e .ensures .2)
 
 same-length-6 : tie.Need-same-length-6
 same-length-6 c = search needs
@@ -132,17 +128,17 @@ returns-6 c =
     let e = p .event in
     let q = c .queue-outcome4 in
     let o : q .result ≡ queueOutcome (e .result .answer) (e .result .count) (e .result .card) = q .ensures in
-    rw (p .before .before .before .request5 .given .1, o) (record { says = e .ensures .0; fit = e .ensures .1 }, refl)
+    rw (p .before .before .before .request5 .given .1, o) (record { says = e .ensures .0 }, e .ensures .1, refl)
 
 pub call-spec : {M : Type 1} → statement M
 call-spec =
     tie.close
     (tie.spec
     enum-known-request
-    read-register-requires
+    read-requires
     plain-requires
     enum-known-request-2
-    write-register-requires
+    write-requires
     plain-requires-2
     enum-told
     control-requires

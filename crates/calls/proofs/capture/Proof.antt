@@ -38,8 +38,8 @@ returns c =
     let s = lent p .before .before .before .before in
     let a = s .args in
     let e =
-    capture-whole (a .card) (s .pre) _ (lent p .of-card .ensures) (a .backlog) (a .m .now) (a .host .now) _ _ _ (p .capture .result)
-    (p .capture .ensures .0) in
+    capture-whole (a .card) (s .pre) _ (lent p .of-card .ensures) (a .stream) (a .backlog) (a .m .now) (a .host .now) _ _ _
+    (p .capture .result) (p .capture .kept .1 .0) (p .capture .ensures .0) in
     rw (c .joined .ensures) (e .0, e .1, p .capture .ensures .1)
 
 pub capture-spec : {M : Type 1} → statement M

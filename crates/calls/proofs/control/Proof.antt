@@ -1,5 +1,4 @@
 -- All pieces are lent; the card is put together again.
-use Rattle.live.proofs.Laws.{whole-fits}
 use Rattle.calls.proofs.Whole.{control-whole}
 use borrow.Author.Needs.{needs}
 use Rattle.calls.proofs.control.Statement.{statement}
@@ -18,7 +17,7 @@ control-requires : tie.Need-control-requires
 control-requires c κs =
     let at = c .before .before .before in
     let s = at .before .before .before .before .before in
-    rw (at .of-card .ensures) (whole-fits (s .args .card) (s .pre))
+    rw (at .of-card .ensures) (s .pre .fits)
 
 joined-requires : tie.Need-joined-requires
 joined-requires c κs = search needs
@@ -40,7 +39,8 @@ returns c =
     let a = s .args in
     rw (c .joined .ensures)
     (control-whole (a .card) (s .pre) _ (lent p .of-card .ensures) (a .m .now) _ _ _ (p .control .result .live)
-    (p .control .result .parts) _ _ (p .control .ensures))
+    (p .control .result .parts) _ _ (p .control .kept .1 .1 .0)
+    (p .control .kept .1 .1 .1 .0) (p .control .ensures))
 
 pub control-spec : {M : Type 1} → statement M
 control-spec =

@@ -1,5 +1,5 @@
 -- The small state and the parts are passed; the card is put together again.
-use Rattle.calls.proofs.Whole.{aside, event-whole}
+use Rattle.calls.proofs.Whole.{event-whole}
 use borrow.Author.Needs.{needs}
 use Rattle.calls.proofs.event.Statement.{statement}
 use Rattle.calls.proofs.event.Tie as tie
@@ -11,7 +11,7 @@ event-requires : tie.Need-event-requires
 event-requires c κs =
     let at = c .before in
     let s = at .before .before .before in
-    rw (at .of-card .ensures) (aside (s .args .card) (s .pre))
+    rw (at .of-card .ensures) (s .pre .fits .board)
 
 joined-requires : tie.Need-joined-requires
 joined-requires c κs = search needs

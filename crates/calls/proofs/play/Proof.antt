@@ -38,8 +38,8 @@ returns c =
     let s = lent p .before .before .before .before in
     let a = s .args in
     rw (c .joined .ensures)
-    (play-whole (a .card) (s .pre) _ (lent p .of-card .ensures) (a .backlog) (a .m .now) (a .host .now) _ _ _ (p .play .result)
-    (p .play .ensures))
+    (play-whole (a .card) (s .pre) _ (lent p .of-card .ensures) (a .stream) (a .backlog) (a .m .now) (a .host .now) _ _ _
+    (p .play .result) (p .play .kept .1 .0) (p .play .ensures))
 
 pub play-spec : {M : Type 1} → statement M
 play-spec =

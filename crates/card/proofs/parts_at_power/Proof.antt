@@ -9,7 +9,7 @@ use Rattle.card.proofs.parts_at_power.Tie as tie
 
 -- from behind the last call to the start
 abbrev start : tie.After-streams-at-power → tie.Start
-start c = c .before .before .before .before .before .before .before .before .before
+start c = c .before .before .before .before .before .before .before .before .before .before
 
 cast-t5 : tie.Need-cast-t5
 cast-t5 c = search needs
@@ -26,6 +26,9 @@ cast-t8 c = search needs
 add-t9 : tie.Need-add-t9
 add-t9 c = search needs
 
+cast-t10 : tie.Need-cast-t10
+cast-t10 c = search needs
+
 jacks-at-power-requires : tie.Need-jacks-at-power-requires
 jacks-at-power-requires c κs = search needs
 
@@ -39,9 +42,9 @@ returns c =
     let from-jacks = s .good .0 .1 .1 .1 .1 .1 .1 in
     let four-jacks : length (d .jacks) ≡ 4 = sym (length-map (d .jacks) _) ∙ from-jacks .0 .1 .0 .1 in
     let four-maps : length (d .maps) ≡ 4 = sym (length-map (d .maps) _) ∙ from-jacks .1 .0 .1 .0 .1 in
-    let two-streams : length (d .streams) ≡ 2 = sym (length-map (d .streams) _) ∙ from-jacks .1 .1 .0 .1 .0 .1 in
+    let six-streams : length (d .streams) ≡ 6 = sym (length-map (d .streams) _) ∙ from-jacks .1 .1 .0 .1 .0 .1 in
     rw (c .streams-at-power .ensures, c .before .jacks-at-power .ensures)
-    (refl, parts-at-power-fit d (s .pre) four-jacks four-maps two-streams)
+    (refl, parts-at-power-fit d (s .pre) four-jacks four-maps six-streams)
 
 pub parts-at-power-spec : {M : Type 1} → statement M
 parts-at-power-spec =
@@ -52,6 +55,7 @@ parts-at-power-spec =
     cast-t7
     cast-t8
     add-t9
+    cast-t10
     jacks-at-power-requires
     streams-at-power-requires
     returns)

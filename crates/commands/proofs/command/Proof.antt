@@ -36,7 +36,7 @@ inside c =
     let there : word (a .request .now) 1 < a .t3 .«stream_count» = ltb-true _ _ (found c .0) in
     omega (arith, found c .1, there)
 
-few : (c : tie.After-known-told) → c .before .i .given .0 .0 < 2
+few : (c : tie.After-known-told) → c .before .i .given .0 .0 < 6
 few c = omega (arith, inside c, start c .pre .streams)
 
 -- where it is led is where the one asked for is

@@ -1,6 +1,6 @@
 -- The stream keeps all but its state. `t2` is the parameter `parts`.
 use mathlib.Core.Path.{_∙_}
-use Rattle.meaning.proofs.Streams.{stream-at}
+use Rattle.rules.proofs.Parts.{stream-at}
 use Rattle.reply.proofs.Laws.{serves-stream}
 use borrow.Author.Needs.{needs}
 use Rattle.commands.proofs.move_stream.Statement.{statement}

@@ -71,7 +71,7 @@ returns-4 c =
 returns-5 : tie.Need-returns-5
 returns-5 c =
     let start = c .before .before .before .before .before in
-    rw (c .enum-told5 .given .1) (record { whole = refl; stand = omega arith; fit = start .pre .0 })
+    rw (c .enum-told5 .given .1) (record { whole = refl; stand = start .pre .1; fit = start .pre .0 })
 
 cast-t18 : tie.Need-cast-t18
 cast-t18 c = omega arith

@@ -6,7 +6,7 @@ use lib.ListN.{getD}
 use Rattle.card.specs.Card.{noStream}
 use Rattle.rules.specs.Control.{bufferOffered, featuresOffered, channelsOffered, formatOffered, rateOffered, framed}
 use Rattle.description.specs.declared.StreamInfo.{StreamInfo}
-use Rattle.meaning.proofs.Streams.{stream-at}
+use Rattle.rules.proofs.Parts.{stream-at}
 use Rattle.reply.proofs.Laws.{serves-same, serves-stream}
 use Rattle.requests.proofs.Laws.{check-passed, check-failed}
 use borrow.Author.Needs.{needs}

@@ -9,7 +9,8 @@ use lib.ListN.{length, take}
 use lib.Seq.{sets}
 use Rattle.memory.specs.Bytes.{le}
 use Rattle.ranges.specs.Ranges.{rangesOf, places, bytesAt}
-use Rattle.rules.specs.Control.{served, decodedOf, layoutOf, word}
+use Rattle.line_calls.specs.Calls.{served}
+use Rattle.rules.specs.Control.{decodedOf, layoutOf, word}
 use Rattle.rules.specs.declared.Decoded.the-variants.{Known, Unknown}
 use Rattle.requests.proofs.Laws.{check-passed, check-failed}
 use Rattle.control.proofs.Laws.{words-agree, answers-agree, length-request, reads-as}
@@ -76,7 +77,7 @@ same-length-2 c = search needs
 
 returns : tie.Need-returns
 unfolding served
-returns c p room =
+returns c n p room =
     let o = c .before .before in
     let t = o .before .before in
     let d = t .before .before in
@@ -104,7 +105,7 @@ same-length-4 c = search needs
 
 returns-2 : tie.Need-returns-2
 unfolding served
-returns-2 c p room =
+returns-2 c n p room =
     let o = c .before .before in
     let t = o .before .before in
     let i = t .before .before in
@@ -134,7 +135,7 @@ returns-3 c =
     let long : leb (layoutOf asked) (length (whole a)) ≡ true = rw (length-request (a .args .m .now) _ (a .args .request) (a .pre .0))
     (check-passed _ (sym (i .is-laid-out .ensures) ∙ c .before .enum-told2 .given .1)) in
     rw (c .read-as .ensures)
-    (reads-as _ _ _ _ _ asked (λ p room. rw (known k, long, answers-agree p _ (whole a) (agree (decoded k .before)) asked room)))
+    (reads-as _ _ _ _ _ asked (λ n p room. rw (known k, long, answers-agree p _ (whole a) (agree (decoded k .before)) n asked room)))
 
 pub read-spec : {M : Type 1} → statement M
 read-spec =

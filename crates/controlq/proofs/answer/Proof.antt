@@ -9,15 +9,17 @@ use Rattle.control.specs.declared.Change.{Change}
 use Rattle.control.specs.declared.Change.the-variants as change
 use Rattle.control.specs.declared.Reading.{Reading}
 use Rattle.live.specs.Live.{partsNow, cardIn}
-use Rattle.meaning.specs.Card.{partsOf, deviceOf}
+use Rattle.line_calls.specs.Calls as calls
+use Rattle.line_calls.specs.Streams.{Streams, streamsIn, directionNumber}
+use Rattle.queue_lines.specs.Counters.{Queue}
 use Rattle.ranges.specs.Ranges.{rangesOf, places, bytesAt}
 use Rattle.reply.specs.Reply.{completionOf}
 use Rattle.requests.specs.Requests.{Replies}
-use Rattle.rules.specs.Calls.{Step, acted, ordered}
+use Rattle.rules.specs.Calls.{Step, acted}
 use Rattle.rules.specs.Control as rules
-use Rattle.device.specs.Counters.{countersOf}
-use Rattle.device.specs.Device.{Device, Queue}
-use Rattle.controlq.specs.Control.{pendingIn, asksIn, changeStep}
+use Rattle.rules.specs.Parts.{partsOf}
+use Rattle.device.specs.Device.{Device}
+use Rattle.controlq.specs.Control.{pendingIn, asksIn, servedOn, orderedOn, changeStep}
 use Rattle.controlq.proofs.Laws.{replied-ends, reads-told}
 use borrow.Author.Needs.{needs}
 use Rattle.controlq.proofs.answer.Statement.{statement}
@@ -39,7 +41,7 @@ abbrev orderedAs : tie.Start → List ℕ → List ℕ → rules.Served → Step
 orderedAs s pw cw served =
     let a = s .args in
     let c = lent s pw cw in
-    ordered countersOf (acted served (asksIn c (a .list .now) (a .message)) (a .m .now)) (deviceOf c) (a .m .now)
+    orderedOn c (acted served (asksIn c (a .list .now) (a .message)) (a .m .now)) (a .m .now)
 
 -- what the request's reading tells
 told : (c : tie.After-read) (r : Reading) → c .read .result ≡ r → let a = start c .args in
@@ -53,14 +55,15 @@ left : (c : tie.After-read) (asked : Change) (pw cw : List ℕ) →
     let a = s .args in
     let request = bytesAt (a .m .now) (places (rangesOf (a .list .now) (a .request))) in
     let bs = c .read .last .1 .1 .1 .1 .0 in
-    (c .read .last .0 ≡ a .m .now) × ((p : rules.Parts) (room : ℕ) → rules.served p request room ≡ changedBy asked p bs)
-    → (orderedAs s pw cw (rules.served (shown s) request (a .message .reply .bytes))
+    (c .read .last .0 ≡ a .m .now)
+    × ((n : Streams) (p : rules.Parts) (room : ℕ) → calls.served n p request room ≡ changedBy asked p bs)
+    → (orderedAs s pw cw (servedOn (lent s pw cw) (shown s) request (a .message .reply .bytes))
     ≡ changeStep asked (lent s pw cw) (a .list .now) (a .message) bs (c .read .last .0))
     × (length (c .read .last .0) ≡ a .live .«ram_len»)
 left c asked pw cw t =
     let s = start c in
     let a = s .args in (
-      ap (orderedAs s pw cw) (t .1 (shown s) (a .message .reply .bytes))
+      ap (orderedAs s pw cw) (t .1 (streamsIn (a .parts)) (shown s) (a .message .reply .bytes))
           ∙ ap (changeStep asked (lent s pw cw) (a .list .now) (a .message) (c .read .last .1 .1 .1 .1 .0)) (sym (t .0)),
       ap length (t .0) ∙ s .pre .1,
     )
@@ -104,7 +107,7 @@ returns c pw cw f =
     let g = c .before in
     let k = g .before .before .before .before .before .before in
     let a = start k .args in
-    let i = told k _ (g .posted .given .1) (shown (start k)) (a .message .reply .bytes) in
+    let i = told k _ (g .posted .given .1) (streamsIn (a .parts)) (shown (start k)) (a .message .reply .bytes) in
     rw (i .same)
     (replied-ends (a .live) (a .parts) pw cw f (a .message .head) (a .list .now) (a .message .reply) (i .bytes) (a .m .now) _ _
     (i .completes))
@@ -125,10 +128,11 @@ returns-2 c pw cw f =
     let t = told k _ (g .l .given .1) in
     let pending = pendingIn (a .live) (a .message .head) (a .message .reply) in
     let i : Replies (a .list .now) pending (shown (start k))
-    (rules.information (shown (start k)) (g .l .given .0 .0) (k .read .last .1 .1 .1 .1 .0) (a .message .reply .bytes)) (o .inform .result)
+    (rules.informBy (rules.itemsBy (directionNumber (streamsIn (a .parts)))) (shown (start k)) (g .l .given .0 .0)
+    (k .read .last .1 .1 .1 .1 .0) (a .message .reply .bytes)) (o .inform .result)
     (k .read .last .0) (o .inform .last .0) =
     rw (n .parts-now .ensures, k .before .before .before .pending-in .ensures) at (o .inform .ensures) in
-    rw (t .1 (shown (start k)) (a .message .reply .bytes) ∙ i .same)
+    rw (t .1 (streamsIn (a .parts)) (shown (start k)) (a .message .reply .bytes) ∙ i .same)
     (replied-ends (a .live) (a .parts) pw cw f (a .message .head) (a .list .now) (a .message .reply) (i .bytes) (a .m .now) _
     (o .inform .result) (i .completes ∙ ap (completionOf (a .list .now) pending (i .bytes)) (t .0)))
 

@@ -1,10 +1,13 @@
 -- The request is served as its rule has it: the message is completed, or a stream is released first.
-use mathlib.Core.Path.{_∙_}
+use mathlib.Core.Path.{_≡_, _∙_}
+use Prim.Native.Nat.{ℕ, _+_, _<_}
 use Rattle.control.specs.Control.{changedBy}
-use Rattle.live.specs.Live.{partsNow}
-use Rattle.meaning.specs.Card.{partsOf}
+use Rattle.live.specs.Live.{partsNow, cardIn}
 use Rattle.reply.specs.Reply.{Serves}
-use Rattle.controlq.specs.Control.{pendingIn}
+use Rattle.reply.specs.declared.Kind.the-variants as kinds
+use Rattle.rules.specs.Calls.{ReleaseFirst, acted}
+use Rattle.rules.specs.Parts.{partsOf}
+use Rattle.controlq.specs.Control.{pendingIn, asksIn}
 use Rattle.controlq.proofs.Laws.{served-completed, served-release}
 use borrow.Author.Needs.{needs}
 use Rattle.controlq.proofs.change.Statement.{statement}
@@ -23,6 +26,18 @@ serves-at : (c : tie.After-act) → let a = start (pending-at c) .args in
     (changedBy (a .asked) (partsOf (partsNow (a .live) (a .parts))) (a .request .now)) (c .act .result) (a .m .now) (c .act .last .0)
 serves-at c = rw (c .before .before .parts-now .ensures, pending-at c .pending-in .ensures) at (c .act .ensures)
 
+-- a stream is released first: it is there, and memory is as it was
+left : (c : tie.After-act) (id : ℕ) → c .act .result .kind ≡ kinds.Release id →
+    let a = start (pending-at c) .args in
+    let asked = asksIn (cardIn (a .live) (a .parts) (a .play-words .now) (a .capture-words .now)) (a .list .now) (a .message) in
+    (acted (changedBy (a .asked) (partsOf (partsNow (a .live) (a .parts))) (a .request .now)) asked (a .m .now) ≡ ReleaseFirst id asked)
+    × (c .act .last .0 ≡ a .m .now) × (id < a .live .outputs + a .live .inputs)
+left c id h =
+    let s = start (pending-at c) in
+    let a = s .args in
+    served-release (a .live) (a .parts) (a .play-words .now) (a .capture-words .now) (s .pre .0) (a .message .head) (a .list .now)
+    (a .message .reply) (c .act .result) (a .m .now) _ _ id (serves-at c) h
+
 pending-in-requires : tie.Need-pending-in-requires
 pending-in-requires c κs = search needs
 
@@ -30,7 +45,7 @@ parts-now-requires : tie.Need-parts-now-requires
 parts-now-requires c κs = search needs
 
 act-requires : tie.Need-act-requires
-act-requires c κs = let s = start (c .before .before) in rw (c .before .parts-now .ensures) (s .pre .0 .parts)
+act-requires c κs = let s = start (c .before .before) in rw (c .before .parts-now .ensures) (s .pre .0 .board .parts)
 
 enum-known-kind : tie.Need-enum-known-kind
 enum-known-kind c = search needs
@@ -49,7 +64,7 @@ release-requires c κs =
     let n = c .before .before .before .before in
     let k = n .before .before .before .before in
     let s = start (pending-at k) in
-    (s .pre .0, k .act .kept .0 ∙ s .pre .1)
+    (s .pre .0, k .act .kept .0 ∙ s .pre .1, left k _ (n .kind2 .given .1) .2)
 
 same-length : tie.Need-same-length
 same-length c = search needs
@@ -78,10 +93,7 @@ returns-2 c =
     let o = c .before .before .before .before .before .before in
     let n = o .before .before .before .before .before in
     let k = n .before .before .before .before in
-    let s = start (pending-at k) in
-    let a = s .args in
-    let e = served-release (a .live) (a .parts) (a .play-words .now) (a .capture-words .now) (s .pre .0) (a .message .head) (a .list .now)
-    (a .message .reply) (k .act .result) (a .m .now) _ _ _ (serves-at k) (n .kind2 .given .1) in
+    let e = left k _ (n .kind2 .given .1) in
     rw (e .0) (rw (e .1) at (o .release .ensures))
 
 pub change-spec : {M : Type 1} → statement M

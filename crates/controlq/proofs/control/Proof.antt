@@ -2,7 +2,7 @@
 use mathlib.Core.Path.{_≡_, _∙_, ap}
 use Rattle.live.specs.Live.{cardIn}
 use Rattle.meaning.specs.Card.{stepOf}
-use Rattle.rules.specs.Calls.{Control}
+use Rattle.line_calls.specs.Calls.{Control}
 use Rattle.controlq.specs.Control.{takenLive, Comes}
 use Rattle.controlq.specs.declared.Answered.{Answered}
 use Rattle.controlq.specs.declared.Turn.{Turn}

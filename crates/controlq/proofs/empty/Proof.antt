@@ -1,5 +1,8 @@
--- The stream's number picks the queue and its words.
-use borrow.Author.Tests.{eq-eqb, ne-eqb}
+-- The stream's number picks the queue, its words and the line.
+use mathlib.Core.Path.{_≡_, ap, sym}
+use Prim.Native.Nat.{ℕ, _-_}
+use native.Mathlib.Omega.{arith}
+use borrow.Author.Tests.{lt-ltb, le-ltb}
 use borrow.Author.Needs.{needs}
 use Rattle.controlq.proofs.empty.Statement.{statement}
 use Rattle.controlq.proofs.empty.Tie as tie
@@ -10,6 +13,9 @@ start c = c .before .before .before .before
 
 backlog-requires : tie.Need-backlog-requires
 backlog-requires c κs = search needs
+
+cast-outputs : tie.Need-cast-outputs
+cast-outputs c = search needs
 
 empty-requires : tie.Need-empty-requires
 empty-requires c κs = search needs
@@ -24,8 +30,10 @@ returns : tie.Need-returns
 returns c p f =
     let e = c .before .before .before .before in
     let i = e .before .before .before in
-    let a = start (i .before) .args in
-    rw (eq-eqb _ _ (i .if1 .taken), ← (i .before .backlog .ensures p (a .play-words .now) (a .capture-words .now) f))
+    let a = start (i .before .before) .args in
+    let out = lt-ltb (a .id) (p .«output_count») (omega (arith, i .if1 .taken, f .board .outputs)) in
+    let line : a .id - 0 ≡ a .id = omega arith in
+    rw (out, line, ← (i .before .before .backlog .ensures p (a .play-words .now) (a .capture-words .now) f))
     (e .empty .ensures p (a .capture-words .now) f)
 
 empty-requires-2 : tie.Need-empty-requires-2
@@ -41,8 +49,10 @@ returns-2 : tie.Need-returns-2
 returns-2 c p f =
     let e = c .before .before .before .before in
     let i = e .before .before .before in
-    let a = start (i .before) .args in
-    rw (ne-eqb _ _ (i .if1 .left), ← (i .before .backlog .ensures p (a .play-words .now) (a .capture-words .now) f))
+    let a = start (i .before .before) .args in
+    let out = le-ltb (a .id) (p .«output_count») (omega (arith, i .if1 .left, f .board .outputs)) in
+    let line : a .id - p .«output_count» ≡ a .id - a .live .outputs = ap (λ (n : ℕ). a .id - n) (sym (f .board .outputs)) in
+    rw (out, line, ← (i .before .before .backlog .ensures p (a .play-words .now) (a .capture-words .now) f))
     (e .empty2 .ensures p (a .play-words .now) f)
 
 pub empty-spec : {M : Type 1} → statement M
@@ -50,6 +60,7 @@ empty-spec =
     tie.close
     (tie.spec
     backlog-requires
+    cast-outputs
     empty-requires
     same-length
     same-length-2

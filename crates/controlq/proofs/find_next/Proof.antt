@@ -7,12 +7,12 @@ use borrow.Author.Tests.{eq-eqb, ne-eqb, not-true, not-false}
 use lib.Dec.{eqb}
 use lib.ListN.{length}
 use Rattle.card.specs.declared.Parts.{Parts}
-use Rattle.live.specs.Live.{cardIn, Fits}
-use Rattle.meaning.specs.Card.{deviceOf, stepOf}
+use Rattle.line_calls.specs.Calls.{Control}
+use Rattle.live.specs.Live.{cardIn}
+use Rattle.meaning.specs.Card.{stepOf}
+use Rattle.meaning.specs.Fit.{Fits}
 use Rattle.registers.specs.Rules as registers
-use Rattle.rules.specs.Calls.{Control, ordered}
-use Rattle.device.specs.Counters.{countersOf}
-use Rattle.controlq.specs.Control.{nextOrder}
+use Rattle.controlq.specs.Control.{orderedOn, nextOrder}
 use Rattle.controlq.proofs.Laws.{checkIn, control-long, control-dead, control-idle, control-none, control-broken, control-next}
 use Rattle.controlq.proofs.Laws.{broken-fits, nextHead, next-broken, next-at}
 use borrow.Author.Needs.{needs}
@@ -51,7 +51,7 @@ head-found c p pw cw f = rw (checked c .before .queue-size .ensures) at (c .next
 to-next : (c : tie.After-next-head) (p : Parts) (pw cw : List ℕ) → let a = start (checked c) .args in
     Fits (a .live) p pw cw
     → stepOf (cardIn (a .live) p pw cw) Control (a .m .now)
-    ≡ ordered countersOf (nextOrder (cardIn (a .live) p pw cw) (a .m .now)) (deviceOf (cardIn (a .live) p pw cw)) (a .m .now)
+    ≡ orderedOn (cardIn (a .live) p pw cw) (nextOrder (cardIn (a .live) p pw cw) (a .m .now)) (a .m .now)
 to-next c p pw cw f =
     let k = checked c in
     let a = start k .args in

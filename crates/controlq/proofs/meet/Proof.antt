@@ -7,16 +7,16 @@ use Rattle.chain.specs.Walk.{whole, walkOf, outcomeOf}
 use Rattle.chain.specs.declared.End.the-variants.{Whole}
 use Rattle.chain.specs.declared.Walked.{Walked}
 use Rattle.live.specs.Live.{partsNow, cardIn}
-use Rattle.meaning.specs.Card.{partsOf, restOf, deviceOf}
+use Rattle.meaning.specs.Card.{restOf}
 use Rattle.ranges.specs.Ranges.{noRanges, rangesIn, rangesOf, places, bytesAt}
 use Rattle.registers.specs.Map.{sizeOf}
 use Rattle.ring.specs.Rules.{baseOf}
-use Rattle.rules.specs.Calls.{Order, indirect, ordered}
-use Rattle.rules.specs.Control.{served, status}
-use Rattle.device.specs.Counters.{countersOf}
+use Rattle.rules.specs.Calls.{Order, indirect}
+use Rattle.rules.specs.Control.{status}
+use Rattle.rules.specs.Parts.{partsOf}
 use Rattle.device.specs.Device.{pageOf}
 use Rattle.device.specs.Numbers.{controlQueue, sBadMsg}
-use Rattle.controlq.specs.Control.{servedChain, walkedAt}
+use Rattle.controlq.specs.Control.{servedOn, orderedOn, servedChain, walkedAt}
 use Rattle.controlq.proofs.Laws.{page-in, indirect-in, mute, counted-ends, chain-mute, chain-bad, chain-acted}
 use borrow.Author.Needs.{needs}
 use Rattle.controlq.proofs.meet.Statement.{statement}
@@ -201,11 +201,11 @@ returns-4 c =
       k .walk .ensures .sound .request,
       λ p pw cw.
           let request = bytesAt (a .m .now) (places (rangesOf ws (g .request))) in
-          ap (λ (o : Order). ordered countersOf o (deviceOf (cardIn (a .live) p pw cw)) (a .m .now))
+          ap (λ (o : Order). orderedOn (cardIn (a .live) p pw cw) o (a .m .now))
           (chain-at t p pw cw
           ∙ chain-acted (cardIn (a .live) p pw cw) (a .head) (rangesOf ws (g .request)) (rangesOf ws (g .reply)) (a .m .now)
           (sym (j .judge .ensures) ∙ i .before .before .enum-told3 .given .1) (sym (i .judge2 .ensures) ∙ c .enum-told5 .given .1) _
-          (ap (served (partsOf (partsNow (a .live) p)) request) (k .walk .ensures .sound .reply))),
+          (ap (servedOn (cardIn (a .live) p pw cw) (partsOf (partsNow (a .live) p)) request) (k .walk .ensures .sound .reply))),
     )
 
 pub meet-spec : {M : Type 1} → statement M

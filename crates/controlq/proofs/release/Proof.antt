@@ -1,6 +1,6 @@
 -- A broken queue is answered for its cause; else the stream is Released and the message answered.
 use mathlib.Core.Path.{_∙_}
-use Rattle.live.specs.Live.{Fits}
+use Rattle.meaning.specs.Fit.{Fits}
 use Rattle.live.specs.Setters.{withRegisters}
 use Rattle.device.specs.Device.{signalledIf}
 use Rattle.controlq.proofs.Laws.{few-streams, emptied-fits, release-broken, release-going}
@@ -53,7 +53,7 @@ mark-released-requires : tie.Need-mark-released-requires
 mark-released-requires c κs =
     let k = c .before .before in
     let g = signalled (emptied k) in
-    rw (k .signal .ensures) (g .live, few-streams _ _ _ _ g)
+    rw (k .signal .ensures) (g .board .live, few-streams _ _ _ _ g)
 
 pending-in-requires : tie.Need-pending-in-requires
 pending-in-requires c κs = search needs
@@ -79,9 +79,9 @@ returns c =
     let e = emptied k in
     let s = start e in
     let a = s .args in
-    rw (c .finish .ensures, c .before .queue-of .ensures, k .signal .ensures)
+    rw (c .finish .ensures, k .signal .ensures)
     (release-broken (a .live) (a .parts) (a .play-words .now) (a .capture-words .now) (s .pre .0) (a .id) (a .m .now) _ _ _
-    (e .empty .result) (e .empty .ensures) (a .message .head) (a .list .now) (a .message .reply) _
+    (e .empty .result) (e .empty .ensures) (a .message .head) (a .list .now) (a .message .reply) _ _ (c .before .queue-of .ensures)
     (c .before .before .before .stop .given .1))
 
 same-length-4 : tie.Need-same-length-4

@@ -26,7 +26,7 @@ params-kept fresh v h = rw h
 abbrev start : tie.Else1 → tie.Start
 start c = c .before .before .before
 
-below : (c : tie.Else1) → start c .args .stream < 2
+below : (c : tie.Else1) → start c .args .stream < 6
 below c = let s = start c in stream-below (s .args .live) (s .args .parts) (s .pre) (s .args .stream) (c .if1 .left)
 
 counted : (c : tie.Else1) → let a = start c .args in ltb (a .stream) (length (restIn (a .live) (a .parts) .streams)) ≡ true

@@ -4,10 +4,9 @@ use mathlib.Core.List.{map}
 use Prim.Native.Nat.{ℕ, _*_}
 use native.Mathlib.Omega.{arith}
 use lib.ListN.{length, take, drop}
-use Rattle.meaning.specs.Card.{partsOf}
 use Rattle.ranges.specs.Ranges.{rangesOf, places, putAt}
-use Rattle.rules.specs.Control.{itemsOf, naturalSize, fitted, joined}
-use Rattle.information.specs.Items.{row}
+use Rattle.rules.specs.Control.{naturalSize, fitted, joined}
+use Rattle.information.specs.Items.{itemsIn, row}
 use Rattle.information.proofs.Laws.{length-items, few-items, row-held}
 use borrow.Author.Needs.{needs}
 use Rattle.information.proofs.write_items.Statement.{statement}
@@ -19,8 +18,8 @@ start c = c .before .before .before .before .before
 
 -- how long the row is
 long : (s : tie.Start) → let a = s .args in
-    length (joined (take (a .count) (drop (a .start) (map (fitted (a .size)) (itemsOf (a .l) (partsOf (a .parts))))))) ≡ a .count * a .size
-long s = let a = s .args in length-items (a .size) (itemsOf (a .l) (partsOf (a .parts))) (a .count) (a .start) (s .pre .1)
+    length (joined (take (a .count) (drop (a .start) (map (fitted (a .size)) (itemsIn (a .l) (a .parts)))))) ≡ a .count * a .size
+long s = let a = s .args in length-items (a .size) (itemsIn (a .l) (a .parts)) (a .count) (a .start) (s .pre .1)
 
 natural-size-requires : tie.Need-natural-size-requires
 natural-size-requires c κs = search needs
@@ -58,7 +57,7 @@ returns c =
     let natural : row (p .before .before .natural-size .result) (a .size) bs (a .start) (a .count)
     ≡ row (naturalSize (a .l)) (a .size) bs (a .start) (a .count) =
     ap (λ (k : ℕ). row k (a .size) bs (a .start) (a .count)) (p .before .before .natural-size .ensures .0) in
-    let held = row-held (naturalSize (a .l)) (a .size) bs (itemsOf (a .l) (partsOf (a .parts))) (p .put-items .ensures) (a .count)
+    let held = row-held (naturalSize (a .l)) (a .size) bs (itemsIn (a .l) (a .parts)) (p .put-items .ensures) (a .count)
     (a .start) (s .pre .1) in (
       w .write-row .ensures .0 ∙ ap (putAt (a .m .now) (drop 4 (places (rangesOf (a .list .now) (a .reply))))) (natural ∙ held),
       w .write-row .ensures .1 ∙ rw (long s),

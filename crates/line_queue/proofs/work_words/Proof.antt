@@ -33,7 +33,7 @@ returns c =
     let s = c .before .before .before .before .before in
     let a = s .args in
     gone-line (virtqueueOf (a .q)) (a .line) (a .job) (a .words .now) (a .m .now) (a .host .now) (a .p) (s .pre .0)
-    (rw (c .enum-told2 .given .1))
+    (s .pre .2) (rw (c .enum-told2 .given .1))
 
 slot-words-requires : tie.Need-slot-words-requires
 slot-words-requires c κs = search needs

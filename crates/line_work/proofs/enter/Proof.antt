@@ -1,11 +1,10 @@
 -- The form decides.
-use Rattle.flow.proofs.Laws.{begun-fit}
 use Rattle.line_chains.specs.Queue.{virtqueueOf, refusedOf}
 use Rattle.message.specs.Message.{takingIn}
 use Rattle.ring.specs.Rules.{Completion, completion}
 use borrow.Author.Needs.{needs}
 use mathlib.Core.Path.{_≡_, _∙_, refl, sym, ap}
-use Rattle.line_work.proofs.Laws.{well-only, begun-read, refused-read}
+use Rattle.line_work.proofs.Laws.{well-only, begun-fit, begun-read, refused-read}
 use Rattle.line_work.proofs.enter.Statement.{statement}
 use Rattle.line_work.proofs.enter.Tie as tie
 

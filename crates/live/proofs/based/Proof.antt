@@ -1,5 +1,4 @@
--- Queue 2 has the play message, queue 3 the capture message.
-use borrow.Author.Tests.{ne-eqb}
+-- Queue 2 drops the play lines, queue 3 the capture lines.
 use Rattle.live.specs.Live.{basedLive}
 use borrow.Author.Needs.{needs}
 use Rattle.live.proofs.based.Statement.{statement}
@@ -8,33 +7,15 @@ use Rattle.live.proofs.based.Tie as tie
 without-requires : tie.Need-without-requires
 without-requires c κs = search needs
 
-no-message-requires : tie.Need-no-message-requires
-no-message-requires c κs = search needs
+dropped-after-requires : tie.Need-dropped-after-requires
+dropped-after-requires c κs = search needs
 
-no-message-requires-2 : tie.Need-no-message-requires-2
-no-message-requires-2 c κs = search needs
+dropped-after-requires-2 : tie.Need-dropped-after-requires-2
+dropped-after-requires-2 c κs = search needs
 
 returns : tie.Need-returns
 unfolding basedLive
-returns c = rw (c .no-message .ensures, c .before .before .without .ensures, c .before .match .keys1)
-
-returns-2 : tie.Need-returns-2
-unfolding basedLive
-returns-2 c = rw (c .no-message2 .ensures, c .before .before .without .ensures, c .before .match .keys2)
-
-returns-3 : tie.Need-returns-3
-unfolding basedLive
-returns-3 c =
-    let r = c .match .rest in
-    rw (c .before .without .ensures, ne-eqb _ _ (r .0 .1), ne-eqb _ _ (r .1))
+returns c = rw (c .dropped-after2 .ensures, c .before .dropped-after .ensures, c .before .before .without .ensures)
 
 pub based-spec : {M : Type 1} → statement M
-based-spec =
-    tie.close
-    (tie.spec
-    without-requires
-    no-message-requires
-    no-message-requires-2
-    returns
-    returns-2
-    returns-3)
+based-spec = tie.close (tie.spec without-requires dropped-after-requires dropped-after-requires-2 returns)

@@ -1,15 +1,18 @@
 -- Refused by a check, or the queue is worked and what that leaves is put back.
-use mathlib.Core.Path.{_∙_}
+use mathlib.Core.Path.{_≡_}
+use Prim.Native.Nat.{_-_}
+use Rattle.device.specs.Device.{output}
 use Rattle.message.specs.declared.Direction.the-variants.{Output}
-use Rattle.pcm.proofs.Lent.{call-refused, call-flowed}
+use Rattle.pcm.proofs.Laws.{has-line}
+use Rattle.pcm.proofs.Lent.{call-refused, call-worked}
 use native.Mathlib.Omega.{arith}
 use borrow.Author.Needs.{needs}
 use Rattle.pcm.proofs.play.Statement.{statement}
 use Rattle.pcm.proofs.play.Tie as tie
 
 -- where the queue was worked, where the call was checked, and where the function starts
-abbrev flowing : tie.After-flowed → tie.After-run
-flowing c = c .before .before .before .before .before .before .before
+abbrev working : tie.After-worked → tie.After-run
+working c = c .before .before .before .before .before .before .before
 
 abbrev checked : tie.After-run → tie.Else1
 checked c = c .before .before .before .before
@@ -28,15 +31,19 @@ returns c =
     let i = c .before in
     let a = start (i .before) .args in
     rw (c .untouched .ensures)
-    (call-refused Output (a .backlog) (a .live) (a .words .now) (a .m .now) (a .host .now) _
+    (call-refused Output (a .id) (a .backlog) (a .live) (a .words .now) (a .m .now) (a .host .now) _
     (i .before .refusal .ensures .0) (i .if1 .taken))
 
 run-requires : tie.Need-run-requires
 run-requires c κs =
-    let i = c .before .before .before in (start (i .before) .pre, i .before .refusal .ensures .1 (i .if1 .left))
+    let i = c .before .before .before in
+    let s = start (i .before) in
+    let t = i .before .refusal .ensures .1 (i .if1 .left) in
+    (s .pre, t .0, omega (arith, has-line (s .args .live) output (s .args .id) (t .2) .1))
 
-flowed-requires : tie.Need-flowed-requires
-flowed-requires c κs = (omega arith, c .before .before .before .before .before .before .run .ensures .fit .message .idle)
+worked-requires : tie.Need-worked-requires
+worked-requires c κs =
+    let i = checked (c .before .before .before .before .before .before) in i .before .refusal .ensures .1 (i .if1 .left) .1
 
 same-length : tie.Need-same-length
 same-length c = search needs
@@ -49,15 +56,15 @@ same-length-3 c = search needs
 
 returns-2 : tie.Need-returns-2
 returns-2 c =
-    let r = flowing c in
+    let r = working c in
     let i = checked r in
     let s = start (i .before) in
     let a = s .args in
-    let t = i .before .refusal .ensures in
-    rw (c .flowed .ensures)
-    (call-flowed Output (a .backlog) (a .live) (a .words .now) (a .m .now) (a .host .now) _ (t .0) (i .if1 .left)
-    (t .1 (i .if1 .left)) _ _ _
-    (r .run .result) (r .run .ensures) (r .run .kept .1 .0 ∙ s .pre .1 .room))
+    let t = i .before .refusal .ensures .1 (i .if1 .left) in
+    let line : a .id - 0 ≡ a .id = omega arith in
+    rw (c .worked .ensures)
+    (call-worked Output (a .id) (a .backlog) (a .live) (a .words .now) (a .m .now) (a .host .now) _ (i .before .refusal .ensures .0)
+    (i .if1 .left) (t .0) (t .1) _ _ _ (r .run .result) (rw line (r .run .ensures)))
 
 pub play-spec : {M : Type 1} → statement M
 play-spec =
@@ -67,7 +74,7 @@ play-spec =
     untouched-requires
     returns
     run-requires
-    flowed-requires
+    worked-requires
     same-length
     same-length-2
     same-length-3

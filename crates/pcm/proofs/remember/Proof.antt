@@ -7,14 +7,11 @@ use Rattle.pcm.proofs.remember.Tie as tie
 returns : tie.Need-returns
 returns c = rw (ne-eqb _ _ (c .if1 .taken))
 
-mul-next : tie.Need-mul-next
-mul-next c = search needs
-
-array-write-next : tie.Need-array-write-next
-array-write-next c = search needs
+with-backlog-requires : tie.Need-with-backlog-requires
+with-backlog-requires c κs = search needs
 
 returns-2 : tie.Need-returns-2
-returns-2 c = rw (eq-eqb _ _ (c .if1 .left))
+returns-2 c = rw (eq-eqb _ _ (c .before .if1 .left)) (c .with-backlog .ensures)
 
 pub remember-spec : {M : Type 1} → statement M
-remember-spec = tie.close (tie.spec returns mul-next array-write-next returns-2)
+remember-spec = tie.close (tie.spec returns with-backlog-requires returns-2)

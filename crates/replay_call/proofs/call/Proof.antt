@@ -35,9 +35,9 @@ returns c =
       record {
         text = c .before .text .ensures ∙ text-shown (a .card) (a .request) o (a .host .now) host (a .m .now) m (d .0) (a .line);
         leaves = left-shown (a .card) (a .request) o (a .host .now) host (a .m .now) m (d .0);
-        fit = d .0 .fit;
+        fit = d .1;
       },
-      host-shown (a .card) (a .request) o (a .host .now) host (a .m .now) m (d .0) (d .1),
+      host-shown (a .card) (a .request) o (a .host .now) host (a .m .now) m (d .0) (d .2),
     )
 
 pub call-spec : {M : Type 1} → statement M

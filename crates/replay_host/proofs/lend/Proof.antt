@@ -62,8 +62,8 @@ returns-5 c =
     let call = w .before .before .call2 .given in
     let line = w .before .before .before .before .before .before .args .s .now in
     let host = w .before .before .before .before .before .before .args .host .now in
-    let at = call .0 .0 in
-    let behind = call .0 .1 .0 in
+    let at = call .0 .1 .0 in
+    let behind = call .0 .1 .1 .0 in
     let end = w .within2 .ensures .1 in (
       l .0,
       (

@@ -1,5 +1,6 @@
 -- Nothing is described, and no card is powered.
 use borrow.Author.Needs.{needs}
+use Rattle.calls.proofs.Whole.{powered-device}
 use Rattle.replay_run.proofs.first_state.Statement.{statement}
 use Rattle.replay_run.proofs.first_state.Tie as tie
 
@@ -14,8 +15,10 @@ nothing-requires-2 c κs = search needs
 
 returns : tie.Need-returns
 returns c =
-    let p = c .before .before in
-    (rw (c .nothing2 .ensures, p .power-up .ensures .0, p .before .nothing .ensures), p .power-up .ensures .1)
+    let p = c .before .before in (
+      rw (c .nothing2 .ensures, powered-device _ 0 _ (p .power-up .ensures .0), p .before .nothing .ensures),
+      p .power-up .ensures .1,
+    )
 
 pub first-state-spec : {M : Type 1} → statement M
 first-state-spec =

@@ -6,7 +6,7 @@ use Prim.Native.Nat.{ℕ, _-_, _≤_, _<_}
 use native.Mathlib.Omega.{arith}
 use lib.ListN.{length, drop, length-drop}
 use lib.Seq.{length-take-le}
-use Rattle.card.specs.Fit.{Fit}
+use Rattle.meaning.specs.Fit.{Fit}
 use Rattle.lines.specs.Lines.{linesOf, behindOf}
 use Rattle.lines.proofs.Laws.{span-within, behind-moves}
 use Rattle.replay_run.specs.Session.{worldOf, firstWorld, sessionWorld}

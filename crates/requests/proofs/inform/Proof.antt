@@ -5,8 +5,8 @@ use Prim.Native.Nat.{_+_, _*_, _≤_}
 use native.Mathlib.Omega.{arith}
 use borrow.Author.Tests.{leb-true}
 use lib.ListN.{length}
-use Rattle.meaning.specs.Card.{partsOf}
-use Rattle.rules.specs.Control.{information, itemsOf, spaced, listed, roomy, word}
+use Rattle.information.specs.Items.{itemsIn}
+use Rattle.rules.specs.Control.{spaced, listedIn, roomy, word}
 use Rattle.requests.proofs.Laws.{check-passed, check-failed}
 use borrow.Author.Needs.{needs}
 use Rattle.requests.proofs.inform.Statement.{statement}
@@ -31,20 +31,22 @@ there : (c : tie.After-enum-told3) →
     let at-number322 = at-number323 .before in
     let at-number32 = at-number322 .before in
     let start = at-number32 .before .before .before .before in
-    listed (start .args .l) (partsOf (start .args .parts)) (at-number32 .number32 .result) (at-number322 .number322 .result) ≡ true
+    listedIn (itemsIn (start .args .l) (start .args .parts)) (at-number32 .number32 .result) (at-number322 .number322 .result) ≡ true
 there c =
     let at-enum-told3 = c in
     let at-is-listed = at-enum-told3 .before .before in
     let at-number322 = at-is-listed .before .before .before .before .before in
     let at-number32 = at-number322 .before in
     let start = at-number32 .before .before .before .before in
-    check-passed (listed (start .args .l) (partsOf (start .args .parts)) (at-number32 .number32 .result) (at-number322 .number322 .result))
+    check-passed
+    (listedIn (itemsIn (start .args .l) (start .args .parts)) (at-number32 .number32 .result) (at-number322 .number322 .result))
     (sym (at-is-listed .is-listed .ensures) ∙ at-enum-told3 .enum-told3 .given .1)
 
 there-asked : (c : tie.After-enum-told3) →
     let at-number323 = c .before .before .before .before .before .before in
     let start = at-number323 .before .before .before .before .before .before in
-    listed (start .args .l) (partsOf (start .args .parts)) (word (start .args .request .now) 1) (word (start .args .request .now) 2) ≡ true
+    let a = start .args in
+    listedIn (itemsIn (a .l) (a .parts)) (word (a .request .now) 1) (word (a .request .now) 2) ≡ true
 there-asked c =
     let at-number323 = c .before .before .before .before .before .before in
     let at-number322 = at-number323 .before in
@@ -91,7 +93,6 @@ same-length : tie.Need-same-length
 same-length c = search needs
 
 returns : tie.Need-returns
-unfolding information
 returns c =
     let at-complete = c .before .before in
     let at-enum-told2 = at-complete .before .before in
@@ -122,7 +123,6 @@ same-length-2 : tie.Need-same-length-2
 same-length-2 c = search needs
 
 returns-2 : tie.Need-returns-2
-unfolding information
 returns-2 c =
     let at-complete2 = c .before .before in
     let at-enum-told4 = at-complete2 .before .before in
@@ -132,9 +132,9 @@ returns-2 c =
     let at-number32 = at-number322 .before in
     let start = at-number32 .before .before .before .before in
     let a = start .args in
-    let absent : listed (a .l) (partsOf (a .parts)) (word (a .request .now) 1) (word (a .request .now) 2) ≡ false =
+    let absent : listedIn (itemsIn (a .l) (a .parts)) (word (a .request .now) 1) (word (a .request .now) 2) ≡ false =
     rw (← (at-number32 .number32 .ensures), ← (at-number322 .number322 .ensures))
-    (check-failed (listed (a .l) (partsOf (a .parts)) (at-number32 .number32 .result) (at-number322 .number322 .result))
+    (check-failed (listedIn (itemsIn (a .l) (a .parts)) (at-number32 .number32 .result) (at-number322 .number322 .result))
     (sym (at-is-listed .is-listed .ensures) ∙ at-enum-told4 .enum-told4 .given .1)) in
     rw (sized at-enum-told, absent) (record { bytes = _; same = refl; completes = at-complete2 .complete2 .ensures })
 
@@ -154,7 +154,6 @@ same-length-3 : tie.Need-same-length-3
 same-length-3 c = search needs
 
 returns-3 : tie.Need-returns-3
-unfolding information
 returns-3 c =
     let at-complete3 = c .before .before in
     let at-enum-told6 = at-complete3 .before .before in
@@ -181,7 +180,7 @@ list-items-requires c κs =
     let at-number32 = at-number322 .before in
     let start = at-number32 .before .before .before .before in
     let there : at-number32 .number32 .result + at-number322 .number322 .result
-    ≤ length (itemsOf (start .args .l) (partsOf (start .args .parts))) =
+    ≤ length (itemsIn (start .args .l) (start .args .parts)) =
     leb-true _ _ (there at-enum-told3) in
     let fits : 4 + at-number322 .number322 .result * at-number323 .number323 .result ≤ start .args .room = leb-true _ _
     (wide at-enum-told5) in
@@ -191,7 +190,6 @@ same-length-4 : tie.Need-same-length-4
 same-length-4 c = search needs
 
 returns-4 : tie.Need-returns-4
-unfolding information
 returns-4 c =
     let at-list-items = c .before .before in
     let at-enum-told5 = at-list-items .before .before in

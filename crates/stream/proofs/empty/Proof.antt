@@ -1,6 +1,4 @@
 -- A Release with no host buffer: what it leaves is put back.
-use mathlib.Core.Path.{_∙_, refl}
-use Rattle.stream.proofs.Fits.{own-room}
 use Rattle.stream.proofs.Lent.{lent-emptied}
 use borrow.Author.Needs.{needs}
 use Rattle.stream.proofs.empty.Statement.{statement}
@@ -16,8 +14,8 @@ slice-aggregate-run c = search needs
 run-requires : tie.Need-run-requires
 run-requires c κs = search needs
 
-with-flow-requires : tie.Need-with-flow-requires
-with-flow-requires c κs = c .before .before .before .before .before .run .ensures .fit .message .idle
+with-progress-requires : tie.Need-with-progress-requires
+with-progress-requires c κs = search needs
 
 same-length : tie.Need-same-length
 same-length c = search needs
@@ -30,10 +28,9 @@ returns c =
     let r = c .before .before .before .before .before .before in
     let s = start r in
     let a = s .args in
-    rw (c .with-flow .ensures)
-    (lent-emptied (a .direction) (a .latency) (a .live) (a .words .now) (a .m .now) _ _ _ _ (r .run .result) (r .run .ensures) refl
-    (s .pre .1)
-    (r .run .kept .1 .0 ∙ own-room (a .direction) (a .live) (a .words .now) (s .pre .0)))
+    rw (c .with-progress .ensures)
+    (lent-emptied (a .direction) (a .line) (a .latency) (a .live) (a .words .now) (a .m .now) _ _ _ _ (r .run .result) (r .run .ensures)
+    (s .pre .1))
 
 pub empty-spec : {M : Type 1} → statement M
 empty-spec =
@@ -41,7 +38,7 @@ empty-spec =
     (tie.spec
     slice-aggregate-run
     run-requires
-    with-flow-requires
+    with-progress-requires
     same-length
     same-length-2
     returns)

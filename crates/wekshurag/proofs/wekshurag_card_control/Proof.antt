@@ -66,7 +66,7 @@ use denote.Triple.Table.{entered, cited}
 use denote.Triple.Walked.{says, needs, Stays, stay-none, stay-dropped, stay-ref, gave-slice, walkOf, AllGo, goes-none, goes-dropped}
 use denote.Triple.Walked.{goes-ref, goes-gave-slice, Walks, ends-at, walked, walk-meets}
 use denote.Exit.{yes}
-use Rattle.live.specs.Live.{Fits}
+use Rattle.meaning.specs.Fit.{Fits}
 use Rattle.entries.specs.Entries.{ControlsOn}
 use Rattle.live.specs.declared.Board.{Board}
 use Rattle.entries.specs.declared.BoardAnswer.{BoardAnswer}

@@ -66,7 +66,7 @@ use denote.Triple.Table.{entered, cited}
 use denote.Triple.Walked.{says, needs, Stays, stay-none, stay-dropped, stay-ref, gave-slice, walkOf, AllGo, goes-none, goes-dropped}
 use denote.Triple.Walked.{goes-ref, goes-gave-slice, Walks, ends-at, walked, walk-meets}
 use denote.Exit.{yes}
-use Rattle.event.specs.Event.{FitAside}
+use Rattle.live.specs.Live.{FitBoard}
 use Rattle.entries.specs.Entries.{EventsOn}
 use Rattle.live.specs.declared.Board.{Board}
 use Rattle.entries.specs.declared.BoardAnswer.{BoardAnswer}
@@ -182,7 +182,7 @@ module _ {M : Type 1} (𝓤 : URA M) (H : Heap 𝓤) (A : Atoms 𝓤) (W : Given
   abbrev to : By 𝓤 H A at-mem run .Ghost
   to = (((κ0, tt), (q0, tt), tt, (h, (x0, (x1, (x2, tt)))), (mach h ∷ [], (s0 ∷ [], ((vint w32 x1) ∷ [], ((vint w32 x2) ∷ [], tt))))), tt)
 
-  goes-by : FitAside (h .live) (h .parts) → ent 𝓤 (sep 𝓤 (sep 𝓤 (A .lft κ0 q0) (sem 𝓤 H A ftrue)) (sem 𝓤 H A (owns (T.the-row ∷ MutSlice
+  goes-by : FitBoard (h .live) (h .parts) → ent 𝓤 (sep 𝓤 (sep 𝓤 (A .lft κ0 q0) (sem 𝓤 H A ftrue)) (sem 𝓤 H A (owns (T.the-row ∷ MutSlice
       (named 0) κ0 u8 ∷ u32 ∷ u32 ∷ []) (h, (x0, (x1, (x2, tt)))) (
         mach h ∷ [],
         (
@@ -239,7 +239,7 @@ module _ {M : Type 1} (𝓤 : URA M) (H : Heap 𝓤) (A : Atoms 𝓤) (W : Given
       (is-answer, (is-queue, (is-count, tt)))) $ move ! (1 ∷ 0 ∷ []) $ done !
 
   module _ (C : Calls 𝓤 H) (Λ : Loops 𝓤 H) (fm : FmC 𝓤 H (W .laws) C) (known : Triple 𝓤 (C #g) (By 𝓤 H A at-mem run)) where
-    walk : Room u8 (length (x0 .now)) → FitAside (h .live) (h .parts) → ent 𝓤 (onEntry 𝓤 H A f.signature (κ, (κ0, tt)) (q, (q0, tt)) x at)
+    walk : Room u8 (length (x0 .now)) → FitBoard (h .live) (h .parts) → ent 𝓤 (onEntry 𝓤 H A f.signature (κ, (κ0, tt)) (q, (q0, tt)) x at)
         (WpFn 𝓤 H C Λ code.function (vptr b o ∷ s0 ∷ (vint w32 x1) ∷ (vint w32 x2) ∷ []) Post)
     walk room0 fit =
         qed W ((‵ (flft κ q) ⊛ ‵ (flft κ0 q0) ⊛ ‵ ftrue) ∷ ‵ (owns (MutRef (named 0) κ T.the-row ∷ MutSlice (named 1) κ0 u8 ∷ u32 ∷ u32 ∷
@@ -340,7 +340,7 @@ module _ {M : Type 1} (𝓤 : URA M) (H : Heap 𝓤) (A : Atoms 𝓤) (W : Given
       (uint-tells w32, (uint-tells w32, tt)),
     ),
   ))
-      (λ κs qs bounds a g are. needs 𝓤 (FitAside ((a .0 .now) .live) ((a .0 .now) .parts)) _ (λ fit. walk 𝓤 H A W at-mem run (κs .0) (qs
+      (λ κs qs bounds a g are. needs 𝓤 (FitBoard ((a .0 .now) .live) ((a .0 .now) .parts)) _ (λ fit. walk 𝓤 H A W at-mem run (κs .0) (qs
       .0) (a .0 .ptr .0) (a .0 .ptr .1) (a .0 .name) (a .0 .now) (κs .1 .0) (qs .1 .0) (a .1 .0) (a .1 .1 .0) (a .1 .1 .1 .0) (are .1 .1
       .0 .1) (are .1 .1 .1 .0 .1) C Λ fm known (are .1 .0 .0 .1) fit))
 

@@ -104,7 +104,7 @@ state-spelt = refl
 after-spelt : spell table (tyNamed (S.struct .name, [])) ∷ [] ≡ S.the-row .mir
 after-spelt = refl
 
-module _ {M : Type 1} (𝓤 : URA M) (H : Heap 𝓤) (l0 l1 l2 l3 l4 l5 l6 l7 l8 l9 l10 l11 l12 l13 : ℕ) where
+module _ {M : Type 1} (𝓤 : URA M) (H : Heap 𝓤) (l0 l1 l2 l3 l4 l5 l6 l7 l8 l9 l10 l11 l12 l13 l14 : ℕ) where
   abbrev locals : Env 𝓤 H
   locals = (spell table (tyNamed (O.struct .name, [])), l0) ∷ (spell table (tyRef (named 0) mut (tyNamed (T.struct .name, []))), l1) ∷
       (spell table (tyStruct sliceName (tcons (tyRef (named 1) mut (tyInt w64)) (tcons (tyInt w64) tnil))), l2) ∷ (
@@ -115,40 +115,35 @@ module _ {M : Type 1} (𝓤 : URA M) (H : Heap 𝓤) (l0 l1 l2 l3 l4 l5 l6 l7 l8
         spell table (tyStruct sliceName (tcons (tyRef
             (named 3) mut (tyInt w8)) (tcons (tyInt w64) tnil))),
         l4,
-      ) ∷ (spell table (tyInt w32), l5) ∷ (
-        spell table (tyNamed (
-          T.struct .name,
-          [],
-        )),
-        l6,
-      ) ∷ (spell table (tyNamed (S.struct .name, [])), l7) ∷ (spell table (tyRef erased mut (tyInt w64)), l8) ∷ (
-        spell table
-            (tyStruct sliceName (tcons (tyRef erased mut (tyInt w64)) (tcons (tyInt w64) tnil))),
+      ) ∷ (spell table (tyInt w32), l5) ∷ (spell table (tyInt w32), l6) ∷ (
+        spell
+            table (tyNamed (T.struct .name, [])),
+        l7,
+      ) ∷ (spell table (tyNamed (S.struct .name, [])), l8) ∷ (
+        spell table (tyRef erased mut
+            (tyInt w64)),
         l9,
-      ) ∷ (
-        spell table (tyRef erased mut (tyInt
-            w8)),
-        l10,
-      ) ∷ (spell table (tyStruct sliceName (tcons (tyRef erased mut (tyInt w8)) (tcons (tyInt w64) tnil))), l11) ∷ (
-        spell table
-            (tyRef erased mut (tyInt w8)),
+      ) ∷ (spell table (tyStruct sliceName (tcons (tyRef erased mut (tyInt w64)) (tcons (tyInt w64) tnil))), l10) ∷
+      (spell table (tyRef erased mut (tyInt w8)), l11) ∷ (
+        spell table (tyStruct sliceName (tcons (tyRef erased mut (tyInt w8)) (tcons
+            (tyInt w64) tnil))),
         l12,
-      ) ∷ (
-        spell table (tyStruct sliceName (tcons (tyRef erased mut (tyInt w8)) (tcons (tyInt w64)
-            tnil))),
-        l13,
+      ) ∷ (spell table (tyRef erased mut (tyInt w8)), l13) ∷ (
+        spell table (tyStruct sliceName (tcons (tyRef
+            erased mut (tyInt w8)) (tcons (tyInt w64) tnil))),
+        l14,
       ) ∷ []
 
-  at-answer : fieldOf ((spotOf 𝓤 H locals 7) .0) 0 ≡ some ((tyInt w8), 0)
+  at-answer : fieldOf ((spotOf 𝓤 H locals 8) .0) 0 ≡ some ((tyInt w8), 0)
   at-answer = refl
 
-  at-queue : fieldOf ((spotOf 𝓤 H locals 7) .0) 1 ≡ some ((tyInt w8), 1)
+  at-queue : fieldOf ((spotOf 𝓤 H locals 8) .0) 1 ≡ some ((tyInt w8), 1)
   at-queue = refl
 
-  at-count : fieldOf ((spotOf 𝓤 H locals 7) .0) 2 ≡ some ((tyInt w64), 8)
+  at-count : fieldOf ((spotOf 𝓤 H locals 8) .0) 2 ≡ some ((tyInt w64), 8)
   at-count = refl
 
-  at-live : fieldOf ((spotOf 𝓤 H locals 7) .0) 3 ≡ some (T′.mir, 16)
+  at-live : fieldOf ((spotOf 𝓤 H locals 8) .0) 3 ≡ some (T′.mir, 16)
   at-live = refl
 
 abbrev stayed : Stays (f.ended .signature .params) (f.ended .kept)
@@ -159,7 +154,7 @@ stayed = (
     (
       gave-slice (2 ∷ []) tt (plain (λ _.
           u8)),
-      (gave-slice (3 ∷ []) tt (plain (λ _. u8)), (stay-none (λ _. u32) yes, tt)),
+      (gave-slice (3 ∷ []) tt (plain (λ _. u8)), (stay-none (λ _. u32) yes, (stay-none (λ _. u32) yes, tt))),
     ),
   ),
 )
@@ -170,12 +165,12 @@ By 𝓤 H A at-mem run = tripleOf 𝓤 H A g.signature (g.spec 𝓤 H A at-mem r
 
 module _ {M : Type 1} (𝓤 : URA M) (H : Heap 𝓤) (A : Atoms 𝓤) (W : Given 𝓤 H A) (at-mem : Memory → SProp 𝓤) (run : Routine → Fun 𝓤) (κ :
     Lft) (q : Share) (b o : ℕ) (γ : GName) (h : Live) (κ0 : Lft) (q0 : Share) (κ1 : Lft) (q1 : Share) (κ2 : Lft) (q2 : Share) (x0 : RefT
-    (List ℕ)) (x1 : RefT (List ℕ)) (x2 : RefT (List ℕ)) (x3 : ℕ) (fits3 : x3 < 2 ^ 32) where
+    (List ℕ)) (x1 : RefT (List ℕ)) (x2 : RefT (List ℕ)) (x3 : ℕ) (x4 : ℕ) (fits3 : x3 < 2 ^ 32) (fits4 : x4 < 2 ^ 32) where
   abbrev Args : Type 0
-  Args = RefT Live × (RefT (List ℕ) × (RefT (List ℕ) × (RefT (List ℕ) × (ℕ × (Unit {0})))))
+  Args = RefT Live × (RefT (List ℕ) × (RefT (List ℕ) × (RefT (List ℕ) × (ℕ × (ℕ × (Unit {0}))))))
 
   abbrev x : Args
-  x = (record { ptr = (b, o); name = γ; now = h }, (x0, (x1, (x2, (x3, tt)))))
+  x = (record { ptr = (b, o); name = γ; now = h }, (x0, (x1, (x2, (x3, (x4, tt))))))
 
   abbrev s0 : Val
   s0 = sliceVal (x0 .ptr) (length (x0 .now))
@@ -189,8 +184,8 @@ module _ {M : Type 1} (𝓤 : URA M) (H : Heap 𝓤) (A : Atoms 𝓤) (W : Given
   abbrev mach : Live → Val
   mach c = LL.val T.the-type T′.the-laws c
 
-  abbrev at : List Val × (List Val × (List Val × (List Val × (List Val × (Unit {0})))))
-  at = (vptr b o ∷ [], (s0 ∷ [], (s1 ∷ [], (s2 ∷ [], ((vint w32 x3) ∷ [], tt)))))
+  abbrev at : List Val × (List Val × (List Val × (List Val × (List Val × (List Val × (Unit {0}))))))
+  at = (vptr b o ∷ [], (s0 ∷ [], (s1 ∷ [], (s2 ∷ [], ((vint w32 x3) ∷ [], ((vint w32 x4) ∷ [], tt))))))
 
   abbrev told : LiveAnswer → CallResult
   told r = (record { answer = (r .answer); queue = (r .queue); count = (r .count) })
@@ -214,7 +209,7 @@ module _ {M : Type 1} (𝓤 : URA M) (H : Heap 𝓤) (A : Atoms 𝓤) (W : Given
       (κ0, (κ1, (κ2, tt))),
       (q0, (q1, (q2, tt))),
       tt,
-      (h, (x0, (x1, (x2, (x3, tt))))),
+      (h, (x0, (x1, (x2, (x3, (x4, tt)))))),
       (
         mach h ∷ [],
         (
@@ -222,8 +217,9 @@ module _ {M : Type 1} (𝓤 : URA M) (H : Heap 𝓤) (A : Atoms 𝓤) (W : Given
           (
             s1 ∷ [],
             (
-              s2 ∷ [],
-              ((vint w32 x3) ∷ [], tt),
+              s2 ∷
+                  [],
+              ((vint w32 x3) ∷ [], ((vint w32 x4) ∷ [], tt)),
             ),
           ),
         ),
@@ -234,22 +230,38 @@ module _ {M : Type 1} (𝓤 : URA M) (H : Heap 𝓤) (A : Atoms 𝓤) (W : Given
 
   goes-by : FitOwn Direction.Output h (x0 .now) → ent 𝓤 (sep 𝓤 (sep 𝓤 (A .lft κ0 q0) (sep 𝓤 (A .lft κ1 q1) (sep 𝓤 (A .lft κ2 q2) (sem 𝓤 H
       A ftrue)))) (sem 𝓤 H A (owns (T.the-row ∷ MutSlice (named 0) κ0 u64 ∷ MutSlice (named 1) κ1 u8 ∷ MutSlice (named 2) κ2 u8 ∷ u32 ∷
-      []) (h, (x0, (x1, (x2, (x3, tt))))) (mach h ∷ [], (s0 ∷ [], (s1 ∷ [], (s2 ∷ [], ((vint w32 x3) ∷ [], tt)))))))) (By 𝓤 H A at-mem
-      run .pre to)
-  goes-by fit = qed W ((‵ (flft κ0 q0) ⊛ ‵ (flft κ1 q1) ⊛ ‵ (flft κ2 q2) ⊛ ‵ ftrue) ∷ ‵ (owns (T.the-row ∷ MutSlice (named 0) κ0 u64 ∷
-      MutSlice (named 1) κ1 u8 ∷ MutSlice (named 2) κ2 u8 ∷ u32 ∷ []) (h, (x0, (x1, (x2, (x3, tt))))) (
+      u32 ∷ []) (h, (x0, (x1, (x2, (x3, (x4, tt)))))) (
         mach h ∷ [],
         (
           s0 ∷ [],
           (
             s1 ∷ [],
-            (s2 ∷ [], ((vint w32 x3) ∷ [], tt)),
+            (
+              s2 ∷ [],
+              (
+                (vint w32 x3) ∷ [],
+                (
+                  (vint w32 x4) ∷
+                      [],
+                  tt,
+                ),
+              ),
+            ),
           ),
+        ),
+      )))) (By 𝓤 H A at-mem run .pre to)
+  goes-by fit = qed W ((‵ (flft κ0 q0) ⊛ ‵ (flft κ1 q1) ⊛ ‵ (flft κ2 q2) ⊛ ‵ ftrue) ∷ ‵ (owns (T.the-row ∷ MutSlice (named 0) κ0 u64 ∷
+      MutSlice (named 1) κ1 u8 ∷ MutSlice (named 2) κ2 u8 ∷ u32 ∷ u32 ∷ []) (h, (x0, (x1, (x2, (x3, (x4, tt)))))) (
+        mach h ∷ [],
+        (
+          s0 ∷
+              [],
+          (s1 ∷ [], (s2 ∷ [], ((vint w32 x3) ∷ [], ((vint w32 x4) ∷ [], tt)))),
         ),
       )) ∷ []) ∵ says ! fit $ frame ! $ done !
 
-  exits : (r : LiveAnswer) (z0 : List ℕ) (z1 : List ℕ) (z2 : List ℕ) → TransfersOn Direction.Output x3 h (x0 .now) (x1 .now) (x2 .now) z0
-      z1 z2 (transferIn r) → length z0 ≡ length (x0 .now) → length z1 ≡ length (x1 .now) → length z2 ≡ length (x2 .now) → Is u8 (r
+  exits : (r : LiveAnswer) (z0 : List ℕ) (z1 : List ℕ) (z2 : List ℕ) → TransfersOn Direction.Output x3 x4 h (x0 .now) (x1 .now) (x2 .now)
+      z0 z1 z2 (transferIn r) → length z0 ≡ length (x0 .now) → length z1 ≡ length (x1 .now) → length z2 ≡ length (x2 .now) → Is u8 (r
       .answer) ((vint w8 (r .answer)) ∷ []) → Is u8 (r .queue) ((vint w8 (r .queue)) ∷ []) → Is usize (r .count) ((vint w64 (r .count))
       ∷ []) → ent 𝓤 (⋆ 𝓤 H A (‵ (fobs γ (T.the-row .coded .code (r .live))) ∷ ‵ (fbor κ (Body (mem T.the-row) b o γ)) ∷ ‵ (flft κ q) ∷
       (‵ (flft κ0 q0) ⊛ ‵ (flft κ1 q1) ⊛ ‵ (flft κ2 q2) ⊛ ‵ ftrue) ∷ ‵ (finally u8 (x2 .name) z2) ∷ ‵ (finally u8 (x1 .name) z1) ∷ ‵
@@ -271,42 +283,44 @@ module _ {M : Type 1} (𝓤 : URA M) (H : Heap 𝓤) (A : Atoms 𝓤) (W : Given
       ) (vstruct (vcons (vint w8 (r .answer)) (vcons (vint w8 (r .queue)) (vcons (vint w64 (r .count)) vnil)))) (told r) (
         (r
             .live),
-        (z0, (z1, (z2, (tt, tt)))),
-      ) (tt, (l0, (l1, (l2, (tt, tt)))))) $ says ! e $
+        (z0, (z1, (z2, (tt, (tt, tt))))),
+      ) (tt, (l0, (l1, (l2, (tt, (tt, tt))))))) $ says ! e $
       move ! (2 ∷ 3 ∷ []) $ join ! $ frame ! $ feqI ! (List Val) (vptr b o ∷ []) (vptr b o ∷ []) refl $ fjoin3 ! $ nothing ! $ owned ! u32
-      (Is u32) (uint-makes 𝓤 H A W w32) x3 _ (refl, fits3) $ fjoin ! $ move ! (2 ∷ 0 ∷ []) $ fjoin ! $ move ! (2 ∷ 0 ∷ []) $ fjoin ! $
-      move ! (2 ∷ 0 ∷ []) $ fjoin ! $ move ! (1 ∷ 0 ∷ []) $ fjoin ! $
+      (Is u32) (uint-makes 𝓤 H A W w32) x4 _ (refl, fits4) $ fjoin ! $ owned ! u32 (Is u32) (uint-makes 𝓤 H A W w32) x3 _ (refl, fits3) $
+      fjoin ! $ move ! (2 ∷ 0 ∷ []) $ fjoin ! $ move ! (2 ∷ 0 ∷ []) $ fjoin ! $ move ! (2 ∷ 0 ∷ []) $ fjoin ! $ move ! (1 ∷ 0 ∷ []) $
+      fjoin ! $
       owned ! O.the-row (Is O.the-row) (LL.makes O.the-type O′.the-plain 𝓤 H A) (told r) _ (LL.owes O.the-type O′.the-laws (told r)
       (is-answer, (is-queue, (is-count, tt)))) $ move ! (1 ∷ 0 ∷ []) $ done !
 
   module _ (C : Calls 𝓤 H) (Λ : Loops 𝓤 H) (fm : FmC 𝓤 H (W .laws) C) (known : Triple 𝓤 (C #g) (By 𝓤 H A at-mem run)) where
     walk : Room u64 (length (x0 .now)) → Room u8 (length (x1 .now)) → Room u8 (length (x2 .now)) → FitOwn Direction.Output h (x0 .now) →
         ent 𝓤 (onEntry 𝓤 H A f.signature (κ, (κ0, (κ1, (κ2, tt)))) (q, (q0, (q1, (q2, tt)))) x at) (WpFn 𝓤 H C Λ code.function (vptr b o
-        ∷ s0 ∷ s1 ∷ s2 ∷ (vint w32 x3) ∷ []) Post)
+        ∷ s0 ∷ s1 ∷ s2 ∷ (vint w32 x3) ∷ (vint w32 x4) ∷ []) Post)
     walk room0 room1 room2 fit =
         qed W ((‵ (flft κ q) ⊛ ‵ (flft κ0 q0) ⊛ ‵ (flft κ1 q1) ⊛ ‵ (flft κ2 q2) ⊛ ‵ ftrue) ∷ ‵ (owns (MutRef (named 0) κ T.the-row ∷
-        MutSlice (named 1) κ0 u64 ∷ MutSlice (named 2) κ1 u8 ∷ MutSlice (named 3) κ2 u8 ∷ u32 ∷ []) x at) ∷ []) ∵ split ! $ move ! (2 ∷
-        []) $ fsplit ! $ fsplit3 ! $ drop ! $ move ! (0 ∷ 1 ∷ 3 ∷ []) $
+        MutSlice (named 1) κ0 u64 ∷ MutSlice (named 2) κ1 u8 ∷ MutSlice (named 3) κ2 u8 ∷ u32 ∷ u32 ∷ []) x at) ∷ []) ∵ split ! $ move !
+        (2 ∷ []) $ fsplit ! $ fsplit3 ! $ drop ! $ move ! (0 ∷ 1 ∷ 3 ∷ []) $
         -- [obs; the card's borrow; its token; what the other parameters own; the other tokens]
-        enter ! C Λ code.function (vptr b o ∷ s0 ∷ s1 ∷ s2 ∷ (vint w32 x3) ∷ []) _ $
+        enter ! C Λ code.function (vptr b o ∷ s0 ∷ s1 ∷ s2 ∷ (vint w32 x3) ∷ (vint w32 x4) ∷ []) _ $
         alloc1 ! (λ l0. alloc1 ! (λ l1. alloc1 ! (λ l2. alloc1 ! (λ l3. alloc1 ! (λ l4. alloc1 ! (λ l5. alloc1 ! (λ l6. alloc1 ! (λ l7.
-        alloc1 ! (λ l8. alloc1 ! (λ l9. alloc1 ! (λ l10. alloc1 ! (λ l11. alloc1 ! (λ l12. alloc1 ! (λ l13. alloc0 ! $ params1 ! $
-        pass1 ! (init ! 24 refl (tt, tt)) $ pass1 ! (init ! 22 refl (tt, (tt, (record { fits = room0 .0 }, tt)))) $ pass1 ! (init ! 20
-        refl (tt, (tt, (record { fits = room1 .0 }, tt)))) $ pass1 ! (init ! 18 refl (tt, (tt, (record { fits = room2 .0 }, tt)))) $ pass1
-        ! (init ! 16 refl (tt, record { fits = fits3 })) $ pass0 ! $
-        move ! (28 ∷ 29 ∷ 30 ∷ []) $ opens ! tt T.the-row {h = h} b o (λ vs. spelt ! T.the-row (Is T.the-row) (shows 𝓤 H A T.the-row)
+        alloc1 ! (λ l8. alloc1 ! (λ l9. alloc1 ! (λ l10. alloc1 ! (λ l11. alloc1 ! (λ l12. alloc1 ! (λ l13. alloc1 ! (λ l14. alloc0 ! $
+        params1 ! $
+        pass1 ! (init ! 26 refl (tt, tt)) $ pass1 ! (init ! 24 refl (tt, (tt, (record { fits = room0 .0 }, tt)))) $ pass1 ! (init ! 22
+        refl (tt, (tt, (record { fits = room1 .0 }, tt)))) $ pass1 ! (init ! 20 refl (tt, (tt, (record { fits = room2 .0 }, tt)))) $ pass1
+        ! (init ! 18 refl (tt, record { fits = fits3 })) $ pass1 ! (init ! 16 refl (tt, record { fits = fits4 })) $ pass0 ! $
+        move ! (30 ∷ 31 ∷ 32 ∷ []) $ opens ! tt T.the-row {h = h} b o (λ vs. spelt ! T.the-row (Is T.the-row) (shows 𝓤 H A T.the-row)
         (LL.vals T.the-type T′.the-laws) (LL.tells T.the-type T′.the-laws) fullShare h vs b o $
         move ! (1 ∷ []) $ peeks ! T.the-row (Is T.the-row) (shows 𝓤 H A T.the-row) h (LL.vals T.the-type T′.the-laws h) (λ was. move ! (1
         ∷ 0 ∷ []) $
         -- [the card's cell; what it owns; the open borrow; obs; auth; the locals, the last first, each with what frees it;
-        --  what the other parameters own (33); the other tokens]
-        assigns ! (of-opd ! (load ! (from ! (hop ! (look ! 29 refl) (stop !))) (look-raw ! 0 refl))) (from ! (stop !)) (init ! 19 {τ =
-        spell table (tyNamed (T.struct .name, []))} {b = l6} {o = 0} {v = mach h} refl (typed-as 𝓤 H A T.the-row (LL.lawful T.the-type
+        --  what the other parameters own (35); the other tokens]
+        assigns ! (of-opd ! (load ! (from ! (hop ! (look ! 31 refl) (stop !))) (look-raw ! 0 refl))) (from ! (stop !)) (init ! 19 {τ =
+        spell table (tyNamed (T.struct .name, []))} {b = l7} {o = 0} {v = mach h} refl (typed-as 𝓤 H A T.the-row (LL.lawful T.the-type
         T′.the-laws 𝓤 H A W) (spell table (tyNamed (T.struct .name, []))) state-spelt h (mach h) was)) $
-        assigns ! (addr ! (from ! (fld ! refl (hop ! (look-in ! 27 (sub ! 0 refl (whole !))) (stop !))))) (from ! (stop !)) (init ! 15
+        assigns ! (addr ! (from ! (fld ! refl (hop ! (look-in ! 29 (sub ! 0 refl (whole !))) (stop !))))) (from ! (stop !)) (init ! 15
         refl (tt, tt)) $
         assigns ! (agg ! (and-then ! (load ! (from ! (stop !)) (look ! 15 refl)) (and-then ! (load ! (from ! (fld ! refl (stop !)))
-        (look-in ! 27 (sub ! 1 refl (whole !)))) (no-more !)))) (from ! (stop !)) (init ! 13 refl (
+        (look-in ! 29 (sub ! 1 refl (whole !)))) (no-more !)))) (from ! (stop !)) (init ! 13 refl (
           tt,
           (
             tt,
@@ -316,10 +330,10 @@ module _ {M : Type 1} (𝓤 : URA M) (H : Heap 𝓤) (A : Atoms 𝓤) (W : Given
             ),
           ),
         )) $
-        assigns ! (addr ! (from ! (fld ! refl (hop ! (look-in ! 25 (sub ! 0 refl (whole !))) (stop !))))) (from ! (stop !)) (init ! 11
+        assigns ! (addr ! (from ! (fld ! refl (hop ! (look-in ! 27 (sub ! 0 refl (whole !))) (stop !))))) (from ! (stop !)) (init ! 11
         refl (tt, tt)) $
         assigns ! (agg ! (and-then ! (load ! (from ! (stop !)) (look ! 11 refl)) (and-then ! (load ! (from ! (fld ! refl (stop !)))
-        (look-in ! 25 (sub ! 1 refl (whole !)))) (no-more !)))) (from ! (stop !)) (init ! 9 refl (
+        (look-in ! 27 (sub ! 1 refl (whole !)))) (no-more !)))) (from ! (stop !)) (init ! 9 refl (
           tt,
           (
             tt,
@@ -329,10 +343,10 @@ module _ {M : Type 1} (𝓤 : URA M) (H : Heap 𝓤) (A : Atoms 𝓤) (W : Given
             ),
           ),
         )) $
-        assigns ! (addr ! (from ! (fld ! refl (hop ! (look-in ! 23 (sub ! 0 refl (whole !))) (stop !))))) (from ! (stop !)) (init ! 7 refl
+        assigns ! (addr ! (from ! (fld ! refl (hop ! (look-in ! 25 (sub ! 0 refl (whole !))) (stop !))))) (from ! (stop !)) (init ! 7 refl
         (tt, tt)) $
         assigns ! (agg ! (and-then ! (load ! (from ! (stop !)) (look ! 7 refl)) (and-then ! (load ! (from ! (fld ! refl (stop !)))
-        (look-in ! 23 (sub ! 1 refl (whole !)))) (no-more !)))) (from ! (stop !)) (init ! 5 refl (
+        (look-in ! 25 (sub ! 1 refl (whole !)))) (no-more !)))) (from ! (stop !)) (init ! 5 refl (
           tt,
           (
             tt,
@@ -342,91 +356,84 @@ module _ {M : Type 1} (𝓤 : URA M) (H : Heap 𝓤) (A : Atoms 𝓤) (W : Given
             ),
           ),
         )) $
-        move ! (1 ∷ 33 ∷ []) $ fjoin ! $ move ! (33 ∷ 0 ∷ []) $ use2 W (raw (By 𝓤 H A at-mem run .pre to)) (goes-by fit) $
+        move ! (1 ∷ 35 ∷ []) $ fjoin ! $ move ! (35 ∷ 0 ∷ []) $ use2 W (raw (By 𝓤 H A at-mem run .pre to)) (goes-by fit) $
         calls-at ! fm (By 𝓤 H A at-mem run) known to (and-then ! (load ! (from ! (stop !)) (look ! 19 refl)) (and-then ! (load ! (from !
         (stop !)) (look ! 13 refl)) (and-then ! (load ! (from ! (stop !)) (look ! 9 refl)) (and-then ! (load ! (from ! (stop !)) (look ! 5
-        refl)) (and-then ! (load ! (from ! (stop !)) (look ! 21 refl)) (no-more !)))))) (λ w.
+        refl)) (and-then ! (load ! (from ! (stop !)) (look ! 23 refl)) (and-then ! (load ! (from ! (stop !)) (look ! 21 refl)) (no-more
+        !))))))) (λ w.
         use1 W (later (any (λ (r : LiveAnswer). ((‵ (flft κ0 q0) ⊛ ‵ (flft κ1 q1) ⊛ ‵ (flft κ2 q2) ⊛ ‵ ftrue) ⊛ ‵ (S.the-row .own r (w ∷
-        []))) ⊛ raw (ensured 𝓤 H A g.ended (g.clauses 𝓤 H A at-mem run) (κ0, (κ1, (κ2, tt))) (h, (x0, (x1, (x2, (x3, tt))))) tt r)))) (id⊢
-        𝓤 _) $ await ! tt $ pick ! (λ r.
-        split ! $ move ! (1 ∷ []) $ use1 W (any (λ (zs : Unit {0} × (List ℕ × (List ℕ × (List ℕ × (Unit {0} × (Unit {0})))))). ‵ (lasts
-        g.ended (κ0, (κ1, (κ2, tt))) (h, (x0, (x1, (x2, (x3, tt))))) zs) ⊛ raw (fact 𝓤 (TransfersOn Direction.Output x3 h (x0 .now) (x1
-        .now) (x2 .now) (zs .1 .0) (zs .1 .1 .0) (zs .1 .1 .1 .0) (transferIn r))))) (id⊢ 𝓤 _) $ pick ! (λ zs.
-        split ! $ move ! (1 ∷ []) $ heard ! (TransfersOn Direction.Output x3 h (x0 .now) (x1 .now) (x2 .now) (zs .1 .0) (zs .1 .1 .0) (zs
-        .1 .1 .1 .0) (transferIn r)) (λ e.
+        []))) ⊛ raw (ensured 𝓤 H A g.ended (g.clauses 𝓤 H A at-mem run) (κ0, (κ1, (κ2, tt))) (h, (x0, (x1, (x2, (x3, (x4, tt)))))) tt
+        r)))) (id⊢ 𝓤 _) $ await ! tt $ pick ! (λ r.
+        split ! $ move ! (1 ∷ []) $ use1 W (any (λ (zs : Unit {0} × (List ℕ × (List ℕ × (List ℕ × (Unit {0} × (Unit {0} × (Unit
+        {0}))))))). ‵ (lasts g.ended (κ0, (κ1, (κ2, tt))) (h, (x0, (x1, (x2, (x3, (x4, tt)))))) zs) ⊛ raw (fact 𝓤 (TransfersOn
+        Direction.Output x3 x4 h (x0 .now) (x1 .now) (x2 .now) (zs .1 .0) (zs .1 .1 .0) (zs .1 .1 .1 .0) (transferIn r))))) (id⊢ 𝓤 _) $
+        pick ! (λ zs.
+        split ! $ move ! (1 ∷ []) $ heard ! (TransfersOn Direction.Output x3 x4 h (x0 .now) (x1 .now) (x2 .now) (zs .1 .0) (zs .1 .1 .0)
+        (zs .1 .1 .1 .0) (transferIn r)) (λ e.
         fsplit ! $ drop ! $ fsplit ! $ fsplit ! $ move ! (1 ∷ []) $ feqL ! (λ same0. move ! (1 ∷ []) $ fsplit ! $ fsplit ! $ move ! (1 ∷
         []) $ feqL ! (λ same1. move ! (1 ∷ []) $ fsplit ! $ fsplit ! $ move ! (1 ∷ []) $ feqL ! (λ same2. move ! (1 ∷ []) $ fsplit ! $
-        drop ! $ drop ! $
+        drop ! $ fsplit ! $ drop ! $ drop ! $
         -- [the last lists, the last first; the tokens and the result; the card's cell; the open borrow; obs; auth; the locals]
         move ! (3 ∷ []) $ split ! $ move ! (1 ∷ []) $ peeks ! S.the-row (Is S.the-row) (shows 𝓤 H A S.the-row) r (w ∷ []) (λ is.
         let fields = LL.owed S.the-type S′.the-laws r (w ∷ []) is in
-        land ! (from ! (stop !)) (init ! 21 {τ = spell table (tyNamed (S.struct .name, []))} {b = l7} {o = 0} {v = w} refl (typed-as 𝓤 H A
+        land ! (from ! (stop !)) (init ! 21 {τ = spell table (tyNamed (S.struct .name, []))} {b = l8} {o = 0} {v = w} refl (typed-as 𝓤 H A
         S.the-row (LL.lawful S.the-type S′.the-laws 𝓤 H A W) (spell table (tyNamed (S.struct .name, []))) after-spelt r (w) is)) $
-        rewrite ! 21 (λ (v : Val). ‵ (fat fullShare (spell table (tyNamed (S.struct .name, []))) l7 0 v)) (ap only (LL.tells S.the-type
+        rewrite ! 21 (λ (v : Val). ‵ (fat fullShare (spell table (tyNamed (S.struct .name, []))) l8 0 v)) (ap only (LL.tells S.the-type
         S′.the-laws r (w ∷ []) is)) refl $
-        rewrite ! 21 (λ (τ : Ty). ‵ (fat fullShare τ l7 0 (LL.val S.the-type S′.the-laws r))) after-is refl $
-        assigns ! (of-opd ! (load ! (from ! (fld ! {τ = T′.mir} {d = 16} (at-live 𝓤 H l0 l1 l2 l3 l4 l5 l6 l7 l8 l9 l10 l11 l12 l13) (stop
-        !))) (look-in ! 21 (sub ! {τs = after-fields} 3 {τ = T′.mir} {d = 16} refl (whole !))))) (from ! (hop ! (look ! 33 refl) (stop
-        !))) (store-raw ! 5 {τ = spell table (tyNamed (T.struct .name, []))} {b = b} {o = o} {v₀ = mach h} {v = mach (r .live)} refl
+        rewrite ! 21 (λ (τ : Ty). ‵ (fat fullShare τ l8 0 (LL.val S.the-type S′.the-laws r))) after-is refl $
+        assigns ! (of-opd ! (load ! (from ! (fld ! {τ = T′.mir} {d = 16} (at-live 𝓤 H l0 l1 l2 l3 l4 l5 l6 l7 l8 l9 l10 l11 l12 l13 l14)
+        (stop !))) (look-in ! 21 (sub ! {τs = after-fields} 3 {τ = T′.mir} {d = 16} refl (whole !))))) (from ! (hop ! (look ! 35 refl)
+        (stop !))) (store-raw ! 5 {τ = spell table (tyNamed (T.struct .name, []))} {b = b} {o = o} {v₀ = mach h} {v = mach (r .live)} refl
         (typed-as 𝓤 H A T.the-row (LL.lawful T.the-type T′.the-laws 𝓤 H A W) (spell table (tyNamed (T.struct .name, []))) state-spelt (r
         .live) (mach (r .live)) (fields .1 .1 .1 .0))) $
         assigns ! (agg ! (and-then ! (load ! (from ! (fld ! {τ = (tyInt w8)} {d = 0} (at-answer 𝓤 H l0 l1 l2 l3 l4 l5 l6 l7 l8 l9 l10 l11
-        l12 l13) (stop !))) (look-in ! 21 (sub ! {τs = after-fields} 0 {τ = (tyInt w8)} {d = 0} refl (whole !)))) (and-then ! (load !
-        (from ! (fld ! {τ = (tyInt w8)} {d = 1} (at-queue 𝓤 H l0 l1 l2 l3 l4 l5 l6 l7 l8 l9 l10 l11 l12 l13) (stop !))) (look-in ! 21 (sub
-        ! {τs = after-fields} 1 {τ = (tyInt w8)} {d = 1} refl (whole !)))) (and-then ! (load ! (from ! (fld ! {τ = (tyInt w64)} {d = 8}
-        (at-count 𝓤 H l0 l1 l2 l3 l4 l5 l6 l7 l8 l9 l10 l11 l12 l13) (stop !))) (look-in ! 21 (sub ! {τs = after-fields} 2 {τ = (tyInt
-        w64)} {d = 8} refl (whole !)))) (no-more !))))) (from ! (stop !)) (init ! 35 refl (
+        l12 l13 l14) (stop !))) (look-in ! 21 (sub ! {τs = after-fields} 0 {τ = (tyInt w8)} {d = 0} refl (whole !)))) (and-then ! (load !
+        (from ! (fld ! {τ = (tyInt w8)} {d = 1} (at-queue 𝓤 H l0 l1 l2 l3 l4 l5 l6 l7 l8 l9 l10 l11 l12 l13 l14) (stop !))) (look-in ! 21
+        (sub ! {τs = after-fields} 1 {τ = (tyInt w8)} {d = 1} refl (whole !)))) (and-then ! (load ! (from ! (fld ! {τ = (tyInt w64)} {d =
+        8} (at-count 𝓤 H l0 l1 l2 l3 l4 l5 l6 l7 l8 l9 l10 l11 l12 l13 l14) (stop !))) (look-in ! 21 (sub ! {τs = after-fields} 2 {τ =
+        (tyInt w64)} {d = 8} refl (whole !)))) (no-more !))))) (from ! (stop !)) (init ! 37 refl (
           tt,
           (
             record { fits = fields .0 .1 },
-            (
-              record {
-                fits = fields .1 .0 .1;
-              },
-              (record { fits = fields .1 .1 .0 .1 }, tt),
-            ),
+            (record { fits = fields .1 .0 .1 }, (record { fits = fields .1 .1 .0 .1 }, tt)),
           ),
         )) $
         drop ! $ owned ! T.the-row (Is T.the-row) (LL.makes T.the-type T′.the-plain 𝓤 H A) (r .live) _ (fields .1 .1 .1 .0) $ move ! (5 ∷
         0 ∷ 6 ∷ 7 ∷ 8 ∷ []) $ closes ! tt T.the-row (r .live) (LL.vals T.the-type T′.the-laws (r .live)) b o $
-        returns ! (look ! 33 refl) $ forget ! 7 refl $ forget ! 9 refl $ forget ! 11 refl $ forget ! 13 refl $ forget ! 15 refl $ forget !
+        returns ! (look ! 35 refl) $ forget ! 7 refl $ forget ! 9 refl $ forget ! 11 refl $ forget ! 13 refl $ forget ! 15 refl $ forget !
         17 refl $ forget ! 19 refl $ forget ! 21 refl $ forget ! 23 refl $ forget ! 25 refl $ forget ! 27 refl $ forget ! 29 refl $ forget
-        ! 31 refl $ forget ! 33 refl $
-        move ! (33 ∷ 34 ∷ []) $ free1 ! $ move ! (31 ∷ 32 ∷ []) $ free1 ! $ move ! (29 ∷ 30 ∷ []) $ free1 ! $ move ! (27 ∷ 28 ∷ []) $
-        free1 ! $ move ! (25 ∷ 26 ∷ []) $ free1 ! $ move ! (23 ∷ 24 ∷ []) $ free1 ! $ move ! (21 ∷ 22 ∷ []) $ free1 ! $ move ! (19 ∷ 20 ∷
-        []) $ free1 ! $ move ! (17 ∷ 18 ∷ []) $ free1 ! $ move ! (15 ∷ 16 ∷ []) $ free1 ! $ move ! (13 ∷ 14 ∷ []) $ free1 ! $ move ! (11 ∷
-        12 ∷ []) $ free1 ! $ move ! (9 ∷ 10 ∷ []) $ free1 ! $ move ! (7 ∷ 8 ∷ []) $ free1 ! $ free0 ! $
+        ! 31 refl $ forget ! 33 refl $ forget ! 35 refl $
+        move ! (35 ∷ 36 ∷ []) $ free1 ! $ move ! (33 ∷ 34 ∷ []) $ free1 ! $ move ! (31 ∷ 32 ∷ []) $ free1 ! $ move ! (29 ∷ 30 ∷ []) $
+        free1 ! $ move ! (27 ∷ 28 ∷ []) $ free1 ! $ move ! (25 ∷ 26 ∷ []) $ free1 ! $ move ! (23 ∷ 24 ∷ []) $ free1 ! $ move ! (21 ∷ 22 ∷
+        []) $ free1 ! $ move ! (19 ∷ 20 ∷ []) $ free1 ! $ move ! (17 ∷ 18 ∷ []) $ free1 ! $ move ! (15 ∷ 16 ∷ []) $ free1 ! $ move ! (13 ∷
+        14 ∷ []) $ free1 ! $ move ! (11 ∷ 12 ∷ []) $ free1 ! $ move ! (9 ∷ 10 ∷ []) $ free1 ! $ move ! (7 ∷ 8 ∷ []) $ free1 ! $ free0 ! $
         keep ! (0 ∷ 1 ∷ 2 ∷ 3 ∷ 4 ∷ 5 ∷ 6 ∷ []) $ by ! (exits r (zs .1 .0) (zs .1 .1 .0) (zs .1 .1 .1 .0) e same0 same1 same2 (fields .0)
-        (fields .1 .0) (fields .1 .1 .0))))))))))))))))))))))))))
+        (fields .1 .0) (fields .1 .1 .0)))))))))))))))))))))))))))
 
 module _ {M : Type 1} (𝓤 : URA M) (H : Heap 𝓤) (A : Atoms 𝓤) (W : Given 𝓤 H A) (at-mem : Memory → SProp 𝓤) (run : Routine → Fun 𝓤) where
   walks : (C : Calls 𝓤 H) (Λ : Loops 𝓤 H) → FmC 𝓤 H (W .laws) C → Triple 𝓤 (C #g) (By 𝓤 H A at-mem run) → Walks 𝓤 H A f.ended stayed (WpFn
       𝓤 H C Λ code.function) (f.clauses 𝓤 H A at-mem run)
   walks C Λ fm known = walked 𝓤 H A f.ended stayed (f.clauses 𝓤 H A at-mem run) (WpFn 𝓤 H C Λ code.function) (λ κs. (
     ptr-vals,
-    (slice-vals, (slice-vals, (slice-vals, (uint-vals w32, tt)))),
+    (slice-vals, (slice-vals, (slice-vals, (uint-vals w32, (uint-vals w32, tt))))),
   )) (λ κs. (
     mut-tells (named 0) (κs .0) T.the-row,
     (
-      mut-slice-tells
-          (named 1) (κs .1 .0) u64,
+      mut-slice-tells (named 1) (κs .1 .0) u64,
       (
         mut-slice-tells (named 2) (κs .1 .1 .0) u8,
         (
-          mut-slice-tells (named 3) (κs .1 .1 .1 .0) u8,
-          (
-            uint-tells
-                w32,
-            tt,
-          ),
+          mut-slice-tells (named 3) (κs .1 .1 .1
+              .0) u8,
+          (uint-tells w32, (uint-tells w32, tt)),
         ),
       ),
     ),
   ))
       (λ κs qs bounds a g are. needs 𝓤 (FitOwn Direction.Output (a .0 .now) (a .1 .0 .now)) _ (λ fit. walk 𝓤 H A W at-mem run (κs .0) (qs
       .0) (a .0 .ptr .0) (a .0 .ptr .1) (a .0 .name) (a .0 .now) (κs .1 .0) (qs .1 .0) (κs .1 .1 .0) (qs .1 .1 .0) (κs .1 .1 .1 .0) (qs .1
-      .1 .1 .0) (a .1 .0) (a .1 .1 .0) (a .1 .1 .1 .0) (a .1 .1 .1 .1 .0) (are .1 .1 .1 .1 .0 .1) C Λ fm known (are .1 .0 .0 .1) (are .1
-      .1 .0 .0 .1) (are .1 .1 .1 .0 .0 .1) fit))
+      .1 .1 .0) (a .1 .0) (a .1 .1 .0) (a .1 .1 .1 .0) (a .1 .1 .1 .1 .0) (a .1 .1 .1 .1 .1 .0) (are .1 .1 .1 .1 .0 .1) (are .1 .1 .1 .1
+      .1 .0 .1) C Λ fm known (are .1 .0 .0 .1) (are .1 .1 .0 .0 .1) (are .1 .1 .1 .0 .0 .1) fit))
 
   goes : AllGo 𝓤 H A W 4 (f.signature .params) (f.ended .kept) stayed
   goes = (
@@ -440,7 +447,7 @@ module _ {M : Type 1} (𝓤 : URA M) (H : Heap 𝓤) (A : Atoms 𝓤) (W : Given
           goes-gave-slice 𝓤 H A W 4 3 tt (plain (λ _. u8)),
           (
             goes-none 𝓤 H A W 4 (λ _. u32) yes (λ κs x f. refl),
-            tt,
+            (goes-none 𝓤 H A W 4 (λ _. u32) yes (λ κs x f. refl), tt),
           ),
         ),
       ),

@@ -1,7 +1,7 @@
 -- `wekshurag_card_power_up` meets its contract: the description is copied out of its borrow, which is shut again, and passed to
--- `live::power_up`, of which only its contract is known; the board that comes back is stored, and its borrow is closed at it.
--- A walk of the MIR.
-use mathlib.Core.Path.{_≡_, refl, ap}
+-- `live::power_up`, of which only its contract is known; the board that comes back is stored, and its borrow is closed at it. Its lines
+-- are dropped, so it is a card's with any words. A walk of the MIR.
+use mathlib.Core.Path.{_≡_, refl, sym, ap, subst}
 use mathlib.Core.Option.{some}
 use Prim.Native.Nat.{ℕ, _<_, _^_}
 use mathlib.Core.List.{[], _∷_, List}
@@ -44,7 +44,9 @@ use denote.Triple.Table.{entered, cited}
 use denote.Triple.Walked.{says, Stays, stay-none, stay-dropped, stay-ref, walkOf, AllGo, goes-none, goes-dropped, goes-ref}
 use denote.Triple.Walked.{Walks, ends-at, walked, walk-meets}
 use denote.Exit.{yes}
-use Rattle.live.specs.Live.{poweredBoard, Ready}
+use Rattle.live.specs.Live.{poweredBoard, FitBoard}
+use Rattle.meaning.specs.Fit.{Ready}
+use Rattle.meaning.proofs.Fits.{powered-ready}
 use Rattle.live.specs.declared.Board.{Board}
 use Rattle.live.specs.declared.PoweredBoard.{PoweredBoard}
 use Rattle.description.specs.declared.Description.{Description}
@@ -64,6 +66,15 @@ use Rattle.wekshurag.proofs.wekshurag_card_power_up.Statement as stated
 use Rattle.wekshurag.proofs.wekshurag_card_power_up.Code as code
 use Rattle.wekshurag.proofs.wekshurag_card_power_up.Code.Mir.{table}
 
+-- what the callee's contract says of what it returns
+abbrev Powers : Description → ℕ → PoweredBoard → Type 0
+Powers d len r = (r ≡ poweredBoard d len) × FitBoard (r .board .live) (r .board .parts)
+
+is-ready : (d : Description) (len : ℕ) (r : PoweredBoard) → Powers d len r → Ready (r .board)
+is-ready d len r (e, f) =
+    subst (λ (t : PoweredBoard). Ready (t .board)) (sym e)
+    (powered-ready d len (subst (λ (t : PoweredBoard). FitBoard (t .board .live) (t .board .parts)) e f))
+
 -- how what the callee returns lies in memory; the locals, by their places
 abbrev after-fields : Tys
 after-fields = tcons (tyInt w8) (tcons T′.mir tnil)
@@ -80,8 +91,8 @@ module _ {M : Type 1} (𝓤 : URA M) (H : Heap 𝓤) (l0 l1 l2 l3 l4 l5 : ℕ) w
   at-answer : fieldOf ((spotOf 𝓤 H locals 5) .0) 0 ≡ some (tyInt w8, 0)
   at-answer = refl
 
-  at-card : fieldOf ((spotOf 𝓤 H locals 5) .0) 1 ≡ some (T′.mir, 8)
-  at-card = refl
+  at-board : fieldOf ((spotOf 𝓤 H locals 5) .0) 1 ≡ some (T′.mir, 8)
+  at-board = refl
 
 abbrev stayed : Stays (f.ended .signature .params) (f.ended .kept)
 stayed = (
@@ -124,13 +135,14 @@ module _ {M : Type 1} (𝓤 : URA M) (H : Heap 𝓤) (A : Atoms 𝓤) (W : Given
   goes-by = qed W (‵ ftrue ∷ ‵ (owns (D.the-row ∷ usize ∷ []) (d, (len, tt)) (desc ∷ [], (vint w64 len ∷ [], tt))) ∷ []) ∵
       join ! $ frame ! $ done !
 
-  exits : (r : PoweredBoard) → (r ≡ poweredBoard d len) × Ready (r .board) → Is u8 (r .answer) (vint w8 (r .answer) ∷ [])
+  exits : (r : PoweredBoard) → Powers d len r → Is u8 (r .answer) (vint w8 (r .answer) ∷ [])
       → ent 𝓤 (⋆ 𝓤 H A (‵ (fobs γ (T.the-row .coded .code (r .board))) ∷ ‵ (fbor κ (Body (mem T.the-row) b o γ)) ∷ ‵ (flft κ q) ∷
       ‵ (flft κ₁ q₁) ∷ [])) (Post (vint w8 (r .answer)))
   exits r e is-answer =
-      qed W (‵ (fobs γ (T.the-row .coded .code (r .board))) ∷ ‵ (fbor κ (Body (mem T.the-row) b o γ)) ∷ ‵ (flft κ q) ∷ ‵ (flft κ₁ q₁) ∷ []) ∵
+      qed W (‵ (fobs γ (T.the-row .coded .code (r .board))) ∷ ‵ (fbor κ (Body (mem T.the-row) b o γ)) ∷ ‵ (flft κ q) ∷
+      ‵ (flft κ₁ q₁) ∷ []) ∵
       suffices ! _ (ends-at 𝓤 H A f.ended stayed (f.clauses 𝓤 H A at-mem run) W (((κ, (κ₁, tt)), (q, (q₁, tt)), tt, x, at), tt)
-      (vint w8 (r .answer)) (r .answer) (r .board, (tt, (tt, tt))) (tt, (tt, (tt, tt)))) $ says ! e $
+      (vint w8 (r .answer)) (r .answer) (r .board, (tt, (tt, tt))) (tt, (tt, (tt, tt)))) $ says ! (e .0, is-ready d len r e) $
       nothing ! $ move ! (4 ∷ 0 ∷ []) $ join ! $ move ! (3 ∷ 0 ∷ []) $ join ! $ frame ! $
       feqI ! (List Val) (vptr b o ∷ []) (vptr b o ∷ []) refl $ fjoin3 ! $
       nothing ! $ owned ! usize (Is usize) (uint-makes 𝓤 H A W w64) len _ (refl, fits) $ fjoin ! $ nothing ! $ fjoin ! $
@@ -169,8 +181,8 @@ module _ {M : Type 1} (𝓤 : URA M) (H : Heap 𝓤) (A : Atoms 𝓤) (W : Given
         use1 W (later (any (λ (r : PoweredBoard). (‵ ftrue ⊛ ‵ (S.the-row .own r (w ∷ []))) ⊛ raw (ensured 𝓤 H A g.ended
         (g.clauses 𝓤 H A at-mem run) tt (d, (len, tt)) tt r)))) (id⊢ 𝓤 _) $ await ! tt $ pick ! (λ r.
         split ! $ move ! (1 ∷ []) $ use1 W (any (λ (zs : Unit {0} × (Unit {0} × Unit {0})). ‵ (lasts g.ended tt (d, (len, tt)) zs)
-        ⊛ raw (fact 𝓤 ((r ≡ poweredBoard d len) × Ready (r .board))))) (id⊢ 𝓤 _) $ pick ! (λ zs.
-        split ! $ move ! (1 ∷ []) $ heard ! ((r ≡ poweredBoard d len) × Ready (r .board)) (λ e. fsplit ! $ drop ! $ fsplit ! $ drop ! $ drop ! $
+        ⊛ raw (fact 𝓤 (Powers d len r)))) (id⊢ 𝓤 _) $ pick ! (λ zs.
+        split ! $ move ! (1 ∷ []) $ heard ! (Powers d len r) (λ e. fsplit ! $ drop ! $ fsplit ! $ drop ! $ drop ! $
         split ! $ move ! (1 ∷ []) $ peeks ! S.the-row (Is S.the-row) (shows 𝓤 H A S.the-row) r (w ∷ []) (λ is. drop ! $
         -- [true; the description's token; its borrow; the locals; obs (15); the board's borrow; its token]
         let fields = LL.owed S.the-type S′.the-laws r (w ∷ []) is in
@@ -181,7 +193,7 @@ module _ {M : Type 1} (𝓤 : URA M) (H : Heap 𝓤) (A : Atoms 𝓤) (W : Given
         spelt ! T.the-row (Is T.the-row) (shows 𝓤 H A T.the-row) (LL.vals T.the-type T′.the-laws) (LL.tells T.the-type T′.the-laws)
         fullShare h vs b o $
         -- [the board's cell; what it owns; the open borrow; obs; auth; true; the description's token; its borrow; the locals]
-        assigns ! (of-opd ! (load ! (from ! (fld ! {τ = T′.mir} {d = 8} (at-card 𝓤 H l0 l1 l2 l3 l4 l5) (stop !)))
+        assigns ! (of-opd ! (load ! (from ! (fld ! {τ = T′.mir} {d = 8} (at-board 𝓤 H l0 l1 l2 l3 l4 l5) (stop !)))
         (look-in ! 8 (sub ! {τs = after-fields} 1 {τ = T′.mir} {d = 8} refl (whole !))))) (from ! (hop ! (look ! 16 refl) (stop !)))
         (store-raw ! 0 refl (LL.lawful T.the-type T′.the-laws 𝓤 H A W .typed (r .board) _ (fields .1 .0) .0)) $
         assigns ! (of-opd ! (load ! (from ! (fld ! {τ = tyInt w8} {d = 0} (at-answer 𝓤 H l0 l1 l2 l3 l4 l5) (stop !)))

@@ -1,3 +1,0 @@
--- Lines run on small cases.
-pub mod Lines
-pub mod Calls

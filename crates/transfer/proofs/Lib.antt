@@ -1,2 +1,0 @@
--- Laws of the loop over new entries.
-pub mod Laws

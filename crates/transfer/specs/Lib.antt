@@ -1,2 +1,0 @@
--- What a job makes of a stream's queue.
-pub mod Runs
