@@ -11,8 +11,8 @@
  * its end. It is told that a jack was plugged in, records a tenth of a second, stops and releases. Every byte that stream 0 played goes to
  * the file PLAYED, the chime and the voice as WAVE files to CHIME and VOICE: mixed by nobody. Exits with 0 only if all went as it should.
  */
+#include "sounds.h"
 #include "wekshurag.h"
-#include "wekshurag_wave.h"
 
 #include <linux/virtio_config.h>
 #include <linux/virtio_pci.h>
@@ -22,29 +22,16 @@
 #include <stdlib.h>
 #include <string.h>
 
-enum { PAGE = 4096, RAM = 1 << 20, RATE = 48000 };
+enum { PAGE = 4096, RAM = 1 << 20 };
 enum { CHIME, VOICE, OUTPUTS, MICROPHONE = OUTPUTS, STREAMS };
-enum { PERIOD = RATE / 100 * 4 }; /* bytes of 10 ms of stereo, in 16-bit samples */
-enum { CHIME_FRAMES = RATE, VOICE_FRAMES = RATE / 100 * 120, SILENT_FRAMES = 65486 };
-
-static const uint8_t channels[STREAMS] = {2, 1, 2};
-
-/* The bytes of 10 ms of a stream. */
-static uint32_t period(uint32_t stream)
-{
-    return PERIOD / 2u * channels[stream];
-}
-
-static void fail(const char *what)
-{
-    fprintf(stderr, "monitor: %s\n", what);
-    exit(1);
-}
+enum { PERIOD = RATE / 100 * FRAME, SILENT_FRAMES = 65486 }; /* a period is 10 ms */
 
 static void expect(bool ok, const char *what)
 {
-    if (!ok)
-        fail(what);
+    if (!ok) {
+        fprintf(stderr, "monitor: %s\n", what);
+        exit(1);
+    }
 }
 
 /* ======== the monitor ============================================================================================================= */
@@ -78,11 +65,8 @@ static void plug_in(void)
         .jacks = {{.nid = 1, .defconf = 0x0121401f}},
     };
     for (uint32_t i = 0; i < STREAMS; i++)
-        d.streams[i] = (struct wekshurag_stream){.nid = 2 + i,
-                                                 .formats = 1u << VIRTIO_SND_PCM_FMT_S16,
-                                                 .rates = 1u << VIRTIO_SND_PCM_RATE_48000,
-                                                 .channels_min = 1,
-                                                 .channels_max = 2};
+        d.streams[i] = (struct wekshurag_stream){
+            2 + i, 0, 1u << VIRTIO_SND_PCM_FMT_S16, 1u << VIRTIO_SND_PCM_RATE_48000, .channels_min = 1, .channels_max = 2};
     ram = aligned_alloc(PAGE, RAM);
     expect(ram != NULL, "no memory");
     memset(ram, 0, RAM);
@@ -129,9 +113,9 @@ static size_t host_plays(uint32_t stream)
     struct output *o = &outputs[stream];
     uint8_t host[PERIOD] = {0};
     struct wekshurag_result r;
-    if (o->backlog > 2 * period(stream))
-        o->backlog = 2 * period(stream);
-    r = wekshurag_play(&card, stream, ram, RAM, host, period(stream), o->backlog);
+    if (o->backlog > 2 * PERIOD)
+        o->backlog = 2 * PERIOD;
+    r = wekshurag_play(&card, stream, ram, RAM, host, PERIOD, o->backlog);
     set_line();
     if (r.answer != WEKSHURAG_DONE && r.answer != WEKSHURAG_NOT_RUNNING)
         log_answer("play", r);
@@ -140,13 +124,6 @@ static size_t host_plays(uint32_t stream)
     o->len += r.count;
     o->backlog += (uint32_t)r.count;
     return r.count;
-}
-
-/* Each stream has a device and a clock of its own; the voice's is a little ahead of the chime's. */
-static size_t host_ticks(void)
-{
-    size_t voice = host_plays(VOICE);
-    return voice + host_plays(CHIME);
 }
 
 /* 10 ms of sound were recorded, and none wait behind them. What the guest has no place for is lost. */
@@ -183,13 +160,9 @@ static void lay_out(struct queue *q, uint16_t number, uint32_t page, uint16_t pi
     guest_writes(VIRTIO_PCI_QUEUE_PFN, 4, page);
 }
 
-struct piece {
-    const void *at;
-    uint32_t len;
-    bool device_writes;
-};
+struct piece { const void *at; uint32_t len; bool device_writes; };
 
-/* Message i, which has descriptors of its own: messages of different streams come back in any order. */
+/* Message i, which has descriptors of its own, since messages of different streams come back in any order; and the bell. */
 static void put(struct queue *q, uint16_t i, const struct piece *pieces)
 {
     uint16_t head = (uint16_t)(i * q->pieces);
@@ -202,10 +175,6 @@ static void put(struct queue *q, uint16_t i, const struct piece *pieces)
     }
     q->avail->ring[q->put % q->size] = head;
     q->avail->idx = ++q->put; /* across threads: a write barrier stands before this */
-}
-
-static void ring(const struct queue *q)
-{
     guest_writes(VIRTIO_PCI_QUEUE_NOTIFY, 2, q->number);
 }
 
@@ -226,18 +195,16 @@ static uint32_t request(const void *message, uint32_t len, void *answer, uint32_
     uint32_t status, n;
     memcpy(from, message, len);
     put(&controlq, 0, (struct piece[]){{from, len, false}, {to, 4 + room, true}});
-    ring(&controlq);
     expect(get(&controlq, &n) == 0 && n >= 4, "a reply has no status");
     memcpy(&status, to, 4);
-    if (room)
-        memcpy(answer, to + 4, room);
+    memcpy(answer, to + 4, room);
     return status;
 }
 
 static void command(uint32_t code, uint32_t stream)
 {
     struct virtio_snd_pcm_hdr h = {{code}, stream};
-    expect(request(&h, sizeof h, NULL, 0) == VIRTIO_SND_S_OK, "a command was refused");
+    expect(request(&h, sizeof h, &h, 0) == VIRTIO_SND_S_OK, "a command was refused");
 }
 
 static void negotiate(void)
@@ -264,9 +231,9 @@ static void start(uint32_t stream)
     struct virtio_snd_pcm_info info;
     struct virtio_snd_pcm_set_params p = {
         .hdr = {{VIRTIO_SND_R_PCM_SET_PARAMS}, stream},
-        .buffer_bytes = 4 * period(stream),
-        .period_bytes = period(stream),
-        .channels = channels[stream],
+        .buffer_bytes = 4 * PERIOD,
+        .period_bytes = PERIOD,
+        .channels = 2,
         .format = VIRTIO_SND_PCM_FMT_S16,
         .rate = VIRTIO_SND_PCM_RATE_48000,
     };
@@ -274,15 +241,14 @@ static void start(uint32_t stream)
     printf("stream %u: %s, %u to %u channels, formats %#llx, rates %#llx\n", stream,
            info.direction == VIRTIO_SND_D_INPUT ? "input" : "output", info.channels_min, info.channels_max,
            (unsigned long long)info.formats, (unsigned long long)info.rates);
-    expect(request(&p, sizeof p, NULL, 0) == VIRTIO_SND_S_OK, "SET_PARAMS was refused");
+    expect(request(&p, sizeof p, &p, 0) == VIRTIO_SND_S_OK, "SET_PARAMS was refused");
     command(VIRTIO_SND_R_PCM_PREPARE, stream);
     command(VIRTIO_SND_R_PCM_START, stream);
 }
 
 static void stop(uint32_t stream)
 {
-    command(VIRTIO_SND_R_PCM_STOP, stream);
-    command(VIRTIO_SND_R_PCM_RELEASE, stream);
+    command(VIRTIO_SND_R_PCM_STOP, stream), command(VIRTIO_SND_R_PCM_RELEASE, stream);
 }
 
 /* Where the guest keeps message i of the play or of the capture queue: header, sound, status. */
@@ -307,14 +273,6 @@ static struct track {
 } tracks[OUTPUTS];
 
 static uint16_t idle[SLOTS], idles; /* the slots that are free */
-static uint16_t place[SLOTS];       /* the place in the ring of the message in a slot */
-static unsigned overtaken;          /* messages that came back in another place */
-
-static void load(uint32_t stream, const void *sound, size_t n, uint32_t each)
-{
-    tracks[stream] = (struct track){.sound = sound, .left = n, .each = each};
-}
-
 /* A message of each stream in turn, while there is sound and a slot. */
 static void put_sound(void)
 {
@@ -325,13 +283,11 @@ static void put_sound(void)
         if (t->left == 0)
             continue;
         idles--;
-        place[i] = playq.put;
         s->header.stream_id = stream;
         memcpy(s->sound, t->sound, t->each);
         put(&playq, i, (struct piece[]){{&s->header, 4, false}, {s->sound, t->each, false}, {&s->status, 8, true}});
         t->sound += t->each, t->left -= t->each, t->waiting++;
     }
-    ring(&playq);
 }
 
 /* The guest's interrupt handler: each message that came back is found by its head. */
@@ -347,17 +303,18 @@ static void get_back(void)
         expect(len == 8 && s->status.status == VIRTIO_SND_S_OK, "a buffer was not played");
         t->latency = s->status.latency_bytes;
         t->waiting--;
-        overtaken += place[i] != (uint16_t)(playq.got - 1);
         idle[idles++] = i;
     }
 }
 
-/* Both streams go on until all of this one has come back. */
+/* The host's clock goes on for both streams, the voice first, until all of this one has come back. */
 static void play_out(uint32_t stream)
 {
     while (tracks[stream].left + tracks[stream].waiting > 0) {
+        size_t voice;
         put_sound();
-        expect(host_ticks() > 0, "the guest's sound is not played");
+        voice = host_plays(VOICE);
+        expect(host_plays(CHIME) + voice > 0, "the guest's sound is not played");
         get_back();
     }
 }
@@ -372,7 +329,6 @@ static void record(uint16_t n)
         s->header.stream_id = MICROPHONE;
         put(&captureq, i, (struct piece[]){{&s->header, 4, false}, {s->sound, PERIOD, true}, {&s->status, 8, true}});
     }
-    ring(&captureq);
     for (uint16_t i = 0; i < n; i++) {
         const struct slot *s = slot(&captureq, i);
         for (size_t j = 0; j < PERIOD; j++)
@@ -391,7 +347,6 @@ static void jack(void)
     struct wekshurag_result r;
     uint32_t len;
     put(&eventq, 0, (struct piece[]){{e, sizeof *e, true}});
-    ring(&eventq);
     r = wekshurag_event(&card, ram, RAM, WEKSHURAG_JACK_CONNECTED, 0);
     set_line();
     expect(r.answer == WEKSHURAG_DONE && get(&eventq, &len) == 0 && len == 8, "the event did not arrive");
@@ -400,58 +355,10 @@ static void jack(void)
     guest_reads(VIRTIO_PCI_ISR, 1);
 }
 
-/* Two notes that fade away, the second half a second behind the first: each a resonator that is struck once. */
-static void chime(int16_t sound[CHIME_FRAMES][2])
-{
-    double a = 0, a1 = 0, b = 0, b1 = 0, t;
-    for (int i = 0; i < CHIME_FRAMES; i++) {
-        t = 1.9924330396378815 * a - 0.9998750078121744 * a1 + (i == 0 ? 800 : 0);
-        a1 = a, a = t;
-        t = 1.9952190370876004 * b - 0.9999083375345938 * b1 + (i == CHIME_FRAMES / 2 ? 800 : 0);
-        b1 = b, b = t;
-        sound[i][0] = (int16_t)(a + b / 2);
-        sound[i][1] = (int16_t)(a / 2 + b);
-    }
-}
-
-/* Two vowels, as in "father" and in "law": 120 pulses a second, through a resonator for each of three formants. */
-static void voice(int16_t sound[VOICE_FRAMES])
-{
-    static const double vowels[2][3][2] = {{{1.979183, 0.988288}, {1.965475, 0.985704}, {1.877841, 0.977993}},
-                                           {{1.984020, 0.989583}, {1.974953, 0.986995}, {1.880265, 0.977993}}};
-    double y[3][2] = {{0}};
-    for (int i = 0; i < VOICE_FRAMES; i++) {
-        double sum = 0;
-        for (int k = 0; k < 3; k++) {
-            const double *formant = vowels[i / (VOICE_FRAMES / 2)][k];
-            double t = formant[0] * y[k][0] - formant[1] * y[k][1] + (i % (RATE / 120) == 0 ? 1000 : 0);
-            y[k][1] = y[k][0], y[k][0] = t;
-            sum += t / (k + 1);
-        }
-        sound[i] = (int16_t)sum;
-    }
-}
-
-/* A file of the header's bytes and then the sound's. */
-static void write_file(const char *path, const uint8_t *header, size_t header_len, const uint8_t *sound, size_t n)
-{
-    FILE *f = fopen(path, "wb");
-    expect(f && fwrite(header, 1, header_len, f) == header_len && fwrite(sound, 1, n, f) == n && fclose(f) == 0, "a file can't be written");
-}
-
-static void write_wave(const char *path, uint32_t stream, const uint8_t *sound, size_t n)
-{
-    uint8_t header[WEKSHURAG_WAVE_HEADER];
-    expect(wekshurag_wave_header(WEKSHURAG_WAVE_FMT_S16, channels[stream], VIRTIO_SND_PCM_RATE_48000, n, header, sizeof header)
-               == WEKSHURAG_WAVE_DONE,
-           "no header for a WAVE file");
-    write_file(path, header, sizeof header, sound, n);
-}
-
 int main(int argc, char **argv)
 {
-    static const uint8_t silence[SILENT_FRAMES][4];
-    static int16_t bell[CHIME_FRAMES][2], words[VOICE_FRAMES];
+    static const uint8_t silence[SILENT_FRAMES][FRAME];
+    static int16_t bell[CHIME_FRAMES][2], words[VOICE_FRAMES][2];
     const struct output *o = &outputs[CHIME], *v = &outputs[VOICE];
     chime(bell);
     voice(words);
@@ -461,24 +368,22 @@ int main(int argc, char **argv)
         idle[idles++] = i;
     start(CHIME);
     start(VOICE);
-    load(CHIME, silence, sizeof silence, sizeof silence[0]);
+    tracks[CHIME] = (struct track){.sound = silence[0], .left = sizeof silence, .each = FRAME};
     play_out(CHIME);
     printf("lead-in: %u buffers of one frame; the ring's index is %u\n", (unsigned)SILENT_FRAMES, playq.avail->idx);
-    load(CHIME, bell, sizeof bell, period(CHIME));
-    load(VOICE, words, sizeof words, period(VOICE));
+    tracks[CHIME] = (struct track){.sound = (const uint8_t *)bell, .left = sizeof bell, .each = PERIOD};
+    tracks[VOICE] = (struct track){.sound = (const uint8_t *)words, .left = sizeof words, .each = PERIOD};
     play_out(CHIME);
     printf("chime and voice at once; the index rolled over to %u; latency %u and %u bytes\n", playq.avail->idx, tracks[CHIME].latency,
            tracks[VOICE].latency);
-    expect(overtaken > 0, "every message came back in its turn");
     stop(CHIME);
     expect(tracks[VOICE].waiting == 20 && playq.used->idx == playq.got, "the voice does not wait while the chime is released");
     play_out(VOICE);
-    printf("chime released while 20 buffers of the voice waited, which then were played; %u came back out of turn\n", overtaken);
+    printf("chime released while 20 buffers of the voice waited, which then were played\n");
     for (uint32_t stream = 0; stream < OUTPUTS; stream++)
-        expect(tracks[stream].latency == 2 * period(stream), "the guest is told another latency than the device has");
-    expect(o->len == sizeof silence + sizeof bell && memcmp(o->heard, silence, sizeof silence) == 0
-               && memcmp(o->heard + sizeof silence, bell, sizeof bell) == 0,
-           "what is heard is not the chime that the guest played");
+        expect(tracks[stream].latency == 2 * PERIOD, "the guest is told another latency than the device has");
+    expect(o->len == sizeof silence + sizeof bell && memcmp(o->heard, silence, sizeof silence) == 0, "the lead-in is heard otherwise");
+    expect(memcmp(o->heard + sizeof silence, bell, sizeof bell) == 0, "what is heard is not the chime that the guest played");
     expect(v->len == sizeof words && memcmp(v->heard, words, sizeof words) == 0, "what is heard is not the voice that the guest played");
     jack();
     start(MICROPHONE);
@@ -487,12 +392,9 @@ int main(int argc, char **argv)
     stop(VOICE);
     stop(MICROPHONE);
     printf("stopped and released; %zu and %zu bytes played, each as the guest put it; %lu interrupts\n", o->len, v->len, interrupts);
-    if (argc > 1)
-        write_file(argv[1], o->heard, 0, o->heard, o->len);
-    if (argc > 2)
-        write_wave(argv[2], CHIME, o->heard + sizeof silence, sizeof bell);
-    if (argc > 3)
-        write_wave(argv[3], VOICE, v->heard, v->len);
+    expect(argc < 2 || write_file(argv[1], o->heard, 0, o->heard, o->len), "PLAYED can't be written");
+    expect(argc < 3 || write_wave(argv[2], o->heard + sizeof silence, sizeof bell), "CHIME can't be written");
+    expect(argc < 4 || write_wave(argv[3], v->heard, v->len), "VOICE can't be written");
     free(ram);
     return 0;
 }

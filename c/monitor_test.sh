@@ -8,8 +8,8 @@ grep -q 'rolled over to 170' "$out/monitor.out"
 test "$(wc -c < "$out/played.raw")" -eq 453944
 tail -c 192000 "$out/played.raw" > "$out/chime.raw"
 tail -c +45 "$out/chime.wav" | cmp - "$out/chime.raw"
-# 1.2 seconds of mono, whose last fifth of a second was played after the chime's stream was released
-test "$(wc -c < "$out/voice.wav")" -eq 115244
+# 1.2 seconds, whose last fifth of a second was played after the chime's stream was released
+test "$(wc -c < "$out/voice.wav")" -eq 230444
 for file in chime voice; do
     test "$(head -c 4 "$out/$file.wav")" = RIFF
 done
