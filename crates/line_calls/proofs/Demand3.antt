@@ -19,6 +19,7 @@ use Rattle.queue_lines.specs.Counters.{Queue}
 use Rattle.queue_lines.specs.Histories.{History, lineAt, historiesOf}
 use Rattle.queue_lines.specs.Turn.{Book}
 use Rattle.queue_lines.proofs.Reading.{answered-or-standing, taken-count, in-order, heads-in-order, unread-waits}
+use Rattle.queue_lines.proofs.Said.{said, written-out}
 use Rattle.line_calls.specs.Calls.{Call, step}
 use Rattle.line_calls.specs.Claim.{card, account, start, after, heard, counted}
 use Rattle.line_calls.specs.Demand3.{EachCall, OfQueue, OfStream, Demand3}
@@ -47,6 +48,7 @@ module _ (d : Direction) (n : ℕ) (w : ℕ → List ℕ) (h : History) (g : Goo
         numbered = g .numbered;
         once = answered-or-standing d n w h g;
         answers = b .answers;
+        says = said d (h .entries) (b .answers);
         within = omega (arith, taken-count d n w h g);
         rollover = λ made below above. rw e (rolls made (length (h .takings)) (sizeOf (queueNumber d)) below above (small d));
       }
@@ -111,5 +113,6 @@ demand-3 d len cs =
           (counted n (card n) q id 0 (start n (card n) d len) cs)
           (ap (λ (s : ℕ). heard n (card n) q s [] (start n (card n) d len) cs) e)
           (ap (λ (s : ℕ). counted n (card n) q s 0 (start n (card n) d len) cs) (sym e) ∙ all .adds q i);
+      written-out = written-out;
       remembered = remembers n (card n) d len cs;
     }

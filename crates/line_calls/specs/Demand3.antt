@@ -32,7 +32,8 @@ use Rattle.queue_lines.specs.Claim.{queueOf, headsOf, joinedTo, answersOf, isTa
 use Rattle.queue_lines.specs.Counters.{Queue, sumOf, lineIn}
 use Rattle.queue_lines.specs.Histories.{Taken, Answer, Line, History, lineAt, standing}
 use Rattle.queue_lines.specs.Parts.{Part, clears, transfers, releases}
-use Rattle.queue_lines.specs.Turn.{Answers, Waits, Ordered}
+use Rattle.queue_lines.specs.Said.{Says, writtenOut}
+use Rattle.queue_lines.specs.Turn.{Answers, Waits, Ordered, written}
 use Rattle.line_calls.specs.Account.{partIn, Turn, transferOf}
 use Rattle.line_calls.specs.Backlog.{lastBacklog}
 use Rattle.line_calls.specs.Calls.{Call, step, Control, orderOf, virtqueueOf, releaseQueue}
@@ -120,6 +121,8 @@ pub record OfQueue (d : Direction) (h : History) (q : Queue) : Type 0 where
       → sumOf (λ (a : Answer). isTaking t (a .taken)) (h .entries) + sumOf (λ (l : Line). sumOf (isTaking t) (standing l)) (h .lines) ≡ 1
   -- each by the chain that was read, in one of three ways
   pub answers : Each (λ (a : Answer). Answers d (a .chain) (a .entry)) (h .entries)
+  -- .. which in 01's own numbers are four
+  pub says : Each (Says d) (h .entries)
   -- no more than N are in line
   pub within : length (h .takings) ≤ length (h .entries) + sizeOf (queueNumber d)
   -- of a driver that has made `made` buffers available in all, the card sees exactly those not taken yet
@@ -185,6 +188,8 @@ pub record Demand3 (d : Description) (len : ℕ) (cs : List Call) : Type 0 where
       let k = start n (card n) d len in
       OfStream q (id - firstOf n q) (queueFor q (after n (account n) (start n (account n) d len) cs)) (heard n (card n) q id [] k cs)
       (counted n (card n) q id 0 k cs)
+  -- what an entry's writing leaves in memory (`Turn`), in 01's own numbers
+  pub written-out : (v : Virtqueue) (k : ℕ) (a : Answer) (m : List ℕ) → written v k a m ≡ writtenOut v k a m
   -- order 5: the backlog that a Release's statuses carry
   pub remembered :
       (id : ℕ)

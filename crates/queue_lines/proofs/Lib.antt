@@ -20,3 +20,4 @@ pub mod Within
 pub mod Holds
 pub mod Reading
 pub mod Table
+pub mod Said

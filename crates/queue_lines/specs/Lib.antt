@@ -11,3 +11,4 @@ pub mod Writes
 pub mod Shown
 pub mod Parts
 pub mod Table
+pub mod Said
