@@ -422,8 +422,16 @@ fn answer(
     match control::read(m, list, pending, request, bytes) {
         Reading::Refused(posted) => Answered::Completed(posted),
         Reading::Informs(l) => {
-            let current = live::parts_now(live, parts);
-            Answered::Completed(requests::inform(m, list, current, pending, l, bytes, reply.bytes))
+            Answered::Completed(requests::inform(
+                m,
+                list,
+                live,
+                parts,
+                pending,
+                l,
+                bytes,
+                reply.bytes,
+            ))
         }
         Reading::Remaps => Answered::Remaps(message),
         Reading::Commands(command) => Answered::Commands(message, command),
@@ -474,30 +482,37 @@ pub fn control(
         Turn::Over(ending) => finish(live, parts, ending),
         Turn::Taken(answered) => {
             let taken = take_one(live);
+            // What `change` answers has a place of its own: parts that stay as they were are copied once less.
             match answered {
                 Answered::Completed(posted) => finish(taken, parts, Ending::Completed(posted)),
-                Answered::Remaps(message) => change(
-                    taken,
-                    parts,
-                    play_words,
-                    capture_words,
-                    m,
-                    &words,
-                    message,
-                    Change::Remap,
-                    &bytes,
-                ),
-                Answered::Commands(message, command) => change(
-                    taken,
-                    parts,
-                    play_words,
-                    capture_words,
-                    m,
-                    &words,
-                    message,
-                    Change::Pcm(command),
-                    &bytes,
-                ),
+                Answered::Remaps(message) => {
+                    let changed = change(
+                        taken,
+                        parts,
+                        play_words,
+                        capture_words,
+                        m,
+                        &words,
+                        message,
+                        Change::Remap,
+                        &bytes,
+                    );
+                    changed
+                }
+                Answered::Commands(message, command) => {
+                    let changed = change(
+                        taken,
+                        parts,
+                        play_words,
+                        capture_words,
+                        m,
+                        &words,
+                        message,
+                        Change::Pcm(command),
+                        &bytes,
+                    );
+                    changed
+                }
             }
         }
     }

@@ -7,21 +7,22 @@ use native.Mathlib.Nat.{zero-add, add-comm, suc-mul}
 use native.Mathlib.Omega.{arith}
 use lib.ListN.{length, getD, set, take, drop, replicate, length-take, length-map, length-append, length-replicate}
 use Rattle.description.specs.declared.MapInfo.{MapInfo}
-use lib.Seq.{take-all, take-at, drop-at, take-add, take-take, take-set-le, length-take-le, drop-append-le, sets, sets-eq, length-sets}
-use lib.Seq.{drop-cons, getD-take}
+use lib.Seq.{take-all, take-at, sets, sets-eq, drop-cons, getD-take}
 use Rattle.memory.specs.Bytes.{put}
 use Rattle.card.specs.Card.{noStream}
 use Rattle.card.specs.declared.Stream.{Stream}
 use Rattle.card.specs.Fit.{FitParts}
 use Rattle.card.specs.declared.Parts.{Parts}
-use Rattle.rules.specs.Control.{fitted, jackItem, noJack, pcmItemOf, pcmItemsBy, mapItem, joined}
+use Rattle.live.specs.Live.{jackNow, streamOf, streamsNow, partsNow}
+use Rattle.live.specs.declared.Live.{Live}
+use Rattle.rules.specs.Control.{fitted, jackItem, noJack, pcmItemOf, pcmItemsBy, mapItem, joined, naturalSize}
 use Rattle.ranges.specs.Ranges.{bytesAt, upFrom}
 use Rattle.ranges.proofs.Laws.{take-append, bytesAt-upFrom}
 use Rattle.line_calls.specs.Streams.{streamsIn, directionNumber}
 use Rattle.rules.specs.declared.Listing.{Listing}
 use Rattle.rules.specs.declared.Listing.the-variants.{Jacks, Streams, Maps}
 use Rattle.device.specs.Device.{bytesOf}
-use Rattle.information.specs.Items.{itemsIn, laid, fourOf, streamItem, sixOf, jackBytes, mapBytes, emptyMap, WholeMaps, Holds, row}
+use Rattle.information.specs.Items.{itemsIn, directionIn, jackBytes, mapBytes, emptyMap}
 
 -- ---- items
 
@@ -65,17 +66,24 @@ fitted-split size xs = rw (take-append size xs (replicate size 0), take-zeros (s
 pub length-fitted : (size : ℕ) (xs : List ℕ) → length (fitted size xs) ≡ size
 length-fitted size xs = rw (fitted-split size xs, length-append, length-take, length-replicate) (omega arith)
 
--- as many items as are listed, each of this size
+-- so many items from one on, each of this size
+abbrev pub rowOf : ℕ → List (List ℕ) → ℕ → ℕ → List ℕ
+rowOf size items i n = joined (take n (drop i (map (fitted size) items)))
+
+pub row-next : (size : ℕ) (items : List (List ℕ)) (n k i : ℕ) → n ≡ k + 1 → i < length items
+    → rowOf size items i n ≡ fitted size (getD items i []) ++ rowOf size items (i + 1) k
+row-next size items n k i e h =
+    let inside : i < length (map (fitted size) items) = rw length-map h in
+    rw (joined-next (map (fitted size) items) n k i e inside, getD-map (fitted size) [] [] items i h)
+
 pub length-items : (size : ℕ) (items : List (List ℕ)) (count start : ℕ) → start + count ≤ length items
-    → length (joined (take count (drop start (map (fitted size) items)))) ≡ count * size
+    → length (rowOf size items start count) ≡ count * size
 length-items size items zero start h = omega arith
 length-items size items (suc k) start h =
-    let n : start < length (map (fitted size) items) = rw length-map (omega arith) in
     let e : size + k * size ≡ suc k * size = add-comm size (k * size) ∙ sym (suc-mul k size) in
     rw (
-      joined-next (map (fitted size) items) (suc k) k start (sym (add-one k)) n,
+      row-next size items (suc k) k start (sym (add-one k)) (omega arith),
       length-append,
-      getD-map (fitted size) [] [] items start (omega arith),
       length-fitted size (getD items start []),
       length-items size items k (start + 1) (omega arith),
       e,
@@ -128,139 +136,63 @@ module _ (direction : ℕ → ℕ) (k : ℕ) (l : List Stream) (i : ℕ) (h : i 
   pub listed-stream : getD (pcmItemsBy direction 0 (take k l)) i [] ≡ pcmItemOf (direction i) (getD l i noStream)
   listed-stream = rw (getD-pcmItems direction 0 (take k l) i among, zero-add, getD-take k l i noStream (streams-inside .0))
 
-pub few-items : (l : Listing) (p : Parts) → FitParts p → length (itemsIn l p) ≤ 6
+-- how many items a listing can have
+abbrev pub most : Listing → ℕ
+most Jacks = 4
+most Streams = 6
+most Maps = 4
+
+pub most-six : (l : Listing) → most l ≤ 6
+most-six Jacks = omega arith
+most-six Streams = omega arith
+most-six Maps = omega arith
+
+pub few-items : (l : Listing) (p : Parts) → FitParts p → length (itemsIn l p) ≤ most l
 few-items Jacks p f = rw (length-map, length-take) (omega arith)
 few-items Streams p f = rw (length-pcmItems (directionNumber (streamsIn p)) 0, length-take) (omega arith)
 few-items Maps p f = rw (length-map, length-take) (omega arith)
 
--- ---- items in a buffer
+-- ---- the bytes of an item
 
-module _ {A : Type 0} where
-  take-sets : (vs l : List A) (i n : ℕ) → n ≤ i → take n (sets l i vs) ≡ take n l
-  take-sets [] l i n h = refl
-  take-sets (v ∷ vs) l i n h = take-sets vs (set l i v) (suc i) n (omega arith) ∙ take-set-le n l i v h
+-- 32 bytes that begin with the item at i of a listing
+abbrev pub Begins : Listing → Parts → ℕ → List ℕ → Type 0
+Begins l p i bs = (length bs ≡ 32) × (take (naturalSize l) bs ≡ getD (itemsIn l p) i [])
 
-  -- what two lists with one front hold there
-  same-inside : (xs ys : List A) (at k : ℕ) → at ≤ length xs → at ≤ length ys → take (at + k) xs ≡ take (at + k) ys
-      → take k (drop at xs) ≡ take k (drop at ys)
-  same-inside xs ys at k h g e =
-      sym (drop-at (take at xs) (take k (drop at xs)) at (length-take-le at xs h))
-      ∙ ap (drop at) (sym (take-add at k xs) ∙ e ∙ take-add at k ys)
-      ∙ drop-at (take at ys) (take k (drop at ys)) at (length-take-le at ys g)
+-- .. where it is known which listing it is, and which bytes
+pub begins : (l k : Listing) (p : Parts) (i : ℕ) (bs cs : List ℕ) → l ≡ k → bs ≡ cs → i < length (itemsIn l p)
+    → (i < length (itemsIn k p) → Begins k p i cs) → Begins l p i bs
+begins l k p i bs cs e b h f = let g : i < length (itemsIn k p) = rw e at h in rw (e, b) (f g)
 
--- what stands in front of a place stays
-front-kept : (xs : List (List ℕ)) (bs : List ℕ) (at n : ℕ) → n ≤ at → take n (laid bs at xs) ≡ take n bs
-front-kept [] bs at n h = refl
-front-kept (x ∷ xs) bs at n h = front-kept xs (sets bs at x) (at + 32) n (omega arith) ∙ take-sets x bs at n h
+-- a stream as it is has its place
+stream-now : (v : Live) (l : List Stream) (i : ℕ) → i < 6 → getD (streamsNow v l) i noStream ≡ streamOf v l i
+stream-now v l zero h = refl
+stream-now v l (suc zero) h = refl
+stream-now v l (suc (suc zero)) h = refl
+stream-now v l (suc (suc (suc zero))) h = refl
+stream-now v l (suc (suc (suc (suc zero)))) h = refl
+stream-now v l (suc (suc (suc (suc (suc zero))))) h = refl
+stream-now v l (suc (suc (suc (suc (suc (suc i)))))) h = absurd (omega arith)
 
-length-laid : (xs : List (List ℕ)) (bs : List ℕ) (at : ℕ) → length (laid bs at xs) ≡ length bs
-length-laid [] bs at = refl
-length-laid (x ∷ xs) bs at = length-laid xs (sets bs at x) (at + 32) ∙ length-sets bs at x
-
--- an item stands where it was put
-put-there : (bs x : List ℕ) (at : ℕ) → length x ≡ 32 → at + 32 ≤ length bs → take 32 (drop at (sets bs at x)) ≡ x
-put-there bs x at h g =
-    let front = take at bs ++ x in
-    let end = drop (at + length x) bs in
-    let n : length (take at bs) ≡ at = length-take-le at bs (omega arith) in
-    let long : at ≤ length front = rw length-append (omega (arith, n)) in
-    ap (λ (r : List ℕ). take 32 (drop at r)) (sets-eq x bs at (omega arith))
-    ∙ ap (take 32) (drop-append-le at front end long ∙ ap (λ (r : List ℕ). r ++ end) (drop-at (take at bs) x at n))
-    ∙ take-at x end 32 h
-
-pub laid-there : (xs : List (List ℕ)) (bs : List ℕ) (at i : ℕ) → ((k : ℕ) → k < length xs → length (getD xs k []) ≡ 32)
-    → at + 32 * length xs ≤ length bs → i < length xs
-    → take 32 (drop (at + 32 * i) (laid bs at xs)) ≡ getD xs i []
-laid-there [] bs at i long h g = absurd (omega arith)
-laid-there (x ∷ xs) bs at zero long h g =
-    let e : at + 32 * 0 ≡ at = omega arith in
-    let s = sets bs at x in
-    let n = length-laid xs s (at + 32) in
-    let m = length-sets bs at x in
-    rw e (same-inside (laid s (at + 32) xs) s at 32 (omega (arith, n, m)) (omega (arith, m))
-    (front-kept xs s (at + 32) (at + 32) (omega arith))
-    ∙ put-there bs x at (long 0 (omega arith)) (omega arith))
-laid-there (x ∷ xs) bs at (suc i) long h g =
-    let e : at + 32 * suc i ≡ at + 32 + 32 * i = omega arith in
-    let m = length-sets bs at x in
-    rw e (laid-there xs (sets bs at x) (at + 32) i (λ k b. long (suc k) (omega arith)) (omega (arith, m)) (omega arith))
-
-four-at : {A : Type 0} (f : A → List ℕ) (d : A) (l : List A) (i : ℕ) → i < 4 → getD (fourOf f d l) i [] ≡ f (getD l i d)
-four-at f d l zero h = refl
-four-at f d l (suc zero) h = refl
-four-at f d l (suc (suc zero)) h = refl
-four-at f d l (suc (suc (suc zero))) h = refl
-four-at f d l (suc (suc (suc (suc i)))) h = absurd (omega arith)
-
-six-at : (outputs : ℕ) (l : List Stream) (i : ℕ) → i < 6 → getD (sixOf outputs l) i [] ≡ streamItem outputs l i
-six-at outputs l zero h = refl
-six-at outputs l (suc zero) h = refl
-six-at outputs l (suc (suc zero)) h = refl
-six-at outputs l (suc (suc (suc zero))) h = refl
-six-at outputs l (suc (suc (suc (suc zero)))) h = refl
-six-at outputs l (suc (suc (suc (suc (suc zero))))) h = refl
-six-at outputs l (suc (suc (suc (suc (suc (suc i)))))) h = absurd (omega arith)
-
--- the first bytes of an item at its place
-cut-there : (xs : List (List ℕ)) (bs : List ℕ) (natural i : ℕ) → ((k : ℕ) → k < length xs → length (getD xs k []) ≡ 32)
-    → 32 * length xs ≤ length bs → i < length xs → natural ≤ 32
-    → take natural (drop (32 * i) (laid bs 0 xs)) ≡ take natural (getD xs i [])
-cut-there xs bs natural i long h g n =
-    let e : 0 + 32 * i ≡ 32 * i = omega arith in
-    sym (take-take natural 32 (drop (32 * i) (laid bs 0 xs)) n)
-    ∙ ap (take natural) (rw e at (laid-there xs bs 0 i long (omega arith) g))
-
-module _ (p : Parts) (f : FitParts p) (bs : List ℕ) (b : length bs ≡ 192) where
-  pub jacks-held : Holds 24 (itemsIn Jacks p) (laid bs 0 (fourOf jackBytes noJack (p .jacks)))
+module _ (v : Live) (p : Parts) (i : ℕ) where
+  pub jack-begins : i < length (itemsIn Jacks (partsNow v p))
+      → Begins Jacks (partsNow v p) i (jackBytes (jackNow (v .fresh) (getD (p .jacks) i noJack)))
   unfolding bytesOf
-  jacks-held i h =
-      let few : i < 4 = omega (arith, listed-inside jackItem noJack (p .«jack_count») (p .jacks) i h .0) in
-      cut-there (fourOf jackBytes noJack (p .jacks)) bs 24 i (λ k g. rw (four-at jackBytes noJack (p .jacks) k g)) (omega arith) few
-      (omega arith)
-      ∙ rw (four-at jackBytes noJack (p .jacks) i few, listed jackItem noJack (p .«jack_count») (p .jacks) i h)
+  jack-begins h =
+      let jacks = map (jackNow (v .fresh)) (p .jacks) in
+      let there : i < length (p .jacks) = rw length-map at (listed-inside jackItem noJack (p .«jack_count») jacks i h .1) in
+      (refl, rw (listed jackItem noJack (p .«jack_count») jacks i h, getD-map (jackNow (v .fresh)) noJack noJack (p .jacks) i there))
 
-  pub streams-held : Holds 32 (itemsIn Streams p) (laid bs 0 (sixOf (p .«output_count») (p .streams)))
+  pub stream-begins : i < length (itemsIn Streams (partsNow v p))
+      → Begins Streams (partsNow v p) i (pcmItemOf (directionIn (p .«output_count») i) (getD (p .streams) i noStream))
   unfolding bytesOf
-  streams-held i h =
-      let numbered = directionNumber (streamsIn p) in
-      let items = sixOf (p .«output_count») (p .streams) in
-      let few : i < 6 = omega (arith, streams-inside numbered (p .«stream_count») (p .streams) i h .0) in
-      cut-there items bs 32 i (λ k g. rw (six-at (p .«output_count») (p .streams) k g)) (omega arith) few (omega arith)
-      ∙ rw (six-at (p .«output_count») (p .streams) i few, listed-stream numbered (p .«stream_count») (p .streams) i h)
+  stream-begins h =
+      let direction = directionNumber (streamsIn p) in
+      let streams = streamsNow v (p .streams) in
+      let there = streams-inside direction (p .«stream_count») streams i h .1 in
+      (refl, rw (listed-stream direction (p .«stream_count») streams i h, stream-now v (p .streams) i there))
 
-  pub maps-held : WholeMaps (p .maps) → Holds 24 (itemsIn Maps p) (laid bs 0 (fourOf mapBytes emptyMap (p .maps)))
-  maps-held w i h =
-      let few : i < 4 = omega (arith, listed-inside mapItem emptyMap (p .«map_count») (p .maps) i h .0) in
-      cut-there (fourOf mapBytes emptyMap (p .maps)) bs 24 i
-      (λ k g. rw (four-at mapBytes emptyMap (p .maps) k g, length-append) (omega (arith, whole k g))) (omega arith) few (omega arith)
-      ∙ rw (four-at mapBytes emptyMap (p .maps) i few, listed mapItem emptyMap (p .«map_count») (p .maps) i h)
-      (take-at (mapItem (getD (p .maps) i emptyMap)) (replicate 8 0) 24 (whole i few)) where
-        whole : (k : ℕ) → k < 4 → length (mapItem (getD (p .maps) k emptyMap)) ≡ 24
-        whole zero h = w .0
-        whole (suc zero) h = w .1
-        whole (suc (suc zero)) h = w .2
-        whole (suc (suc (suc zero))) h = w .3
-        whole (suc (suc (suc (suc k)))) h = absurd (omega arith)
-
--- ---- a row of items out of a buffer
-
-module _ (natural size : ℕ) (bs : List ℕ) where
-  pub row-none : (i n : ℕ) → n ≡ 0 → row natural size bs i n ≡ []
-  row-none i n h = rw h
-
-  pub row-more : (i n k : ℕ) → n ≡ k + 1
-      → row natural size bs i n ≡ fitted size (take natural (drop (32 * i) bs)) ++ row natural size bs (i + 1) k
-  row-more i n k h = rw (h, add-one k)
-
-  -- the items of a list
-  pub row-held : (items : List (List ℕ)) → Holds natural items bs → (k i : ℕ) → i + k ≤ length items
-      → row natural size bs i k ≡ joined (take k (drop i (map (fitted size) items)))
-  row-held items held zero i h = refl
-  row-held items held (suc k) i h =
-      let n : i < length (map (fitted size) items) = rw length-map (omega arith) in
-      rw (
-        joined-next (map (fitted size) items) (suc k) k i (sym (add-one k)) n,
-        getD-map (fitted size) [] [] items i (omega arith),
-        ← (held i (omega arith)),
-        row-held items held k (i + 1) (omega arith),
-      )
+  pub map-begins : i < length (itemsIn Maps (partsNow v p)) → length (mapItem (getD (p .maps) i emptyMap)) ≡ 24
+      → Begins Maps (partsNow v p) i (mapBytes (getD (p .maps) i emptyMap))
+  map-begins h n =
+      let m = mapItem (getD (p .maps) i emptyMap) in
+      (rw length-append (omega (arith, n)), take-at m (replicate 8 0) 24 n ∙ rw (listed mapItem emptyMap (p .«map_count») (p .maps) i h))

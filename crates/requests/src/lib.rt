@@ -8,6 +8,7 @@ ghost use lib.ListN.{length, take, drop};
 ghost use Rattle.card.specs.Fit.{FitParts};
 ghost use Rattle.rules.specs.Parts.{partsOf};
 ghost use Rattle.information.specs.Items.{itemsIn};
+ghost use Rattle.live.specs.Live.{partsNow};
 ghost use Rattle.line_calls.specs.Streams.{streamsIn, directionNumber};
 ghost use Rattle.reply.specs.Reply.{Serves, completionOf};
 ghost use Rattle.ring.specs.Rules.{completion};
@@ -17,6 +18,7 @@ ghost use Rattle.device.specs.Numbers.{sOk};
 ghost use Rattle.requests.specs.Requests.{checked, partFound, Replies};
 use card::Jack;
 use card::Parts;
+use live::Live;
 use reply::Pending;
 use reply::Served;
 use ring::Posted;
@@ -128,11 +130,11 @@ fn is_spaced(count: u32, size: u32) -> Check
 }
 
 // Information: the items asked for are there.
-fn is_listed(parts: Parts, l: Listing, start: u32, count: u32) -> Check
-    requires { ⌜ FitParts parts ⌝ }
-    ensures { λ r. ⌜ r ≡ checked (listedIn (itemsIn l parts) start count) ⌝ }
+fn is_listed(live: Live, parts: Parts, l: Listing, start: u32, count: u32) -> Check
+    requires { ⌜ FitParts (partsNow live parts) ⌝ }
+    ensures { λ r. ⌜ r ≡ checked (listedIn (itemsIn l (partsNow live parts)) start count) ⌝ }
 {
-    let total = information::total(parts, l) as u64;
+    let total = information::total(live, parts, l) as u64;
     if start as u64 + count as u64 <= total {
         return Check::Passed;
     }
@@ -157,6 +159,7 @@ fn is_roomy(count: u32, size: u32, room: u32) -> Check
 fn list_items(
     m: &mut [u8],
     list: &[u64],
+    live: Live,
     parts: Parts,
     pending: Pending,
     l: Listing,
@@ -164,10 +167,10 @@ fn list_items(
     count: u32,
     size: u32,
 ) -> Posted
-    requires { ⌜ FitParts parts × (start + count ≤ length (itemsIn l parts)) × (4 + count * size ≤ 4294967295) ⌝ }
+    requires { ⌜ FitParts (partsNow live parts) × (start + count ≤ length (itemsIn l (partsNow live parts))) × (4 + count * size ≤ 4294967295) ⌝ }
     ensures { λ r. ⌜ completion (now (m .exit)) r
         ≡ completionOf (now (list .entry)) pending
-        (status sOk ++ joined (take count (drop start (map (fitted size) (itemsIn l parts)))))
+        (status sOk ++ joined (take count (drop start (map (fitted size) (itemsIn l (partsNow live parts))))))
         (now (m .entry)) ⌝ }
 {
     let reply = pending.reply;
@@ -176,6 +179,7 @@ fn list_items(
         m,
         list,
         reply,
+        live,
         parts,
         l,
         start as usize,
@@ -189,15 +193,16 @@ fn list_items(
 pub fn inform(
     m: &mut [u8],
     list: &[u64],
+    live: Live,
     parts: Parts,
     pending: Pending,
     l: Listing,
     request: &[u8],
     room: u32,
 ) -> Posted
-    requires { ⌜ FitParts parts ⌝ }
-    ensures { λ r. ⌜ Replies (now (list .entry)) pending (partsOf parts)
-        (informBy (itemsBy (directionNumber (streamsIn parts))) (partsOf parts) l (now (request .entry)) room)
+    requires { ⌜ FitParts (partsNow live parts) ⌝ }
+    ensures { λ r. ⌜ Replies (now (list .entry)) pending (partsOf (partsNow live parts))
+        (informBy (itemsBy (directionNumber (streamsIn (partsNow live parts)))) (partsOf (partsNow live parts)) l (now (request .entry)) room)
         r (now (m .entry)) (now (m .exit)) ⌝ }
 {
     let start = memory::number32(request, 4);
@@ -206,11 +211,11 @@ pub fn inform(
     let Check::Passed = is_spaced(count, size) else {
         return reply::complete(m, list, pending, rules::BAD_MSG);
     };
-    let Check::Passed = is_listed(parts, l, start, count) else {
+    let Check::Passed = is_listed(live, parts, l, start, count) else {
         return reply::complete(m, list, pending, rules::BAD_MSG);
     };
     let Check::Passed = is_roomy(count, size, room) else {
         return reply::complete(m, list, pending, rules::BAD_MSG);
     };
-    list_items(m, list, parts, pending, l, start, count, size)
+    list_items(m, list, live, parts, pending, l, start, count, size)
 }

@@ -80,15 +80,11 @@ enum-known-posted c = search needs
 enum-known-l : tie.Need-enum-known-l
 enum-known-l c = search needs
 
-parts-now-requires : tie.Need-parts-now-requires
-parts-now-requires c κs = search needs
-
 inform-requires : tie.Need-inform-requires
 inform-requires c κs =
-    let n = c .before .before in
-    let g = n .before .before in
+    let g = c .before .before .before in
     let k = g .before .before .before .before .before .before in
-    rw (n .parts-now .ensures) (start k .pre .0)
+    start k .pre .0
 
 enum-told : tie.Need-enum-told
 enum-told c = search needs
@@ -121,8 +117,7 @@ same-length-4 c = search needs
 returns-2 : tie.Need-returns-2
 returns-2 c pw cw f =
     let o = c .before .before in
-    let n = o .before .before .before in
-    let g = n .before .before in
+    let g = o .before .before .before .before in
     let k = g .before .before .before .before .before .before in
     let a = start k .args in
     let t = told k _ (g .l .given .1) in
@@ -131,7 +126,7 @@ returns-2 c pw cw f =
     (rules.informBy (rules.itemsBy (directionNumber (streamsIn (a .parts)))) (shown (start k)) (g .l .given .0 .0)
     (k .read .last .1 .1 .1 .1 .0) (a .message .reply .bytes)) (o .inform .result)
     (k .read .last .0) (o .inform .last .0) =
-    rw (n .parts-now .ensures, k .before .before .before .pending-in .ensures) at (o .inform .ensures) in
+    rw (k .before .before .before .pending-in .ensures) at (o .inform .ensures) in
     rw (t .1 (streamsIn (a .parts)) (shown (start k)) (a .message .reply .bytes) ∙ i .same)
     (replied-ends (a .live) (a .parts) pw cw f (a .message .head) (a .list .now) (a .message .reply) (i .bytes) (a .m .now) _
     (o .inform .result) (i .completes ∙ ap (completionOf (a .list .now) pending (i .bytes)) (t .0)))
@@ -167,7 +162,6 @@ answer-spec =
     read-requires
     enum-known-posted
     enum-known-l
-    parts-now-requires
     inform-requires
     enum-told
     enum-known-command

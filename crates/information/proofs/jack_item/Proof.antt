@@ -5,6 +5,9 @@ use Rattle.device.specs.Device.{bytesOf}
 use Rattle.information.proofs.jack_item.Statement.{statement}
 use Rattle.information.proofs.jack_item.Tie as tie
 
+defconf-now-requires : tie.Need-defconf-now-requires
+defconf-now-requires c κs = search needs
+
 slice-aggregate-set32 : tie.Need-slice-aggregate-set32
 slice-aggregate-set32 c = search needs
 
@@ -38,12 +41,19 @@ returns c =
     let at-set323 = c .before .before .before .before in
     let at-set322 = at-set323 .before .before .before in
     let at-set32 = at-set322 .before .before .before in
-    rw (c .before .set324 .ensures, at-set323 .set323 .ensures, at-set322 .set322 .ensures, at-set32 .set32 .ensures)
+    rw (
+      c .before .set324 .ensures,
+      at-set323 .set323 .ensures,
+      at-set322 .set322 .ensures,
+      at-set32 .set32 .ensures,
+      at-set32 .before .before .defconf-now .ensures,
+    )
 
 pub jack-item-spec : {M : Type 1} → statement M
 jack-item-spec =
     tie.close
     (tie.spec
+    defconf-now-requires
     slice-aggregate-set32
     set32-requires
     slice-aggregate-set32-2

@@ -1,9 +1,9 @@
 -- The item as far as it goes, then zeros: what fits the size.
 use mathlib.Core.Path.{_≡_, _∙_, sym}
 use mathlib.Core.List.{_++_}
-use Prim.Native.Nat.{_+_, _-_, _≤_, min}
+use Prim.Native.Nat.{_-_, min}
 use native.Mathlib.Omega.{arith}
-use lib.ListN.{length, take, drop, replicate, length-drop}
+use lib.ListN.{length, take, drop, replicate}
 use lib.Seq.{drop-drop, length-take-le}
 use Rattle.ranges.specs.Ranges.{rangesOf, places}
 use Rattle.ranges.proofs.Laws.{take-min}
@@ -41,12 +41,11 @@ returns c =
     let a = start .args in
     let k = at-least .least .result in
     let ps = places (rangesOf (a .list .now) (a .reply)) in
-    let item = drop (a .from) (a .items .now) in
+    let item = a .item .now in
     let least : k ≡ min (a .natural) (a .size) = at-least .least .ensures in
-    let enough : a .natural ≤ length item = rw length-drop (omega (arith, start .pre .1)) in
-    let n : length (take (a .natural) item) ≡ a .natural = length-take-le (a .natural) item enough in
+    let n : length (take (a .natural) item) ≡ a .natural = length-take-le (a .natural) item (start .pre .1) in
     let front : take (a .size) (take (a .natural) item) ≡ take k item = sym (rw least (take-min (a .natural) (a .size) item)) in
-    let long : length (take k item) ≡ k = length-take-le k item (omega (arith, least, enough)) in
+    let long : length (take k item) ≡ k = length-take-le k item (omega (arith, least, start .pre .1)) in
     let zeros : a .size - a .natural ≡ a .size - k = omega (arith, least) in
     let whole : fitted (a .size) (take (a .natural) item) ≡ take k item ++ replicate (a .size - k) 0 =
     rw (fitted-split (a .size) (take (a .natural) item), n, front, zeros) in

@@ -6,6 +6,7 @@ use native.Mathlib.Omega.{arith}
 use borrow.Author.Tests.{leb-true}
 use lib.ListN.{length}
 use Rattle.information.specs.Items.{itemsIn}
+use Rattle.live.specs.Live.{partsNow}
 use Rattle.rules.specs.Control.{spaced, listedIn, roomy, word}
 use Rattle.requests.proofs.Laws.{check-passed, check-failed}
 use borrow.Author.Needs.{needs}
@@ -31,22 +32,24 @@ there : (c : tie.After-enum-told3) →
     let at-number322 = at-number323 .before in
     let at-number32 = at-number322 .before in
     let start = at-number32 .before .before .before .before in
-    listedIn (itemsIn (start .args .l) (start .args .parts)) (at-number32 .number32 .result) (at-number322 .number322 .result) ≡ true
+    let a = start .args in
+    listedIn (itemsIn (a .l) (partsNow (a .live) (a .parts))) (at-number32 .number32 .result) (at-number322 .number322 .result) ≡ true
 there c =
     let at-enum-told3 = c in
     let at-is-listed = at-enum-told3 .before .before in
     let at-number322 = at-is-listed .before .before .before .before .before in
     let at-number32 = at-number322 .before in
     let start = at-number32 .before .before .before .before in
+    let a = start .args in
     check-passed
-    (listedIn (itemsIn (start .args .l) (start .args .parts)) (at-number32 .number32 .result) (at-number322 .number322 .result))
+    (listedIn (itemsIn (a .l) (partsNow (a .live) (a .parts))) (at-number32 .number32 .result) (at-number322 .number322 .result))
     (sym (at-is-listed .is-listed .ensures) ∙ at-enum-told3 .enum-told3 .given .1)
 
 there-asked : (c : tie.After-enum-told3) →
     let at-number323 = c .before .before .before .before .before .before in
     let start = at-number323 .before .before .before .before .before .before in
     let a = start .args in
-    listedIn (itemsIn (a .l) (a .parts)) (word (a .request .now) 1) (word (a .request .now) 2) ≡ true
+    listedIn (itemsIn (a .l) (partsNow (a .live) (a .parts))) (word (a .request .now) 1) (word (a .request .now) 2) ≡ true
 there-asked c =
     let at-number323 = c .before .before .before .before .before .before in
     let at-number322 = at-number323 .before in
@@ -132,9 +135,10 @@ returns-2 c =
     let at-number32 = at-number322 .before in
     let start = at-number32 .before .before .before .before in
     let a = start .args in
-    let absent : listedIn (itemsIn (a .l) (a .parts)) (word (a .request .now) 1) (word (a .request .now) 2) ≡ false =
+    let absent : listedIn (itemsIn (a .l) (partsNow (a .live) (a .parts))) (word (a .request .now) 1) (word (a .request .now) 2) ≡ false =
     rw (← (at-number32 .number32 .ensures), ← (at-number322 .number322 .ensures))
-    (check-failed (listedIn (itemsIn (a .l) (a .parts)) (at-number32 .number32 .result) (at-number322 .number322 .result))
+    (check-failed
+    (listedIn (itemsIn (a .l) (partsNow (a .live) (a .parts))) (at-number32 .number32 .result) (at-number322 .number322 .result))
     (sym (at-is-listed .is-listed .ensures) ∙ at-enum-told4 .enum-told4 .given .1)) in
     rw (sized at-enum-told, absent) (record { bytes = _; same = refl; completes = at-complete2 .complete2 .ensures })
 
@@ -180,7 +184,7 @@ list-items-requires c κs =
     let at-number32 = at-number322 .before in
     let start = at-number32 .before .before .before .before in
     let there : at-number32 .number32 .result + at-number322 .number322 .result
-    ≤ length (itemsIn (start .args .l) (start .args .parts)) =
+    ≤ length (itemsIn (start .args .l) (partsNow (start .args .live) (start .args .parts))) =
     leb-true _ _ (there at-enum-told3) in
     let fits : 4 + at-number322 .number322 .result * at-number323 .number323 .result ≤ start .args .room = leb-true _ _
     (wide at-enum-told5) in

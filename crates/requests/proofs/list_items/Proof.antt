@@ -3,6 +3,7 @@ use mathlib.Core.Path.{_∙_}
 use native.Mathlib.Omega.{arith}
 use lib.ListN.{length-append}
 use Rattle.information.specs.Items.{itemsIn}
+use Rattle.live.specs.Live.{partsNow}
 use Rattle.information.proofs.Laws.{length-items}
 use Rattle.reply.proofs.Laws.{putAt-behind, length-status}
 use borrow.Author.Needs.{needs}
@@ -17,7 +18,7 @@ write-items-requires c κs =
     let at-shared-slice-known = c .before .before .before .before .before .before in
     let start = at-shared-slice-known .before .before in
     let a = start .args in
-    let n = length-items (a .size) (itemsIn (a .l) (a .parts)) (a .count) (a .start) (start .pre .1) in
+    let n = length-items (a .size) (itemsIn (a .l) (partsNow (a .live) (a .parts))) (a .count) (a .start) (start .pre .1) in
     (start .pre .0, start .pre .1, rw n (start .pre .2))
 
 cast-close : tie.Need-cast-close
@@ -25,7 +26,7 @@ cast-close c =
     let at-m = c .before .before .before .before .before .before in
     let start = at-m .before .before .before .before .before .before in
     let a = start .args in
-    let n = length-items (a .size) (itemsIn (a .l) (a .parts)) (a .count) (a .start) (start .pre .1) in
+    let n = length-items (a .size) (itemsIn (a .l) (partsNow (a .live) (a .parts))) (a .count) (a .start) (start .pre .1) in
     omega (arith, c .before .before .before .write-items .ensures .1, n, start .pre .2)
 
 close-requires : tie.Need-close-requires
