@@ -17,7 +17,8 @@ use Rattle.device.specs.Transfer.{payloadOf, isWell}
 use Rattle.queue_lines.specs.Chains.{Virtqueue}
 use Rattle.queue_lines.specs.Histories.{Answer, entryOf}
 use Rattle.queue_lines.specs.Turn.{written, Answers, whole, cut, bad}
-use Rattle.queue_lines.specs.Said.{payloadLength, lengthOf, isMute, Ways, finishedOk, releasedBy, refusedIoErr, mute, Says, statusWritten}
+use Rattle.queue_lines.specs.Said.{payloadLength, lengthOf, isMute, Ways, finishedOk}
+use Rattle.queue_lines.specs.Said.{releasedBy, refusedIoErr, mute, Says, statusWritten}
 use Rattle.queue_lines.specs.Said.{writtenOut}
 
 -- ---- entries
