@@ -11,8 +11,8 @@ use Rattle.memory.specs.Bytes.{put}
 use Rattle.ranges.specs.Ranges.{total, places, putAt}
 use Rattle.ranges.specs.declared.Range.{Range}
 use Rattle.ring.specs.Rules.{baseOf}
-use Rattle.device.specs.Device.{Direction, output, input, Form, wellFormed, refused, silent, unwalked, Taking, finished, released, illFormed}
-use Rattle.device.specs.Device.{bytesOf}
+use Rattle.device.specs.Device.{Direction, output, input, Form, wellFormed, refused, silent, unwalked, Taking, bytesOf}
+use Rattle.device.specs.Device.{finished, released, illFormed}
 use Rattle.device.specs.Histories.{Entry}
 use Rattle.queue_lines.specs.Chains.{Virtqueue}
 use Rattle.queue_lines.specs.Histories.{Answer}

@@ -167,7 +167,8 @@ fn list_items(
     count: u32,
     size: u32,
 ) -> Posted
-    requires { ⌜ FitParts (partsNow live parts) × (start + count ≤ length (itemsIn l (partsNow live parts))) × (4 + count * size ≤ 4294967295) ⌝ }
+    requires { ⌜ FitParts (partsNow live parts) × (start + count ≤ length (itemsIn l (partsNow live parts)))
+        × (4 + count * size ≤ 4294967295) ⌝ }
     ensures { λ r. ⌜ completion (now (m .exit)) r
         ≡ completionOf (now (list .entry)) pending
         (status sOk ++ joined (take count (drop start (map (fitted size) (itemsIn l (partsNow live parts))))))
@@ -202,7 +203,8 @@ pub fn inform(
 ) -> Posted
     requires { ⌜ FitParts (partsNow live parts) ⌝ }
     ensures { λ r. ⌜ Replies (now (list .entry)) pending (partsOf (partsNow live parts))
-        (informBy (itemsBy (directionNumber (streamsIn (partsNow live parts)))) (partsOf (partsNow live parts)) l (now (request .entry)) room)
+        (informBy (itemsBy (directionNumber (streamsIn (partsNow live parts)))) (partsOf (partsNow live parts)) l
+        (now (request .entry)) room)
         r (now (m .entry)) (now (m .exit)) ⌝ }
 {
     let start = memory::number32(request, 4);

@@ -48,8 +48,12 @@ returns-5 c =
       lt-leb _ _ (c .if5 .taken),
     )
 
+-- where the function starts, seen from behind the five tests of the counts
+abbrev start : tie.Else5 → tie.Start
+start c = c .before .before .before .before .before .before .before .before .before .before
+
 -- the counts are lawful
-counted : (c : tie.Else5) → lawfulCounts (c .before .before .before .before .before .before .before .before .before .before .args .d) ≡ true
+counted : (c : tie.Else5) → lawfulCounts (start c .args .d) ≡ true
 unfolding lawfulCounts
 counted c =
     let at-else4 = c .before .before in

@@ -6,13 +6,15 @@ use borrow.Author.Needs.{needs}
 use Rattle.files.proofs.close_sink.Statement.{statement}
 use Rattle.files.proofs.close_sink.Tie as tie
 
+-- where the function starts
+abbrev start : tie.Else3 → tie.Start
+start c = c .before .before .before .before .before .before .before
+
 -- the name's length is that of its part of the buffer
 short : (c : tie.Else3)
-    → let a = c .before .before .before .before .before .before .before .args in
+    → let a = start c .args in
     a .sink .«name_len» ≡ length (take (a .sink .«name_len») (a .name .now))
-short c =
-    let start = c .before .before .before .before .before .before .before in
-    sym (length-take-le _ (start .args .name .now) (c .if3 .left))
+short c = sym (length-take-le _ (start c .args .name .now) (c .if3 .left))
 
 close-requires : tie.Need-close-requires
 close-requires c κs = search needs

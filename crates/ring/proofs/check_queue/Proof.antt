@@ -26,8 +26,8 @@ region-judged c =
     ∙ rw (c .inside .ensures, c .before .end-at .ensures, c .before .before .address .ensures)
 
 entries-judged : (c : tie.After-new-entries)
-    → let at-if2 = c .before .before .before in
-    let start = at-if2 .before .before .before .before .before .before .before in
+    → let at-inside = c .before .before .before .before in
+    let start = at-inside .before .before .before .before .before .before in
     let a = start .args in
     checkOf (a .m .now) (a .page) (a .size) (a .taken) (a .in-work)
     ≡ cond (ltb (a .size) (c .new-entries .result + a .in-work)) (Check.Broken Cause.Entries) (Check.New (c .new-entries .result))

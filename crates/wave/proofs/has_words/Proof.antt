@@ -24,7 +24,11 @@ slice-aggregate-holds-2 c = search needs
 holds-requires-2 : tie.Need-holds-requires-2
 holds-requires-2 c κs = search needs
 
-riff-held : (c : tie.Else1) → holds (c .before .before .before .before .args .head .now) 0 RIFF ≡ true
+-- where the function starts
+abbrev start : tie.Else1 → tie.Start
+start c = c .before .before .before .before
+
+riff-held : (c : tie.Else1) → holds (start c .args .head .now) 0 RIFF ≡ true
 riff-held c = sym (c .before .holds .ensures) ∙ not-false _ (c .if1 .left)
 
 returns-2 : tie.Need-returns-2
@@ -37,7 +41,7 @@ slice-aggregate-holds-3 c = search needs
 holds-requires-3 : tie.Need-holds-requires-3
 holds-requires-3 c κs = search needs
 
-wave-held : (c : tie.Else2) → holds (c .before .before .before .before .before .before .before .args .head .now) 8 WAVE ≡ true
+wave-held : (c : tie.Else2) → holds (start (c .before .before .before) .args .head .now) 8 WAVE ≡ true
 wave-held c = sym (c .before .holds2 .ensures) ∙ not-false _ (c .if2 .left)
 
 returns-3 : tie.Need-returns-3

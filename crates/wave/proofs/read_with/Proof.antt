@@ -36,11 +36,15 @@ has-numbers-requires c κs = search needs
 unread-requires-3 : tie.Need-unread-requires-3
 unread-requires-3 c κs = search needs
 
+-- where the function starts
+abbrev start : tie.Else2 → tie.Start
+start c = c .before .before .before .before
+
 -- what the first three tests showed
-long-held : (c : tie.Else2) → ltb (length (c .before .before .before .before .args .head .now)) 44 ≡ false
+long-held : (c : tie.Else2) → ltb (length (start c .args .head .now)) 44 ≡ false
 long-held c = le-ltb _ _ (c .before .before .if1 .left)
 
-words-held : (c : tie.Else2) → hasWords (c .before .before .before .before .args .head .now) ≡ true
+words-held : (c : tie.Else2) → hasWords (start c .args .head .now) ≡ true
 words-held c = sym (c .before .has-words .ensures) ∙ not-false _ (c .if2 .left)
 
 returns-3 : tie.Need-returns-3
@@ -59,12 +63,12 @@ unread-requires-4 : tie.Need-unread-requires-4
 unread-requires-4 c κs = search needs
 
 numbers-held : (c : tie.Else3)
-    → let a = c .before .before .before .before .before .before .args in
+    → let a = start (c .before .before) .args in
     hasNumbers (a .format) (a .channels) (a .rate) (a .data-len) (a .head .now) ≡ true
 numbers-held c = sym (c .before .has-numbers .ensures) ∙ not-false _ (c .if3 .left)
 
 other-length : (c : tie.Then4)
-    → let a = c .before .before .before .before .before .before .before .args in
+    → let a = start (c .before .before .before) .args in
     a .file-len ≡ fileLen (a .data-len) → ⊥
 other-length c e = omega (arith, c .if4 .taken, e)
 
@@ -82,7 +86,7 @@ unread-requires-5 : tie.Need-unread-requires-5
 unread-requires-5 c κs = search needs
 
 whole-file : (c : tie.Else4)
-    → let a = c .before .before .before .before .before .before .before .args in
+    → let a = start (c .before .before .before) .args in
     a .file-len ≡ fileLen (a .data-len)
 whole-file c = omega (arith, c .if4 .left)
 
