@@ -69,64 +69,87 @@ half =
 abbrev pub then : Queue
 then = record { taken = 5; completed = 1; lines = half ∷ waits (1 ∷ 4 ∷ []) ∷ [] }
 
--- what the five replies hold, and the used ring: its index, and so many elements
+-- what the five replies hold
 abbrev pub statuses : List ℕ → List ℕ
 statuses m = take 40 (drop 64 m)
 
-abbrev pub usedRing : ℕ → List ℕ → List ℕ
-usedRing bytes m = take bytes (drop 8710 m)
+-- what a run leaves to be seen, looked at together so that it runs once: the bytes handed on, the queue, why it stopped, the replies, and
+-- the used ring, its index and three elements
+pub record Seen : Type 0 where
+  pub bytes : List ℕ
+  pub queue : Queue
+  pub stop : Stop
+  pub replies : List ℕ
+  pub used : List ℕ
+
+abbrev pub seen : Run Queue → Seen
+seen r =
+    record { bytes = r .bytes; queue = r .queue; stop = r .stop; replies = statuses (r .mem); used = take 26 (drop 8710 (r .mem)) }
+
+-- nothing in an element's place
+abbrev pub none-used : List ℕ
+none-used = zeros 8
 
 -- all are taken; the one of stream 7 is answered at once, with the call's latency; two bytes of the first are handed on, and the
 -- others wait
-pub taken-and-played :
-    (first card .bytes ≡ 11 ∷ 12 ∷ [])
-    × (first card .queue ≡ then)
-    × (statuses (first card .mem) ≡ words (0 ∷ 0 ∷ 0 ∷ 0 ∷ 0 ∷ 0 ∷ 32771 ∷ 480 ∷ 0 ∷ 0 ∷ []))
-    × (usedRing 10 (first card .mem) ≡ bytesOf 2 1 ++ element 3 8)
+abbrev pub bad-one-answered : List ℕ → Queue → Seen
+bad-one-answered bytes q =
+    record {
+      bytes = bytes;
+      queue = q;
+      stop = Stop.Going;
+      replies = words (0 ∷ 0 ∷ 0 ∷ 0 ∷ 0 ∷ 0 ∷ 32771 ∷ 480 ∷ 0 ∷ 0 ∷ []);
+      used = bytesOf 2 1 ++ element 3 8 ++ none-used ++ none-used;
+    }
+
+pub taken-and-played : seen (first card) ≡ bad-one-answered (11 ∷ 12 ∷ []) then
 unfolding plays
-taken-and-played = (refl, refl, refl, refl)
+taken-and-played = refl
 
 -- with no room all are taken too, and the bad one is answered; nothing is begun
-abbrev pub roomless : Run Queue
-roomless = plays card 480 0 (card (queue 0) .empty) (lent 0 1 0 5) []
-
-pub taken-without-room : (roomless .bytes ≡ []) × (roomless .queue ≡
-    record { taken = 5; completed = 1; lines = waits (0 ∷ 2 ∷ []) ∷ waits (1 ∷ 4 ∷ []) ∷ [] })
+pub taken-without-room :
+    seen (plays card 480 0 (card (queue 0) .empty) (lent 0 1 0 5) [])
+    ≡ bad-one-answered [] (record { taken = 5; completed = 1; lines = waits (0 ∷ 2 ∷ []) ∷ waits (1 ∷ 4 ∷ []) ∷ [] })
 unfolding plays
-taken-without-room = (refl, refl)
+taken-without-room = refl
 
 -- "an id that changed meanwhile is IO_ERR": ids swapped after taking. The chain that is begun is not read again: it is finished. The next
 -- one of stream 0 now names stream 1: IO_ERR, and it moves to no other line
 abbrev pub second : Run Queue
 second = plays card 960 0 then (lent 1 0 1 5) (zeros 5)
 
-pub ids-swapped :
-    (second .bytes ≡ 13 ∷ [])
-    × (second .queue ≡ record { taken = 5; completed = 3; lines = waits [] ∷ waits (1 ∷ 4 ∷ []) ∷ [] })
-    × (statuses (second .mem) ≡ words (32768 ∷ 960 ∷ 0 ∷ 0 ∷ 32771 ∷ 960 ∷ 0 ∷ 0 ∷ 0 ∷ 0 ∷ []))
-    × (usedRing 26 (second .mem) ≡ bytesOf 2 3 ++ bytesOf 4 0 ++ bytesOf 4 0 ++ element 0 8 ++ element 2 8)
+-- both messages of stream 0 are completed, the second with this status
+abbrev pub both-completed : List ℕ → ℕ → Seen
+both-completed bytes status =
+    record {
+      bytes = bytes;
+      queue = record { taken = 5; completed = 3; lines = waits [] ∷ waits (1 ∷ 4 ∷ []) ∷ [] };
+      stop = Stop.Going;
+      replies = words (32768 ∷ 960 ∷ 0 ∷ 0 ∷ status ∷ 960 ∷ 0 ∷ 0 ∷ 0 ∷ 0 ∷ []);
+      used = bytesOf 2 3 ++ none-used ++ element 0 8 ++ element 2 8;
+    }
+
+pub ids-swapped : seen second ≡ both-completed (13 ∷ []) 32771
 unfolding plays
-ids-swapped = (refl, refl, refl, refl)
+ids-swapped = refl
 
 -- .. and changed back is no change: it is played
-abbrev pub again : Run Queue
-again = plays card 960 0 then (lent 1 0 0 5) (zeros 5)
-
-pub changed-back : (again .bytes ≡ 13 ∷ 31 ∷ []) × (again .queue ≡
-    record { taken = 5; completed = 3; lines = waits [] ∷ waits (1 ∷ 4 ∷ []) ∷ [] })
+pub changed-back : seen (plays card 960 0 then (lent 1 0 0 5) (zeros 5)) ≡ both-completed (13 ∷ 31 ∷ []) 32768
 unfolding plays
-changed-back = (refl, refl)
+changed-back = refl
 
 -- "a Release ends, its own stream's line only": of stream 1, with messages of stream 0 waiting, one of them begun
-abbrev pub ending : Run Queue
-ending = releases card 77 1 then (lent 0 1 0 5)
-
 pub release-leaves-the-other :
-    (ending .queue ≡ record { taken = 5; completed = 3; lines = half ∷ waits [] ∷ [] })
-    × (statuses (ending .mem) ≡ words (0 ∷ 0 ∷ 32771 ∷ 77 ∷ 0 ∷ 0 ∷ 0 ∷ 0 ∷ 32771 ∷ 77 ∷ []))
-    × (usedRing 26 (ending .mem) ≡ bytesOf 2 3 ++ bytesOf 4 0 ++ bytesOf 4 0 ++ element 1 8 ++ element 4 8)
+    seen (releases card 77 1 then (lent 0 1 0 5))
+    ≡ record {
+      bytes = [];
+      queue = record { taken = 5; completed = 3; lines = half ∷ waits [] ∷ [] };
+      stop = Stop.Going;
+      replies = words (0 ∷ 0 ∷ 32771 ∷ 77 ∷ 0 ∷ 0 ∷ 0 ∷ 0 ∷ 32771 ∷ 77 ∷ []);
+      used = bytesOf 2 3 ++ none-used ++ element 1 8 ++ element 4 8;
+    }
 unfolding releases
-release-leaves-the-other = (refl, refl, refl)
+release-leaves-the-other = refl
 
 -- the account of the first two plays: who joined, what was read when work began, entries, handed bytes
 abbrev pub book : Run History
@@ -172,21 +195,21 @@ twice =
     ∷ [])) (zeros 3)
 
 pub same-head-twice :
-    (twice .bytes ≡ 11 ∷ 12 ∷ 11 ∷ [])
-    × (twice .queue
+    seen twice
     ≡ record {
-      taken = 2;
-      completed = 1;
-      lines =
+      bytes = 11 ∷ 12 ∷ 11 ∷ [];
+      queue =
           record {
-            begun = some (record { taking = chain 0 16 6 64 wellFormed; done = 1 });
-            heads = [];
-          }
-          ∷ waits []
-          ∷ [];
-    })
+            taken = 2;
+            completed = 1;
+            lines = record { begun = some (record { taking = chain 0 16 6 64 wellFormed; done = 1 }); heads = [] } ∷ waits [] ∷ [];
+          };
+      stop = Stop.Going;
+      replies = words (32768 ∷ []) ++ zeros 36;
+      used = bytesOf 2 1 ++ element 0 8 ++ none-used ++ none-used;
+    }
 unfolding plays
-same-head-twice = (refl, refl)
+same-head-twice = refl
 
 -- a taking sees what the answers before it wrote: the reply to head 1, of a stream that is not there, lies over the ring's next head, and
 -- makes it 0x8003: not taken, the call ends with cause 12. What was taken before stands; the message of stream 0 is not worked
@@ -202,8 +225,13 @@ overwritten =
     ∷ [])) (zeros 3)
 
 pub broken-by-an-answer :
-    (overwritten .bytes ≡ [])
-    × (overwritten .stop ≡ Stop.Broke Cause.Head)
-    × (overwritten .queue ≡ record { taken = 2; completed = 1; lines = waits (0 ∷ []) ∷ waits [] ∷ [] })
+    seen overwritten
+    ≡ record {
+      bytes = [];
+      queue = record { taken = 2; completed = 1; lines = waits (0 ∷ []) ∷ waits [] ∷ [] };
+      stop = Stop.Broke Cause.Head;
+      replies = zeros 40;
+      used = bytesOf 2 1 ++ element 1 8 ++ none-used ++ none-used;
+    }
 unfolding plays
-broken-by-an-answer = (refl, refl, refl)
+broken-by-an-answer = refl
