@@ -1,4 +1,0 @@
-// The replay program, on a guest that tries to break the card.
-fn main() {
-    replay_run::run();
-}
