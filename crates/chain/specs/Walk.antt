@@ -48,12 +48,12 @@ noDescriptor = record { at = record { 0 = 0 }; len = 0; flags = 0; next = record
 
 -- ---- the outcome of a walk
 
--- the readable and the writable ranges in order, or the fault found
+-- "The readable bytes joined are the request, the writable bytes joined the reply": the ranges of either side in order; or the fault found
 pub data Outcome : Type 0 where
   whole : List Range → List Range → Outcome
   faulted : Fault → Outcome
 
--- a fault ends the walk; else it goes on with the ranges so far
+-- "The walk stops at once, from inside an indirect table too."; else it goes on with the ranges so far
 abbrev pub andThen : Outcome → (List Range → List Range → Outcome) → Outcome
 andThen (whole rd wr) go = go rd wr
 andThen (faulted f) go = faulted f

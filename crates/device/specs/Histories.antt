@@ -19,14 +19,15 @@ pub record Entry : Type 0 where
   pub status : Option ℕ
   pub latency : ℕ
 
--- position `pos` of the payload of taking number `of` was handed on (for capture, recorded): its address, and the byte
+-- position `pos` of the payload of taking number `of` was handed on (for capture, recorded): its address, and the byte. "A payload position
+-- is a place in the payload, no address."
 pub record Note : Type 0 where
   pub of : ℕ
   pub pos : ℕ
   pub from : ℕ
   pub byte : ℕ
 
--- a position that a Release gave up
+-- a position that a Release gave up: "positions not handed are given up"
 pub record Loss : Type 0 where
   pub of : ℕ
   pub pos : ℕ

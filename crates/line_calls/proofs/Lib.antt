@@ -7,3 +7,4 @@ pub mod Causes
 pub mod Demand3
 pub mod Reached
 pub mod Table
+pub mod Cases

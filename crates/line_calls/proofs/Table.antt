@@ -20,7 +20,7 @@ use Rattle.device.specs.Numbers.{controlQueue, playQueue}
 use Rattle.device.specs.Transfer.{Shows, Run, begun}
 use Rattle.rules.specs.Calls.{Order, ReleaseFirst, Pending, controlHeadBy, controlFoundBy, orderedBy, isRunning, transferStep, remembering}
 use Rattle.rules.specs.Calls.{untouched, releasedOn}
-use Rattle.rules.specs.Control.{decodedOf, remap}
+use Rattle.rules.specs.Control.{decodedOf}
 use Rattle.rules.specs.Table.{named}
 use Rattle.queue_lines.specs.Chains.{Virtqueue, lineOf, isOn}
 use Rattle.queue_lines.specs.Counters.{Line, Queue, lengthOf}
@@ -177,19 +177,14 @@ module _ (n : Streams) (b : Device Queue) (m : List ℕ) where
         ap orders o ∙ release-checked first ∙ ap released f
 
 pub table : Table
-unfolding served decodedOf remap bytesOf le
+unfolding served decodedOf bytesOf le
 table =
     record {
-      one-item = λ r s room e h. (rw (e, le-leb 36 room h), refl);
-      no-item = λ r s room e h. (rw (e, le-leb 4 room h), refl);
-      no-wrap = λ r s room e. rw e;
-      no-room = λ r s e. rw e;
       longer-item = λ r s room e h. (rw (e, le-leb 44 room h), refl);
       shorter-item = λ r s room e h. (rw (e, le-leb 12 room h), refl);
       no-size = λ r s room e. rw e;
       no-size-no-item = λ r s room e h. (rw (e, le-leb 4 room h), refl);
       no-room-longer = λ r s e. rw e;
-      remapped = λ n r j js room e f g. rw (e, f, g, lt-ltb 0 (length (j ∷ js)) (omega arith));
       region-first = region-breaks;
       then-entries = entries-break;
       then-head = head-breaks;

@@ -54,7 +54,7 @@ module _ (n : Streams) where
   abbrev pub writePart : Bool → Option Part
   writePart anew = cond anew (some clears) none
 
-  -- "nor do other calls or those stopped by a check"
+  -- "On an idle queue neither adds anything" (a part that does nothing), "nor do other calls or those stopped by a check."
   abbrev pub partIn : Direction → Request → Rest → List ℕ → Option Part
   partIn d (ReadRegister offset width) r m = none
   partIn d (WriteRegister offset width v) r m = writePart (writesAnew (queueNumber d) offset width v (r .registers))

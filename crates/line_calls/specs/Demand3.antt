@@ -170,7 +170,7 @@ pub record OfStream (d : Direction) (i : ℕ) (h : History) (bytes : List ℕ) (
   pub told : map (λ (x : Note). x .byte) (lineAt h i .story .notes) ≡ bytes
   pub counts : count ≡ length (lineAt h i .story .notes)
 
--- ---- the claim
+-- ---- the claim: "Demand 3 is one claim about the whole list, with the calls on the card that orders add, not one for each call."
 
 pub record Demand3 (d : Description) (len : ℕ) (cs : List Call) : Type 0 where
   pub calls :

@@ -8,3 +8,4 @@ pub mod Backlog
 pub mod Causes
 pub mod Demand3
 pub mod Table
+pub mod Cases

@@ -1,4 +1,4 @@
--- The P cases of control messages and of whole calls, 01's and those of orders 1, 6 and 8, as one table over the definitions.
+-- The P cases of orders 1, 6 and 8 that are about control messages and whole calls, as one table over the definitions; 01's are in Cases.
 use mathlib.Core.Path.{_≡_}
 use mathlib.Core.Bool.{true, false}
 use mathlib.Core.List.{List, [], _∷_, _++_}
@@ -11,13 +11,12 @@ use Rattle.registers.specs.Rules.{live, hasBit}
 use Rattle.registers.specs.declared.answers.Answer.{Answer}
 use Rattle.ring.specs.Layout.{endAt, ringPlaceAt}
 use Rattle.ring.specs.Rules.{baseOf, newOf, indexOf}
-use Rattle.card.specs.declared.Jack.{Jack}
 use Rattle.card.specs.declared.Stream.{Stream}
 use Rattle.device.specs.Device.{Direction, output, input, Rest, Device, pageOf, bytesOf}
-use Rattle.device.specs.Numbers.{jackRemap, pcmInfo, controlQueue, playQueue, sOk, sBadMsg}
+use Rattle.device.specs.Numbers.{pcmInfo, controlQueue, playQueue, sOk, sBadMsg}
 use Rattle.device.specs.Transfer.{Shows}
 use Rattle.rules.specs.Calls.{ReleaseFirst, Pending, isRunning}
-use Rattle.rules.specs.Control.{Parts, Reply, status, withDefconf, itemsBy, pcmItemOf}
+use Rattle.rules.specs.Control.{Parts, Reply, status, itemsBy, pcmItemOf}
 use Rattle.rules.specs.Table.{named}
 use Rattle.rules.specs.declared.Listing.the-variants as listing
 use Rattle.queue_lines.specs.Counters.{Line, Queue, lengthOf}
@@ -56,10 +55,6 @@ headFor r m = le 2 m (baseOf (pageOf r controlQueue) + ringPlaceAt (sizeOf contr
 abbrev pub asks : ℕ → ℕ → ℕ → List ℕ
 asks start count size = bytesOf 4 pcmInfo ++ bytesOf 4 start ++ bytesOf 4 count ++ bytesOf 4 size
 
--- a remap request: code, jack_id, association, sequence
-abbrev pub remaps : ℕ → ℕ → ℕ → List ℕ
-remaps id association sequence = bytesOf 4 jackRemap ++ bytesOf 4 id ++ bytesOf 4 association ++ bytesOf 4 sequence
-
 -- a card of one stream
 abbrev pub oneOutput : Streams
 oneOutput = streams 1 0
@@ -85,20 +80,6 @@ pub record Table : Type 0 where
       (p : Parts) (x y z : Stream)
       → p .streams ≡ x ∷ y ∷ z ∷ []
       → itemsBy (directionNumber (streams 2 1)) listing.Streams p ≡ pcmItemOf 0 x ∷ pcmItemOf 0 y ∷ pcmItemOf 1 z ∷ []
-  -- "PCM_INFO on one stream: (0, 1, 32) length 36": the status and the one item
-  pub one-item :
-      (p : Parts) (s : Stream) (room : ℕ) → p .streams ≡ s ∷ [] → 36 ≤ room
-      → (served oneOutput p (asks 0 1 32) room ≡ Reply p (status sOk ++ pcmItemOf 0 s)) × (length (status sOk ++ pcmItemOf 0 s) ≡ 36)
-  -- "(1, 0, 32) length 4, OK"
-  pub no-item :
-      (p : Parts) (s : Stream) (room : ℕ) → p .streams ≡ s ∷ [] → 4 ≤ room
-      → (served oneOutput p (asks 1 0 32) room ≡ Reply p (status sOk)) × (length (status sOk) ≡ 4)
-  -- "(0xFFFFFFFF, 1, 32) BAD_MSG"
-  pub no-wrap :
-      (p : Parts) (s : Stream) (room : ℕ) → p .streams ≡ s ∷ []
-      → served oneOutput p (asks 4294967295 1 32) room ≡ Reply p (status sBadMsg)
-  -- "reply room 35 for one item: BAD_MSG"
-  pub no-room : (p : Parts) (s : Stream) → p .streams ≡ s ∷ [] → served oneOutput p (asks 0 1 32) 35 ≡ Reply p (status sBadMsg)
   -- order 1, on one stream: (0, 1, 40) gives length 44 with eight zeros behind the item; (0, 1, 8) length 12, the item's first 8 bytes
   pub longer-item :
       (p : Parts) (s : Stream) (room : ℕ) → p .streams ≡ s ∷ [] → 44 ≤ room
@@ -114,11 +95,6 @@ pub record Table : Type 0 where
       (p : Parts) (s : Stream) (room : ℕ) → p .streams ≡ s ∷ [] → 4 ≤ room
       → (served oneOutput p (asks 0 0 0) room ≡ Reply p (status sOk)) × (length (status sOk) ≡ 4)
   pub no-room-longer : (p : Parts) (s : Stream) → p .streams ≡ s ∷ [] → served oneOutput p (asks 0 1 40) 43 ≡ Reply p (status sBadMsg)
-  -- "Defconf 0x0121401F, association 2, sequence 5: 0x01214025."
-  pub remapped :
-      (n : Streams) (p : Parts) (j : Jack) (js : List Jack) (room : ℕ) → p .jacks ≡ j ∷ js → j .info .features ≡ 1 → j .defconf ≡ 18956319
-      → served n p (remaps 0 2 5) room
-      ≡ Reply (record { jacks = withDefconf 18956325 j ∷ js; maps = p .maps; streams = p .streams }) (status sOk)
   -- order 6: a region past RAM is 9, whatever its ring shows; inside RAM, 65 new entries or more are 11, whatever the head; with 1 to
   -- 64 a head of 64 or more is 12. Each names queue 0; a Release of output 0 whose queue passes the end of RAM names 2
   pub region-first :

@@ -22,7 +22,7 @@ use Rattle.queue_lines.specs.Chains.{Virtqueue, queueSize, walked, isOn,
 use Rattle.queue_lines.specs.Claim.{card}
 use Rattle.queue_lines.specs.Counters.{Queue, sumOf}
 use Rattle.queue_lines.specs.Rules.{unread, stopped, posted, completed, opened, transferStep, releaseStep, transferred, emptied}
-use Rattle.queue_lines.specs.Table.{finds, findsOne, Changed, refusedIn, Readable, Unfit, outside, short, below, beyond, readAs}
+use Rattle.queue_lines.specs.Table.{finds, Changed, refusedIn, Readable, Unfit, outside, short, below, beyond, readAs}
 use Rattle.queue_lines.specs.Table.{Table}
 
 -- with its region inside memory, the number of entries decides what is found
@@ -30,11 +30,6 @@ entries-decide : (index one two : ℕ) → finds index one two (entriesOf 256 (n
 unfolding foundOf sizeOf sumOf
 entries-decide index one two m page negotiated latency completed a b s p q =
     rw (s .reads, ne-eqb (page .0) 0 (λ e. omega arith), le-ltb (length m) (baseOf page + 6664) (omega arith), p, q)
-
-entries-decide-one : (index line : ℕ) → findsOne index line (entriesOf 256 (newOf index 10) (line + 0))
-unfolding foundOf sizeOf sumOf
-entries-decide-one index line m page negotiated latency completed a s p =
-    rw (s .reads, ne-eqb (page .0) 0 (λ e. omega arith), le-ltb (length m) (baseOf page + 6664) (omega arith), p)
 
 none-of-two : (x : Bool) → (x && false) ≡ false
 none-of-two true = refl
@@ -156,10 +151,6 @@ table =
       bad-refused = λ v m head request reply c u a l. at-once v m head request reply c u true (rw (a, le-leb 8 (total reply) l));
       bad-silent = λ v m head request reply c u b. at-once v m head request reply c u false (silent-false v m head request reply b);
       begins = begins;
-      none-works = entries-decide-one 266 0;
-      none-breaks = entries-decide-one 267 0;
-      one-works = entries-decide-one 265 1;
-      one-breaks = entries-decide-one 266 1;
       full = entries-decide 256 200 56;
       one-more = entries-decide 257 200 56;
       one-fits = entries-decide 257 200 55;

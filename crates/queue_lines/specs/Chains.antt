@@ -33,7 +33,8 @@ queueSize v = sizeOf (queueNumber (v .direction))
 abbrev pub walked : Virtqueue → List ℕ → ℕ → Outcome
 walked v m head = walkOf m (baseOf (v .page)) (queueSize v) head (v .negotiated)
 
--- "I/O order: walk fault, writable outside RAM, reply under 8: length 0. Then ..: IO_ERR"; `sound` is what the rest of the order asks
+-- "I/O order: walk fault, writable outside RAM, reply under 8: length 0. Then readable outside RAM, wrong stream id, or ..: IO_ERR, length
+-- 8. Without these a message is well-formed"; `sound` is what the rest of the order asks
 abbrev pub judged : List ℕ → List Range → Bool → Form
 judged m reply sound = cond (allInside (length m) reply && leb 8 (total reply)) (cond sound wellFormed refused) silent
 
@@ -66,7 +67,8 @@ arrivalOf v m head = arrival v m head (walked v m head)
 -- ---- beginning
 
 -- "When work on the front of a line, or else its Release, begins, its chain is read and remembered; an id that changed meanwhile is
--- IO_ERR": by 01's I/O order, "wrong stream id" now being any but the line's
+-- IO_ERR": by 01's I/O order, "wrong stream id" now being any but the line's. This amends 01's "Ranges are remembered when a message is
+-- taken"
 abbrev pub reading : Virtqueue → ℕ → List ℕ → ℕ → Outcome → Taking
 reading v i m head (faulted f) = record { head = head; request = []; reply = []; form = unwalked f }
 reading v i m head (whole request reply) =

@@ -86,7 +86,7 @@ module _ {Q : Type 0} (ops : Ops Q) (v : Virtqueue) where
   taken head (inLine i) r = withQueue (ops .join i head (r .queue)) r
   taken head (atOnce t) r = posted illFormed (fresh t) (ops .bounce t (v .latency) (r .queue)) r
 
-  -- "when met, a head is ≥ N (that entry is not taken)"
+  -- "when met, a head is ≥ N (that entry is not taken)": it "ends either, untaken; what the call added before it stands"
   abbrev pub met : Head → Run Q → Run Q
   met (Head.At n) r = taken (n .0) (arrivalOf v (r .mem) (n .0)) r
   met (Head.Broken cause) r = stopped cause r
@@ -139,7 +139,8 @@ module _ {Q : Type 0} (ops : Ops Q) (v : Virtqueue) where
   unfoldable pub transferStep : ℕ → Run Q → Run Q
   transferStep i r = cond (ltb 0 (r .room)) (onFront i (worked i) (ops .front i (r .queue)) r) r
 
-  -- ---- a Release: "completes its message in work", and all else in its line; "Ill-formed messages get their own answer."
+  -- ---- a Release: "completes its message in work, then takes and completes all entries there", by order 8 those of its own line: it
+  -- "gives the message in work, then each new well-formed one, an IO_ERR entry"; "Ill-formed messages get their own answer."
 
   unfoldable pub releaseStep : ℕ → Run Q → Run Q
   releaseStep i r = onFront i (completed i released) (ops .front i (r .queue)) r
@@ -160,11 +161,13 @@ module _ {Q : Type 0} (ops : Ops Q) (v : Virtqueue) where
 
   -- ---- a call's part on the queue
 
-  -- "New entries = index − taken, modulo 65,536 .. new plus in work exceeds N"; "the overrun rule counts all of a queue as in work"
+  -- "New entries = index − taken, modulo 65,536 .. new plus in work exceeds N"; "the overrun rule counts all of a queue as in work". "The
+  -- available index is read once per call (for a Release, once more on the stream's queue), before that queue's writes.": in memory as
+  -- the call's part finds it
   abbrev pub found : Q → List ℕ → Check
   found q m = foundOf m (v .page) (queueSize v) (ops .new q (indexOf m (v .page) (queueSize v))) (ops .inWork q)
 
-  -- on an idle or a broken queue nothing is done
+  -- on an idle or a broken queue nothing is done: "idle: nothing pending", "On an idle queue neither adds anything"
   abbrev pub onFound : (ℕ → Run Q → Run Q) → Run Q → Check → Run Q
   onFound run r Check.Idle = r
   onFound run r (Check.Broken cause) = stopped cause r

@@ -1,4 +1,4 @@
--- The P cases of a stream queue, 01's and order 8's, as one table over the definitions.
+-- The P cases of order 8 that are about a stream queue, as one table over the definitions; 01's are in line_calls/specs/Cases.
 use mathlib.Core.Path.{_≡_}
 use mathlib.Core.List.{List, [], _∷_}
 use mathlib.Core.Bool.{Bool, true, false}
@@ -39,23 +39,6 @@ finds index one two check =
       streams = 2;
     })
     (record { taken = 256; completed = completed; lines = a ∷ b ∷ [] }) m
-    ≡ check
-
--- .. of one stream with 10 taken
-abbrev pub findsOne : ℕ → ℕ → Check → Type 0
-findsOne index line check =
-    (m : List ℕ) (page : PageNumber) (negotiated : Bool) (latency completed : ℕ) (a : Line)
-    → Shows m page index
-    → lengthOf a ≡ line
-    → found (countersOf output 1) (record {
-      direction = output;
-      page = page;
-      negotiated = negotiated;
-      latency = latency;
-      first = 0;
-      streams = 1;
-    })
-    (record { taken = 10; completed = completed; lines = a ∷ [] }) m
     ≡ check
 
 -- memory now shows a chain at this head that can be answered, whose id is not line i's
@@ -133,11 +116,6 @@ pub record Table : Type 0 where
       → allInside (length m) reply ≡ true
       → total reply ≡ 8
       → readingOf v i m head ≡ readAs head request reply wellFormed
-  -- 01: "Play, taken 10, none in work: index 266 works, 267 breaks; one in work: 265 works, 266 breaks."; in line, by order 8
-  pub none-works : findsOne 266 0 (Check.New 256)
-  pub none-breaks : findsOne 267 0 (Check.Broken Cause.Entries)
-  pub one-works : findsOne 265 1 (Check.New 255)
-  pub one-breaks : findsOne 266 1 (Check.Broken Cause.Entries)
   -- lines of 200 and 56 on two streams, none new: fine; the next entry is 11. With lines of 200 and 55 one more is fine
   pub full : finds 256 200 56 (Check.New 0)
   pub one-more : finds 257 200 56 (Check.Broken Cause.Entries)

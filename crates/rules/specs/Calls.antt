@@ -176,6 +176,7 @@ module _ (serve : Parts → List ℕ → ℕ → Served) where
       (walkOf m (baseOf (pageOf r controlQueue)) (sizeOf controlQueue) (n .0) (indirect r))
   controlHeadBy r m (Head.Broken cause) = Done (broke controlQueue cause r m)
 
+  -- "Base 0: the queue is idle; control, play and capture then answer 0, count 0."; so does a control call where nothing is new
   abbrev pub controlFoundBy : Rest → List ℕ → Check → Order
   controlFoundBy r m Check.Idle = Done (refusedWith done r m)
   controlFoundBy r m (Check.Broken cause) = Done (broke controlQueue cause r m)

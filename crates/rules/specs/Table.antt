@@ -1,22 +1,13 @@
--- 01, Numbers on each side: the cases marked P that speak of no stream's number and of no stream queue, with those of order 2, as one table
--- over the definitions. The others are in queue_lines/specs/Table and line_calls/specs/Table.
+-- The P cases of order 2, as one table over the definitions. 01's are in line_calls/specs/Cases.
 use mathlib.Core.Path.{_≡_}
 use Prim.Native.Nat.{ℕ}
-use Rattle.registers.specs.Rules.{readOf, writeOf, powerOn, valueRead}
-use Rattle.registers.specs.declared.Config.{Config}
-use Rattle.registers.specs.declared.Registers.{Registers}
 use Rattle.registers.specs.declared.answers.Answer.{Answer}
-use Rattle.ring.specs.Rules.{newOf}
 use Rattle.card.specs.declared.Params.{Params}
 use Rattle.description.specs.declared.StreamInfo.{StreamInfo}
 use Rattle.rules.specs.Control.{judgedParams}
 use Rattle.device.specs.Numbers.{sOk, sBadMsg, sNotSupp}
 
 -- ---- what the cases are asked of
-
--- the registers after power-up, a write of GUEST_FEATURES (offset 4) and one of 0x0B to STATUS (offset 18)
-abbrev pub negotiated : ℕ → Registers
-negotiated features = writeOf (writeOf powerOn 4 4 features .registers) 18 1 11 .registers
 
 -- order 2: a stream that offers every format and every rate, 1 to 18 channels; what SET_PARAMS of these parameters answers
 abbrev pub anything : StreamInfo
@@ -33,12 +24,6 @@ named number queue = record { number = number; queue = queue }
 -- ---- the table
 
 pub record Table : Type 0 where
-  -- "Taken 65,535, index 0: 1 new." "Taken 65,530, index 4: 10 new."
-  pub one-new : newOf 0 65535 ≡ 1
-  pub ten-new : newOf 4 65530 ≡ 10
-  -- "Features 0x10000001, STATUS 0x0B reads 0x03; with 0x10000000 it reads 0x0B."
-  pub refused-features : (c : Config) → readOf (negotiated 268435457) c 18 1 ≡ valueRead (negotiated 268435457) 3
-  pub agreed-features : (c : Config) → readOf (negotiated 268435456) c 18 1 ≡ valueRead (negotiated 268435456) 11
   -- order 2: stereo S16 (5), period 1,921 BAD_MSG, 1,920 OK; mono IMA ADPCM (0), period 1 OK; three channels of it: 3 OK, 4 BAD_MSG;
   -- 18 channels of FLOAT64 (20): 144 OK, 72 BAD_MSG; a rate not offered with a bad period: NOT_SUPP
   pub half-frame : judgedParams anything (params 1921 2 5 7) 0 ≡ sBadMsg
