@@ -1,4 +1,0 @@
-// The access program, on lines of every kind.
-fn main() {
-    access_run::run();
-}

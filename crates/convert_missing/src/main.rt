@@ -1,4 +1,0 @@
-// The converter as a program: convert FORMAT FROM TO.
-fn main() {
-    convert_run::run();
-}
