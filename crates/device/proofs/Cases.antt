@@ -1,11 +1,11 @@
 -- Cases of a Bool test, each with what the test then tells; something is not nothing; forms and endings told apart. (`by-cond`, for one
 -- choice, is the registers'.)
 use mathlib.Core.Path.{_≡_, refl, sym, ap}
-use mathlib.Core.Bool.{Bool, true, false, cond, true≢false}
+use mathlib.Core.Bool.{Bool, true, false, cond, _&&_, true≢false}
 use mathlib.Core.Option.{Option, none, some}
 use Prim.Native.Nat.{ℕ}
 use native.Mathlib.Omega.{arith}
-use Rattle.device.specs.Device.{Form, wellFormed, refused, silent, unwalked, finished, released}
+use Rattle.device.specs.Device.{Form, wellFormed, refused, silent, unwalked, finished, released, Message}
 use Rattle.device.specs.Transfer.{isWell}
 
 -- a choice is shown as another where each of its two ways is
@@ -26,6 +26,10 @@ pub by-cond₂ :
 by-cond₂ R true h k = h refl
 by-cond₂ R false h k = k refl
 
+pub and-false : (b : Bool) → (b && false) ≡ false
+and-false true = refl
+and-false false = refl
+
 pub cond-same : {A : Type 0} (b : Bool) (x : A) → cond b x x ≡ x
 cond-same true x = refl
 cond-same false x = refl
@@ -36,6 +40,9 @@ sizeOf (some x) = 1
 
 pub none-some : {A : Type 0} (x : A) → _≡_ {A = Option A} none (some x) → ⊥
 none-some x e = let z : _≡_ {A = ℕ} 0 1 = ap sizeOf e in omega arith
+
+pub some-same : (x y : Message) → _≡_ {A = Option Message} (some x) (some y) → x ≡ y
+some-same x y e = cc
 
 pub well-of : (f : Form) → isWell f ≡ true → f ≡ wellFormed
 well-of wellFormed e = refl

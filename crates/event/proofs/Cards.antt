@@ -2,8 +2,8 @@
 -- its tests.
 use mathlib.Core.Path.{_≡_, _∙_, refl, sym, ap}
 use mathlib.Core.Bool.{Bool, true, false, true≢false, cond, _||_}
-use mathlib.Core.List.{List, [], _∷_, map}
-use Prim.Native.Nat.{ℕ, zero, suc, _<_}
+use mathlib.Core.List.{List, [], map}
+use Prim.Native.Nat.{ℕ, _<_}
 use native.Mathlib.Omega.{arith}
 use borrow.Author.Tests.{ltb-true, eqb-true}
 use lib.Dec.{eqb, ltb}
@@ -27,6 +27,7 @@ use Rattle.meaning.proofs.Streams.{rest-stream}
 use Rattle.meaning.specs.Card.{restOf, deviceOf, stepOf, leaves}
 use Rattle.meaning.specs.Fit.{Fits}
 use Rattle.queue_lines.specs.Counters.{Queue}
+use Rattle.queue_lines.proofs.Lists.{map-set}
 use Rattle.rules.proofs.Parts.{stream-at}
 use Rattle.line_calls.specs.Calls.{Event}
 use Rattle.rules.specs.Calls.{Result, Step, stepBy, refusedWith, withConnected, admitted, eventAllowed, recorded, eventOf}
@@ -113,11 +114,6 @@ names-jack l p f code i h e =
     omega (arith, f .parts .jacks)
 
 -- in the parts: a connection is recorded whether a reset came or not
-map-set : {A B : Type 0} (f : A → B) (l : List A) (i : ℕ) (x : A) → map f (set l i x) ≡ set (map f l) i (f x)
-map-set f [] i x = refl
-map-set f (y ∷ l) zero x = refl
-map-set {B = B} f (y ∷ l) (suc i) x = ap (λ (r : List B). f y ∷ r) (map-set f l i x)
-
 jack-now : (b : Bool) (l : List Jack) (i : ℕ) → getD (map (jackNow b) l) i noJack ≡ jackNow b (getD l i noJack)
 jack-now true l i = List·getD-map (jackNow true) l i noJack
 jack-now false l i = List·getD-map (jackNow false) l i noJack

@@ -187,10 +187,6 @@ pub not-nil : (l : List ℕ) → 0 < length l → isNil l ≡ false
 not-nil [] h = absurd (omega arith)
 not-nil (x ∷ l) h = refl
 
-pub some-left : (l : List ℕ) → isNil l ≡ false → 0 < length l
-some-left [] h = absurd (true≢false h)
-some-left (x ∷ l) h = omega arith
-
 some-of : (n : ℕ) → eqb n 0 ≡ false → 0 < n
 some-of n h = let e = eqb-false n 0 h in omega (arith, e)
 

@@ -28,18 +28,18 @@ abbrev areWidths : List ℕ → Bool
 areWidths [] = true
 areWidths (b ∷ t) = isWidth b && areWidths t
 
-first : (a b : Bool) → a && b ≡ true → a ≡ true
+pub first : (a b : Bool) → a && b ≡ true → a ≡ true
 first true b h = refl
 first false b h = h
 
-rest : (a b : Bool) → a && b ≡ true → b ≡ true
-rest true b h = h
-rest false b h = absurd (false≢true h)
+pub second : (a b : Bool) → a && b ≡ true → b ≡ true
+second true b h = h
+second false b h = absurd (false≢true h)
 
 width-at : (l : List ℕ) (k : ℕ) → areWidths l ≡ true → k < length l → Width (getD l k 0)
 width-at [] k t h = absurd (omega arith)
 width-at (b ∷ t) zero w h = is-width b (first (isWidth b) (areWidths t) w)
-width-at (b ∷ t) (suc k) w h = width-at t k (rest (isWidth b) (areWidths t) w) (omega arith)
+width-at (b ∷ t) (suc k) w h = width-at t k (second (isWidth b) (areWidths t) w) (omega arith)
 
 pub table : Table
 unfolding physicalBits

@@ -1,6 +1,6 @@
 -- The P cases are proved as one statement: the rules compute, once the tests that the hypotheses decide are in place.
 use mathlib.Core.Path.{_≡_, _∙_, refl, ap}
-use mathlib.Core.Bool.{Bool, true, false, _&&_}
+use mathlib.Core.Bool.{true, false, _&&_}
 use mathlib.Core.List.{List, [], _∷_}
 use Prim.Native.Nat.{ℕ, zero, suc, _+_, _-_, _≤_, _<_, _^_}
 use native.Mathlib.Omega.{arith}
@@ -18,6 +18,7 @@ use Rattle.ring.specs.declared.Head.{Head}
 use Rattle.device.specs.Device.{Direction, output, input, Rest, Device, queueFor, pageOf, streamAt, bytesOf}
 use Rattle.device.specs.Numbers.{controlQueue, playQueue}
 use Rattle.device.specs.Transfer.{Shows, Run, begun}
+use Rattle.device.proofs.Cases.{and-false}
 use Rattle.rules.specs.Calls.{Order, ReleaseFirst, Pending, controlHeadBy, controlFoundBy, orderedBy, isRunning, transferStep, remembering}
 use Rattle.rules.specs.Calls.{untouched, releasedOn}
 use Rattle.rules.specs.Control.{decodedOf}
@@ -32,10 +33,6 @@ use Rattle.line_calls.specs.Claim.{card}
 use Rattle.line_calls.specs.Streams.{Streams, directionOf}
 use Rattle.line_calls.specs.Table.{streams, Ready, Controls, controlled, endsAt, newFor, headFor, Absent, Table}
 use Rattle.rules.proofs.Anew.{clears-by}
-
-and-false : (x : Bool) → (x && false) ≡ false
-and-false true = refl
-and-false false = refl
 
 -- a stream that does not run on the queue of a direction
 module _ (n : Streams) (b : Device Queue) (m : List ℕ) (ready : Ready b m) (host : List ℕ) (id backlog : ℕ) where

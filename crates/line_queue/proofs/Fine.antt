@@ -1,6 +1,6 @@
 -- The messages of all lines have heads of the table, and something of each message in work waits: the rules keep it.
 use mathlib.Core.Path.{_≡_, _∙_, refl, sym, ap}
-use mathlib.Core.Bool.{true, false, true≢false}
+use mathlib.Core.Bool.{false}
 use mathlib.Core.List.{List, [], _∷_, _++_}
 use mathlib.Core.Option.{Option, none, some}
 use Prim.Native.Nat.{ℕ, _+_, _<_}
@@ -17,9 +17,9 @@ use Rattle.ring.specs.declared.Head.{Head}
 use Rattle.device.specs.Account.{Each}
 use Rattle.device.specs.Answers.{going}
 use Rattle.device.specs.Counters.{further}
-use Rattle.device.specs.Device.{Form, wellFormed, refused, silent, unwalked, Taking, Message, Ending, released, finished, illFormed}
+use Rattle.device.specs.Device.{wellFormed, Taking, Message, Ending, released, finished, illFormed}
 use Rattle.device.specs.Transfer.{Run, isNil, isWell, payloadOf}
-use Rattle.device.proofs.Cases.{none-some}
+use Rattle.device.proofs.Cases.{none-some, some-same, well-of}
 use Rattle.queue_lines.specs.Chains.{Virtqueue, queueSize, Arrival, inLine, atOnce, arrivalOf, readingOf}
 use Rattle.queue_lines.specs.Claim.{card}
 use Rattle.queue_lines.specs.Counters.{Line, Queue, noLine, frontOf, lineIn}
@@ -29,15 +29,6 @@ use Rattle.queue_lines.specs.Turn.{Waits}
 use Rattle.queue_lines.proofs.Lists.{times-keeps, changed-keeps, drop-taken}
 use Rattle.queue_lines.proofs.Natural.{reading-head}
 use Rattle.line_queue.specs.Between.{FitIn}
-
-well-formed : (f : Form) → isWell f ≡ true → f ≡ wellFormed
-well-formed wellFormed e = refl
-well-formed refused e = absurd (true≢false (sym e))
-well-formed silent e = absurd (true≢false (sym e))
-well-formed (unwalked f) e = absurd (true≢false (sym e))
-
-some-same : (x y : Message) → _≡_ {A = Option Message} (some x) (some y) → x ≡ y
-some-same x y e = cc
 
 each-more : (P : ℕ → Type 0) (l : List ℕ) (x : ℕ) → Each P l → P x → Each P (l ++ x ∷ [])
 each-more P [] x e p = (p, tt)
@@ -180,7 +171,7 @@ module _ (v : Virtqueue) where
             near = after;
             begun = rw (here q x n);
             heads = still;
-            well = well-formed (t .form) w;
+            well = well-of (t .form) w;
             head = rw named (all .0);
           }))
           (λ w. completed-fine illFormed (fresh t) _ after still)

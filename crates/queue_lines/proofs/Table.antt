@@ -18,6 +18,7 @@ use Rattle.ring.specs.Rules.{baseOf, foundOf, newOf, entriesOf}
 use Rattle.ring.specs.declared.Cause.{Cause}
 use Rattle.device.specs.Device.{output, wellFormed, refused, silent, unwalked}
 use Rattle.device.specs.Transfer.{Run, begun, idOf, sized}
+use Rattle.device.proofs.Cases.{and-false}
 use Rattle.queue_lines.specs.Chains.{Virtqueue, queueSize, walked, isOn, inLine, atOnce, arrivalOf, readingOf}
 use Rattle.queue_lines.specs.Claim.{card}
 use Rattle.queue_lines.specs.Counters.{Queue, sumOf}
@@ -30,10 +31,6 @@ entries-decide : (index one two : ℕ) → finds index one two (entriesOf 256 (n
 unfolding foundOf sizeOf sumOf
 entries-decide index one two m page negotiated latency completed a b s p q =
     rw (s .reads, ne-eqb (page .0) 0 (λ e. omega arith), le-ltb (length m) (baseOf page + 6664) (omega arith), p, q)
-
-none-of-two : (x : Bool) → (x && false) ≡ false
-none-of-two true = refl
-none-of-two false = refl
 
 none-of-three : (x y : Bool) → (x && false && y) ≡ false
 none-of-three true y = refl
@@ -66,14 +63,14 @@ module _ (v : Virtqueue) (m : List ℕ) (head : ℕ) (request reply : List Range
   unfit-false : Unfit v m request → fit ≡ false
   unfit-false (outside e) = rw e
   unfit-false (short e) = rw (lt-leb 4 (total request) e) (none-of-three (allInside (length m) request) (isOn v (idOf m request)))
-  unfit-false (below e) = rw (lt-leb (v .first) (idOf m request) e) (none-of-two (allInside (length m) request && leb 4 (total request)))
+  unfit-false (below e) = rw (lt-leb (v .first) (idOf m request) e) (and-false (allInside (length m) request && leb 4 (total request)))
   unfit-false (beyond e) =
-      rw (le-ltb (idOf m request - v .first) (v .streams) (omega arith), none-of-two (leb (v .first) (idOf m request)))
-      (none-of-two (allInside (length m) request && leb 4 (total request)))
+      rw (le-ltb (idOf m request - v .first) (v .streams) (omega arith), and-false (leb (v .first) (idOf m request)))
+      (and-false (allInside (length m) request && leb 4 (total request)))
 
   silent-false : (allInside (length m) reply ≡ false) ⊎ (total reply < 8) → answerable ≡ false
   silent-false (inl e) = rw e
-  silent-false (inr e) = rw (lt-leb 8 (total reply) e) (none-of-two (allInside (length m) reply))
+  silent-false (inr e) = rw (lt-leb 8 (total reply) e) (and-false (allInside (length m) reply))
 
   joins-line : (i : ℕ) → Readable v m head request reply → idOf m request ≡ v .first + i → i < v .streams → arrivalOf v m head ≡ inLine i
   unfolding arrivalOf

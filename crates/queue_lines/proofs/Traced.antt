@@ -2,7 +2,7 @@
 use mathlib.Core.Path.{_≡_, refl, sym, ap, _∙_, subst}
 use mathlib.Core.Bool.{Bool, false, _||_, true≢false}
 use mathlib.Core.List.{List, []}
-use mathlib.Core.Option.{Option, some}
+use mathlib.Core.Option.{some}
 use Prim.Native.Nat.{ℕ, _-_, _≤_, _<_}
 use borrow.Author.Tests.{ltb-true}
 use native.Mathlib.Omega.{arith}
@@ -18,7 +18,7 @@ use Rattle.device.specs.Claim.{workOf}
 use Rattle.device.specs.Device.{Direction, wellFormed, Taking, Ending, finished, released, illFormed, Message}
 use Rattle.device.specs.Histories.{withEntry}
 use Rattle.device.specs.Transfer.{Run, isNil, isWell, payloadOf}
-use Rattle.device.proofs.Cases.{none-some, well-of, released-not}
+use Rattle.device.proofs.Cases.{none-some, some-same, well-of, released-not}
 use Rattle.device.proofs.Histories.{entered-work}
 use Rattle.device.proofs.Keeps.{done-le, ill-formed-none}
 use Rattle.queue_lines.specs.Chains.{Virtqueue, Arrival, inLine, atOnce, arrivalOf, readingOf}
@@ -38,9 +38,6 @@ use Rattle.queue_lines.proofs.Host.{stopped-past}
 use Rattle.queue_lines.proofs.Lists.{times-keeps, changed-keeps, drop-taken}
 use Rattle.queue_lines.proofs.Natural.{arrival-fits, reading-head, Fine, Begun, taken-keeps, completed-keeps, read-begun}
 use Rattle.queue_lines.proofs.Natural.{moved-begun, nothing-left}
-
-some-same : (x y : Message) → _≡_ {A = Option Message} (some x) (some y) → x ≡ y
-some-same x y e = cc
 
 -- a message in work waits, line by line
 abbrev pub Waiting : Direction → Line → Type 0

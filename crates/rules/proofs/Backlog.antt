@@ -29,6 +29,7 @@ use Rattle.rules.specs.Calls.{affectedRest}
 use Rattle.rules.specs.Calls.{isRunning, untouched, admittedIf, transferStep}
 use Rattle.rules.specs.Calls.{rememberedIf, remembering}
 use Rattle.device.specs.Transfer.{Transferred}
+use Rattle.device.proofs.Cases.{and-false}
 use Rattle.rules.specs.Control.{withBacklog}
 use Rattle.device.specs.Device.{Direction, output, input, Rest, Device, withRegisters, streamAt}
 use Rattle.rules.proofs.Anew.{register-other}
@@ -114,10 +115,6 @@ affected-word (Rung q) r id = refl
 pub both : (a b : Bool) → (a && b) ≡ true → a ≡ true
 both true b e = refl
 both false b e = e
-
-and-false : (b : Bool) → (b && false) ≡ false
-and-false true = refl
-and-false false = refl
 
 pub running-there : (r : Rest) (id : ℕ) → isRunning r id ≡ true → id < length (r .streams)
 running-there r id e = ltb-true _ _ (both (ltb id (length (r .streams))) (eqb (streamAt r id .state) runningState) e)

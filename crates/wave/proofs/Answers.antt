@@ -9,7 +9,7 @@ use lib.Dec.{leb, ltb}
 use lib.ListN.{length}
 use Rattle.wave.specs.Lists.{bitsOf, known, Known}
 use Rattle.wave.specs.Outcome.{maxData, judged, laid, outcome, placed}
-use Rattle.wave.proofs.Lists.{first, second}
+use Rattle.formats.proofs.Table.{first, second}
 
 module _ (f c r n : ℕ) where
   pub no-format : bitsOf f ≡ 0 → 20 ≡ judged f c r n

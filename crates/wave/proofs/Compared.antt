@@ -11,7 +11,7 @@ use lib.Dec.{eqb}
 use lib.ListN.{length, getD, take, drop, drop-of-length-le, length-append}
 use lib.Seq.{drop-cons, getD-append-seam}
 use Rattle.wave.specs.Outcome.{holds}
-use Rattle.wave.proofs.Lists.{first, second}
+use Rattle.formats.proofs.Table.{first, second}
 
 module _ (file : List ℕ) (at : ℕ) (s : List ℕ) where
   pub holds-start : holds file (at + 0) (drop 0 s) ≡ holds file at s

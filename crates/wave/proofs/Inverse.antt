@@ -15,7 +15,7 @@ use Rattle.wave.specs.Outcome.{judged, holds, hasWords, hasNumbers, hasP
 use Rattle.wave.specs.Outcome.{formatIn, channelsIn, rateIn, lengthIn}
 use Rattle.wave.specs.Promise.{Writable, Back, Accepted}
 use Rattle.wave.specs.declared.Found.{Found}
-use Rattle.wave.proofs.Lists.{first, second}
+use Rattle.formats.proofs.Table.{first, second}
 use Rattle.wave.proofs.Answers.{fine, judged-fine}
 use Rattle.wave.proofs.Parts.{length-header, length-file}
 use Rattle.wave.proofs.Compared.{holds-behind, holds-there}

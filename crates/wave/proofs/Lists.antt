@@ -1,6 +1,6 @@
 -- Laws of the lists: a format is one of the four or none, the numbers of each list are bounded, and the search for a rate finds its place.
 use mathlib.Core.Path.{_≡_, refl}
-use mathlib.Core.Bool.{Bool, true, false, cond, _&&_, false≢true}
+use mathlib.Core.Bool.{Bool, true, false, cond, _&&_}
 use mathlib.Core.List.{List, [], _∷_}
 use Prim.Native.Nat.{ℕ, zero, suc, _+_, _≤_, _<_}
 use native.Mathlib.Nat.{zero-add}
@@ -10,6 +10,7 @@ use borrow.Author.Tests.{eq-eqb, ne-eqb, leb-true}
 use lib.Dec.{eqb, leb}
 use lib.ListN.{getD, drop, List·getD-eq-default}
 use lib.Seq.{drop-cons}
+use Rattle.formats.proofs.Table.{first, second}
 use Rattle.formats.specs.Widths.{physicalBits}
 use Rattle.wave.specs.Lists.{listed, bitsOf, rates, hzOf, place, rateWith}
 
@@ -45,14 +46,6 @@ bits-bound f = listed-holds (λ g. physicalBits g ≤ 32) f (omega arith) (omega
 bounded : List ℕ → Bool
 bounded [] = true
 bounded (x ∷ l) = leb x 384000 && bounded l
-
-pub first : (a b : Bool) → a && b ≡ true → a ≡ true
-first true b h = refl
-first false b h = h
-
-pub second : (a b : Bool) → a && b ≡ true → b ≡ true
-second true b h = h
-second false b h = absurd (false≢true h)
 
 bounded-at : (l : List ℕ) (k : ℕ) → bounded l ≡ true → getD l k 0 ≤ 384000
 unfolding bounded

@@ -12,7 +12,7 @@ use lib.Seq.{take-all}
 use Rattle.wave.specs.File.{RIFF, WAVE, «fmt», «data», headerOf, fileLen}
 use Rattle.wave.specs.Outcome.{judged, holds, hasWords, hasNumbers, hasPad, refusal, readWith, fileRead}
 use Rattle.wave.specs.Promise.{Words, Numbers, Reading}
-use Rattle.wave.proofs.Lists.{first, second}
+use Rattle.formats.proofs.Table.{first, second}
 use Rattle.wave.proofs.Answers.{fine, judged-fine}
 use Rattle.wave.proofs.Parts.{length-header}
 use Rattle.wave.proofs.Compared.{holds-there, holds-of}
