@@ -139,8 +139,8 @@ module _ {Q : Type 0} (ops : Ops Q) (v : Virtqueue) where
   unfoldable pub transferStep : ℕ → Run Q → Run Q
   transferStep i r = cond (ltb 0 (r .room)) (onFront i (worked i) (ops .front i (r .queue)) r) r
 
-  -- ---- a Release: "completes its message in work, then takes and completes all entries there", by order 8 those of its own line: it
-  -- "gives the message in work, then each new well-formed one, an IO_ERR entry"; "Ill-formed messages get their own answer."
+  -- ---- a Release: "completes its message in work, then takes and completes all entries there", by order 8 those of its own line; that of
+  -- an output "gives the message in work, then each new well-formed one, an IO_ERR entry". "Ill-formed messages get their own answer."
 
   unfoldable pub releaseStep : ℕ → Run Q → Run Q
   releaseStep i r = onFront i (completed i released) (ops .front i (r .queue)) r
