@@ -12,12 +12,12 @@ use Rattle.rules.specs.declared.Asked.the-variants.{Information, Remap, Pcm}
 use Rattle.control.specs.declared.Change.{Change}
 use Rattle.control.specs.declared.Change.the-variants as change
 use Rattle.control.specs.declared.Reading.{Reading}
-use Rattle.control.specs.declared.Reading.the-variants.{Refused, Informs, Remaps, Commands}
+use Rattle.control.specs.declared.Reading.the-variants.{Refused, Informs, Changes}
 
 abbrev pub readAs : Asked → Reading
 readAs (Information l) = Informs l
-readAs Remap = Remaps
-readAs (Pcm c) = Commands c
+readAs Remap = Changes change.Remap
+readAs (Pcm c) = Changes (change.Pcm c)
 
 -- what a request that may change the parts comes to, by its first bytes
 abbrev pub changedBy : Change → rules.Parts → List ℕ → rules.Served
@@ -33,7 +33,5 @@ Reads ws pending request bs m m′ (Informs l) =
     (m′ ≡ m)
     × ((n : Streams) (p : rules.Parts) (room : ℕ)
     → served n p request room ≡ rules.informBy (rules.itemsBy (directionNumber n)) p l bs room)
-Reads ws pending request bs m m′ Remaps =
-    (m′ ≡ m) × ((n : Streams) (p : rules.Parts) (room : ℕ) → served n p request room ≡ changedBy change.Remap p bs)
-Reads ws pending request bs m m′ (Commands c) =
-    (m′ ≡ m) × ((n : Streams) (p : rules.Parts) (room : ℕ) → served n p request room ≡ changedBy (change.Pcm c) p bs)
+Reads ws pending request bs m m′ (Changes asked) =
+    (m′ ≡ m) × ((n : Streams) (p : rules.Parts) (room : ℕ) → served n p request room ≡ changedBy asked p bs)

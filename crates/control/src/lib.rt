@@ -21,18 +21,17 @@ use rules::Command;
 use rules::Decoded;
 use rules::Listing;
 
-// What a request asks: it is refused and its message completed, it is for information, or it may change the parts.
-pub enum Reading {
-    Refused(Posted),
-    Informs(Listing),
-    Remaps,
-    Commands(Command),
-}
-
 // A request that may change the parts.
 pub enum Change {
     Remap,
     Pcm(Command),
+}
+
+// What a request asks: it is refused and its message completed, it is for information, or it may change the parts.
+pub enum Reading {
+    Refused(Posted),
+    Informs(Listing),
+    Changes(Change),
 }
 
 // What a request's code asks.
@@ -92,8 +91,8 @@ fn read_as(asked: Asked) -> Reading
 {
     match asked {
         Asked::Information(l) => Reading::Informs(l),
-        Asked::Remap => Reading::Remaps,
-        Asked::Pcm(command) => Reading::Commands(command),
+        Asked::Remap => Reading::Changes(Change::Remap),
+        Asked::Pcm(command) => Reading::Changes(Change::Pcm(command)),
     }
 }
 

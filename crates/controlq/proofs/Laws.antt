@@ -67,7 +67,7 @@ use Rattle.reply.specs.declared.Kind.the-variants as kinds
 use Rattle.reply.specs.declared.Served.{Served}
 use Rattle.stream.specs.declared.Emptied.{Emptied}
 use Rattle.stream.proofs.Fits.{signal-fit}
-use Rattle.stream.proofs.Held.{held-device, held-fits}
+use Rattle.meaning.proofs.Held.{held-device, held-fits}
 use Rattle.stream.proofs.Released.{released-ordered}
 use Rattle.controlq.specs.declared.Answered.{Answered}
 use Rattle.controlq.specs.declared.Ending.the-variants.{Broke, Completed}

@@ -25,7 +25,6 @@ use Rattle.live.specs.Setters.{withRegisters, withStates}
 use Rattle.live.specs.declared.Live.{Live}
 use Rattle.control.specs.Control.{changedBy}
 use Rattle.control.specs.declared.Change.{Change}
-use Rattle.control.specs.declared.Change.the-variants as change
 use Rattle.line_calls.specs.Calls.{Request, served, releaseBy, releaseQueue}
 use Rattle.line_calls.specs.Claim.{card}
 use Rattle.line_calls.specs.Streams.{Streams, streamsIn, directionOf}
@@ -41,7 +40,7 @@ use Rattle.rules.specs.Parts.{partsOf}
 use Rattle.device.specs.Device.{Device, pageOf, streamAt, signalledIf, oneTaken}
 use Rattle.device.specs.Numbers.{controlQueue}
 use Rattle.reply.specs.declared.Pending as reply
-use Rattle.stream.specs.Held.{holdingLive}
+use Rattle.meaning.specs.Held.{holdingLive}
 use Rattle.stream.specs.Queue.{Empties}
 use Rattle.stream.specs.declared.Emptied.{Emptied}
 use Rattle.controlq.specs.declared.ControlAnswer.{ControlAnswer}
@@ -172,10 +171,8 @@ Meets l head m ws m′ (Met.Whole request reply) =
 -- a step is what a message comes to
 abbrev pub Comes : Step (Device Queue) → Live → Parts → List ℕ → List ℕ → List ℕ → List ℕ → List ℕ → Answered → Type 0
 Comes s l p pw cw ws bs m (answered.Completed posted) = Ends s (finishOf (Completed posted) l p) pw cw m
-Comes s l p pw cw ws bs m (answered.Remaps message) =
-    (s ≡ changeStep change.Remap (cardIn l p pw cw) ws message bs m) × (length m ≡ l .«ram_len»)
-Comes s l p pw cw ws bs m (answered.Commands message command) =
-    (s ≡ changeStep (change.Pcm command) (cardIn l p pw cw) ws message bs m) × (length m ≡ l .«ram_len»)
+Comes s l p pw cw ws bs m (answered.Changes message asked) =
+    (s ≡ changeStep asked (cardIn l p pw cw) ws message bs m) × (length m ≡ l .«ram_len»)
 
 -- every card with this small state and these parts: what its message comes to
 abbrev pub Answers : Live → Parts → List ℕ → Ranges → Message → List ℕ → List ℕ → List ℕ → Answered → Type 0

@@ -37,7 +37,6 @@ use reply::Pending;
 use ring::Cause;
 use ring::Posted;
 use ring::Stop;
-use rules::Command;
 use stream::Emptied;
 
 // What the call answers: the count is the messages completed.
@@ -83,8 +82,7 @@ struct Message {
 // What a message that is taken comes to: it is completed, or its request may change the parts.
 enum Answered {
     Completed(Posted),
-    Remaps(Message),
-    Commands(Message, Command),
+    Changes(Message, Change),
 }
 
 // What a call comes to: it ends with nothing taken, or its message comes to this.
@@ -433,8 +431,7 @@ fn answer(
                 reply.bytes,
             ))
         }
-        Reading::Remaps => Answered::Remaps(message),
-        Reading::Commands(command) => Answered::Commands(message, command),
+        Reading::Changes(asked) => Answered::Changes(message, asked),
     }
 }
 
@@ -485,7 +482,7 @@ pub fn control(
             // What `change` answers has a place of its own: parts that stay as they were are copied once less.
             match answered {
                 Answered::Completed(posted) => finish(taken, parts, Ending::Completed(posted)),
-                Answered::Remaps(message) => {
+                Answered::Changes(message, asked) => {
                     let changed = change(
                         taken,
                         parts,
@@ -494,21 +491,7 @@ pub fn control(
                         m,
                         &words,
                         message,
-                        Change::Remap,
-                        &bytes,
-                    );
-                    changed
-                }
-                Answered::Commands(message, command) => {
-                    let changed = change(
-                        taken,
-                        parts,
-                        play_words,
-                        capture_words,
-                        m,
-                        &words,
-                        message,
-                        Change::Pcm(command),
+                        asked,
                         &bytes,
                     );
                     changed

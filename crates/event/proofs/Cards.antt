@@ -34,8 +34,8 @@ use Rattle.rules.specs.Calls.{Result, Step, stepBy, refusedWith, withConnected,
 use Rattle.rules.specs.Control.{noJack}
 use Rattle.device.specs.Device.{Rest, Device, withJacks, streamAt}
 use Rattle.device.specs.Numbers.{jackConnected, jackDisconnected, pcmXrun, eventQueue}
-use Rattle.stream.proofs.Held.{held-device, held-fits}
-use Rattle.stream.specs.Held.{holdingLive}
+use Rattle.meaning.proofs.Held.{held-device, held-fits}
+use Rattle.meaning.specs.Held.{holdingLive}
 use Rattle.event_queue.specs.Attempts as queue
 use Rattle.event_queue.specs.Attempts.{sentIn, sentOf}
 use Rattle.event_queue.specs.declared.Attempt.{Attempt}

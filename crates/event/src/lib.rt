@@ -7,7 +7,7 @@ ghost use Rattle.registers.specs.Rules.{hasBit};
 ghost use Rattle.rules.specs.Calls.{isRunning, eventAllowed};
 ghost use Rattle.device.specs.Device.{streamAt};
 ghost use Rattle.device.specs.Numbers.{eventQueue, jackConnected};
-ghost use Rattle.stream.specs.Held.{holdingLive};
+ghost use Rattle.meaning.specs.Held.{holdingLive};
 ghost use Rattle.live.specs.Live.{FitBoard};
 ghost use Rattle.event.specs.Event.{restIn, NamesJack, recordedIn, refusedBy, TellsOn};
 use card::Parts;

@@ -3,3 +3,4 @@ pub mod Words
 pub mod Fits
 pub mod Steps
 pub mod Streams
+pub mod Held

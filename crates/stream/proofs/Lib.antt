@@ -4,4 +4,3 @@ pub mod Fits
 pub mod Settled
 pub mod Lent
 pub mod Released
-pub mod Held

@@ -1,3 +1,2 @@
 -- A stream's queue in the card, and what a RELEASE makes of it.
 pub mod Queue
-pub mod Held

@@ -6,7 +6,6 @@ use lib.ListN.{length}
 use Rattle.card.specs.declared.Card.{Card}
 use Rattle.control.specs.Control.{Reads, changedBy}
 use Rattle.control.specs.declared.Change.{Change}
-use Rattle.control.specs.declared.Change.the-variants as change
 use Rattle.control.specs.declared.Reading.{Reading}
 use Rattle.live.specs.Live.{partsNow, cardIn}
 use Rattle.line_calls.specs.Calls as calls
@@ -86,11 +85,8 @@ inform-requires c κs =
     let k = g .before .before .before .before .before .before in
     start k .pre .0
 
-enum-told : tie.Need-enum-told
-enum-told c = search needs
-
-enum-known-command : tie.Need-enum-known-command
-enum-known-command c = search needs
+enum-known-asked : tie.Need-enum-known-asked
+enum-known-asked c = search needs
 
 same-length : tie.Need-same-length
 same-length c = search needs
@@ -139,20 +135,9 @@ same-length-6 c = search needs
 
 returns-3 : tie.Need-returns-3
 returns-3 c pw cw f =
-    let k = c .before .before .before .before .before .before in
-    left k change.Remap pw cw (told k _ (c .enum-told .given .1))
-
-same-length-7 : tie.Need-same-length-7
-same-length-7 c = search needs
-
-same-length-8 : tie.Need-same-length-8
-same-length-8 c = search needs
-
-returns-4 : tie.Need-returns-4
-returns-4 c pw cw f =
     let g = c .before in
     let k = g .before .before .before .before .before .before in
-    left k (change.Pcm (g .command .given .0 .0)) pw cw (told k _ (g .command .given .1))
+    left k (g .asked .given .0 .0) pw cw (told k _ (g .asked .given .1))
 
 pub answer-spec : {M : Type 1} → statement M
 answer-spec =
@@ -163,8 +148,7 @@ answer-spec =
     enum-known-posted
     enum-known-l
     inform-requires
-    enum-told
-    enum-known-command
+    enum-known-asked
     same-length
     same-length-2
     returns
@@ -173,7 +157,4 @@ answer-spec =
     returns-2
     same-length-5
     same-length-6
-    returns-3
-    same-length-7
-    same-length-8
-    returns-4)
+    returns-3)

@@ -19,11 +19,8 @@ abbrev start : tie.After-attend → tie.Start
 start c = c .before .before .before .before .before .before .before
 
 -- where a message is known to ask for a change
-abbrev remap-at : tie.After-change → tie.After-known-told4
-remap-at c = c .before .before .before .before .before .before
-
-abbrev command-at : tie.After-change2 → tie.After-known-told5
-command-at c = c .before .before .before .before .before .before
+abbrev asked-at : tie.After-change → tie.After-known-told4
+asked-at c = c .before .before .before .before .before .before
 
 -- what the message that is taken comes to
 comes : (c : tie.After-known-told2) (r : Answered) → c .before .answered .given .0 .0 ≡ r →
@@ -84,24 +81,6 @@ change-requires c κs =
     let w = comes (t .before) _ (g .answered3 .given .1) in
     rw (t .take-one .ensures) (taken-fits (a .live) (a .parts) (a .play-words .now) (a .capture-words .now) (s .pre) (a .m .now), w .1)
 
-enum-known-answered-4 : tie.Need-enum-known-answered-4
-enum-known-answered-4 c = search needs
-
-slice-aggregate-change-3 : tie.Need-slice-aggregate-change-3
-slice-aggregate-change-3 c = search needs
-
-slice-aggregate-change-4 : tie.Need-slice-aggregate-change-4
-slice-aggregate-change-4 c = search needs
-
-change-requires-2 : tie.Need-change-requires-2
-change-requires-2 c κs =
-    let g = c .before .before .before .before .before .before in
-    let t = g .before .before in
-    let s = start (attended (t .before)) in
-    let a = s .args in
-    let w = comes (t .before) _ (g .answered4 .given .1) in
-    rw (t .take-one .ensures) (taken-fits (a .live) (a .parts) (a .play-words .now) (a .capture-words .now) (s .pre) (a .m .now), w .1)
-
 same-length : tie.Need-same-length
 same-length c = search needs
 
@@ -132,35 +111,15 @@ same-length-4 c = search needs
 same-length-5 : tie.Need-same-length-5
 same-length-5 c =
     let o = c .before .before .before .before .before .before in
-    o .change .kept .1 .1 .1 .1 .0 ∙ attended (remap-at o .before .before .before .before) .attend .kept .1 .1 .0
+    o .change .kept .1 .1 .1 .1 .0 ∙ attended (asked-at o .before .before .before .before) .attend .kept .1 .1 .0
 
 returns-3 : tie.Need-returns-3
 returns-3 c =
     let o = c .before .before .before .before .before .before in
-    let g = remap-at o .before in
+    let g = asked-at o .before in
     let t = g .before .before in
     let w = comes (t .before) _ (g .answered3 .given .1) in
     let n = rw (t .take-one .ensures) at (o .change .ensures) in
-    (w .0 ∙ n .0, n .1)
-
-same-length-6 : tie.Need-same-length-6
-same-length-6 c = search needs
-
-same-length-7 : tie.Need-same-length-7
-same-length-7 c = search needs
-
-same-length-8 : tie.Need-same-length-8
-same-length-8 c =
-    let o = c .before .before .before .before .before .before in
-    o .change2 .kept .1 .1 .1 .1 .0 ∙ attended (command-at o .before .before .before .before) .attend .kept .1 .1 .0
-
-returns-4 : tie.Need-returns-4
-returns-4 c =
-    let o = c .before .before .before .before .before .before in
-    let g = command-at o .before in
-    let t = g .before .before in
-    let w = comes (t .before) _ (g .answered4 .given .1) in
-    let n = rw (t .take-one .ensures) at (o .change2 .ensures) in
     (w .0 ∙ n .0, n .1)
 
 pub control-spec : {M : Type 1} → statement M
@@ -180,10 +139,6 @@ control-spec =
     slice-aggregate-change
     slice-aggregate-change-2
     change-requires
-    enum-known-answered-4
-    slice-aggregate-change-3
-    slice-aggregate-change-4
-    change-requires-2
     same-length
     returns
     same-length-2
@@ -191,8 +146,4 @@ control-spec =
     same-length-3
     same-length-4
     same-length-5
-    returns-3
-    same-length-6
-    same-length-7
-    same-length-8
-    returns-4)
+    returns-3)

@@ -15,9 +15,9 @@ use Rattle.live.specs.Setters as live
 use Rattle.live.specs.declared.Live.{Live}
 use Rattle.live.proofs.Laws.{board-with-registers, board-with-counters}
 use Rattle.device.specs.Device.{Rest, withRegisters, withControl, withEvent}
 use Rattle.meaning.specs.Card.{restOf, deviceOf}
 use Rattle.meaning.specs.Fit.{Fits}
-use Rattle.stream.specs.Held.{holding, holdingLive}
+use Rattle.meaning.specs.Held.{holding, holdingLive}
 
 -- the rules' rest with them
 abbrev pub restHolding : ℕ → Registers → Counters → Rest → Rest
