@@ -1,15 +1,17 @@
-// A call on the card as the replay program makes it: it hands back what is printed for the call and the
-// card after it.
+// A call of a script on the card, with the host buffer that its line lends: it hands back what is printed for the call
+// and the card after it.
 ghost use mathlib.Core.Path.{_≡_};
 ghost use Rattle.calls.specs.Calls.{requestOf, toldOf, hostOf};
 ghost use Rattle.meaning.specs.Card.{stepOf};
 ghost use Rattle.meaning.specs.Fit.{Fit};
 ghost use Rattle.replay_text.specs.Adler.{adler};
 ghost use Rattle.replay_text.specs.Text.{callText};
+ghost use Rattle.replay_call.specs.Asked.{madeBy, askedBy};
 ghost use Rattle.replay_call.specs.Shown.{irqOf, textFor, Shows};
 use calls::Outcome;
 use calls::Request;
 use card::Card;
+use replay_line::Call;
 use replay_text::Text;
 
 // What a call prints, and the card after it.
@@ -71,8 +73,8 @@ fn text(line: u64, request: Request, told: Outcome, m: &[u8], host: &[u8]) -> Te
     }
 }
 
-// A call, with this memory and this host buffer lent to it.
-pub fn call(card: Card, line: u64, request: Request, m: &mut [u8], host: &mut [u8]) -> Shown
+// A request, with this memory and this host buffer lent to it.
+fn ask(card: Card, line: u64, request: Request, m: &mut [u8], host: &mut [u8]) -> Shown
     requires { ⌜ Fit card ⌝ }
     ensures { λ r. ⌜ Shows card line (requestOf request (now (host .entry))) (now (m .entry)) (now (m .exit)) r
         × (now (host .exit)
@@ -85,4 +87,28 @@ pub fn call(card: Card, line: u64, request: Request, m: &mut [u8], host: &mut [u
         text: text,
         card: after,
     }
+}
+
+// What is asked of the card.
+fn request(call: Call) -> Request
+    ensures { λ r. ⌜ r ≡ madeBy call ⌝ }
+{
+    match call {
+        Call::Read(offset, width) => Request::Read(offset, width),
+        Call::Write(offset, width, value) => Request::Write(offset, width, value),
+        Call::Control => Request::Control,
+        Call::Play(stream, _, backlog) => Request::Play(stream, backlog),
+        Call::Capture(stream, _, _, backlog) => Request::Capture(stream, backlog),
+        Call::Event(code, data) => Request::Event(code, data),
+    }
+}
+
+// A call on the card that the line `s` makes, with the memory lent to it.
+pub fn call(card: Card, line: u64, call: Call, s: &[u8], m: &mut [u8]) -> Shown
+    requires { ⌜ Fit card ⌝ }
+    ensures { λ r. ⌜ Shows card line (askedBy call (now (s .entry))) (now (m .entry)) (now (m .exit)) r ⌝ }
+{
+    let mut host = replay_host::host_buffer();
+    let count = replay_host::lend(call, s, &mut host);
+    ask(card, line, request(call), m, &mut host[..count])
 }

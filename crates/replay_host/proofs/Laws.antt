@@ -1,5 +1,4 @@
--- Laws of host buffers: within 65,536 bytes, a play lends its N bytes of 238, and a capture the bytes of its HEX. What a line asks is its
--- request with the host buffer that it lends.
+-- Laws of host buffers: within 65,536 bytes, a play lends its N bytes of 238, and a capture the bytes of its HEX.
 use mathlib.Core.Path.{_≡_, refl, _∙_}
 use mathlib.Core.List.{List, [], _∷_}
 use Prim.Native.Nat.{ℕ, zero, suc, _+_, _-_, _/_, _≤_, min}
@@ -8,16 +7,7 @@ use native.Mathlib.Omega.{arith}
 use lib.ListN.{length, set, take, drop, replicate, length-set, length-drop, length-replicate}
 use lib.Seq.{sets, sets-eq, take-append-le, take-all}
 use Rattle.replay_field.specs.Hex.{bytesOfHex, poured}
-use Rattle.calls.specs.Calls.{requestOf}
-use Rattle.calls.specs.declared.Request as calls
-use Rattle.replay_call.specs.Shown.{Shows}
-use Rattle.replay_call.specs.declared.Shown.{Shown}
-use Rattle.card.specs.declared.Card.{Card}
-use Rattle.replay_line.specs.declared.Call.{Call}
-use Rattle.replay_line.specs.declared.Call.the-variants.{Read, Write, Control, Play, Capture, Event}
-use Rattle.line_calls.specs.Calls.{Request}
-use Rattle.replay_host.specs.Host.{hostBuffer, hostBytes, capturedBytes, askedBy, madeBy, hostFilled, hostCount, hexFilled, hexCount}
-use Rattle.replay_host.specs.Host.{upTo}
+use Rattle.replay_host.specs.Host.{hostBuffer, hostBytes, capturedBytes, hexFilled, hexCount, upTo}
 
 pub length-poured : (t m : List ℕ) (to : ℕ) → length (poured t m to) ≡ length m
 unfolding poured
@@ -77,22 +67,3 @@ module _ (s : List ℕ) (behind end : ℕ) (at : ℕ) (is : end ≡ min behind (
 
   pub filled-to : (host host′ : List ℕ) → host′ ≡ hexFilled (take end s) at host → host′ ≡ hexFilled (upTo s behind) at host
   filled-to host host′ e = rw is at e
-
--- ---- what a line asks
-
-asked-as : (call : Call) (s : List ℕ)
-    → requestOf (madeBy call) (take (hostCount call s (length hostBuffer)) (hostFilled call s hostBuffer)) ≡ askedBy call s
-asked-as (Read offset width) s = refl
-asked-as (Write offset width v) s = refl
-asked-as Control s = refl
-asked-as (Play stream n backlog) s = refl
-asked-as (Capture stream at behind backlog) s = refl
-asked-as (Event code info) s = refl
-
-pub asked-from : (call : Call) (s : List ℕ) {q : calls.Request} {n : ℕ} {host host′ : List ℕ}
-    → q ≡ madeBy call → n ≡ hostCount call s (length host) → host′ ≡ hostFilled call s host → host ≡ hostBuffer
-    → requestOf q (take n host′) ≡ askedBy call s
-asked-from call s e f g h = rw (e, f, g, h) (asked-as call s)
-
-pub shows-as : {c : Card} {line : ℕ} {q p : Request} {m m′ : List ℕ} {r : Shown} → q ≡ p → Shows c line q m m′ r → Shows c line p m m′ r
-shows-as e w = rw e at w

@@ -1,13 +1,10 @@
--- What a call of the script asks of the card, with the host buffer that its line lends.
+-- The host buffer that a line of the script lends.
 use mathlib.Core.List.{List}
 use Prim.Native.Nat.{ℕ, _-_, _/_, min}
 use lib.ListN.{length, take, drop, replicate}
-use Rattle.calls.specs.declared.Request.{Request}
-use Rattle.calls.specs.declared.Request.the-variants as asks
 use Rattle.replay_field.specs.Hex.{bytesOfHex, poured}
 use Rattle.replay_line.specs.declared.Call.{Call}
 use Rattle.replay_line.specs.declared.Call.the-variants.{Read, Write, Control, Play, Capture, Event}
-use Rattle.line_calls.specs.Calls as rules
 
 -- "a host buffer of N bytes (at most 65,536), each 238 before the call"
 unfoldable pub hostBuffer : List ℕ
@@ -31,24 +28,7 @@ upTo s behind = take (min behind (length s)) s
 abbrev pub capturedBytes : List ℕ → ℕ → ℕ → List ℕ
 capturedBytes s at behind = take (hexCount (upTo s behind) at (length hostBuffer)) (hexFilled (upTo s behind) at hostBuffer)
 
--- what a line s asks: a play lends a host buffer of N bytes, a capture the bytes of its HEX
-abbrev pub askedBy : Call → List ℕ → rules.Request
-askedBy (Read offset width) s = rules.ReadRegister offset width
-askedBy (Write offset width v) s = rules.WriteRegister offset width v
-askedBy Control s = rules.Control
-askedBy (Play stream n backlog) s = rules.Play stream (hostBytes n) backlog
-askedBy (Capture stream at behind backlog) s = rules.Capture stream (capturedBytes s at behind) backlog
-askedBy (Event code info) s = rules.Event code info
-
--- ---- the parts that it is put together from: the request, and the host buffer with how many of its bytes are lent
-
-abbrev pub madeBy : Call → Request
-madeBy (Read offset width) = asks.Read offset width
-madeBy (Write offset width v) = asks.Write offset width v
-madeBy Control = asks.Control
-madeBy (Play stream n backlog) = asks.Play stream backlog
-madeBy (Capture stream at behind backlog) = asks.Capture stream backlog
-madeBy (Event code info) = asks.Event code info
+-- ---- what a call lends: the host buffer as its line leaves it, and how many of its bytes
 
 abbrev pub hostFilled : Call → List ℕ → List ℕ → List ℕ
 hostFilled (Read offset width) s host = host

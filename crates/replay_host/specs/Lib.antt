@@ -1,2 +1,2 @@
--- The calls of a script, with the host buffers that they lend.
+-- The host buffers of a script's calls.
 pub mod Host

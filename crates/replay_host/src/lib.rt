@@ -1,39 +1,20 @@
-// The calls of a script on the card, with the host buffers that they lend.
+// The host buffers that the calls of a script lend.
 ghost use mathlib.Core.Path.{_≡_};
 ghost use Prim.Native.Nat.{_-_, _/_};
 ghost use lib.ListN.{length};
 ghost use Rattle.io.specs.Counts.{Counts};
-ghost use Rattle.meaning.specs.Fit.{Fit};
-ghost use Rattle.replay_call.specs.Shown.{Shows};
-ghost use Rattle.replay_host.specs.Host.{hostBuffer, madeBy, hostFilled, hostCount, hexFilled, hexCount, askedBy};
-use calls::Request;
-use card::Card;
-use replay_call::Shown;
+ghost use Rattle.replay_host.specs.Host.{hostBuffer, hostFilled, hostCount, hexFilled, hexCount};
 use replay_line::Call;
 
 // What each byte of a host buffer is before a play call.
 const HOST_BYTE: u8 = 238;
 
 // The most bytes that are played or captured at once.
-fn host_buffer() -> [u8; 65536]
+pub fn host_buffer() -> [u8; 65536]
     ensures { λ r. ⌜ 65536 ≡ length r ⌝ }
     ensures { λ r. ⌜ r ≡ hostBuffer ⌝ }
 {
     [HOST_BYTE; 65536]
-}
-
-// What is asked of the card.
-fn request(call: Call) -> Request
-    ensures { λ r. ⌜ r ≡ madeBy call ⌝ }
-{
-    match call {
-        Call::Read(offset, width) => Request::Read(offset, width),
-        Call::Write(offset, width, value) => Request::Write(offset, width, value),
-        Call::Control => Request::Control,
-        Call::Play(stream, _, backlog) => Request::Play(stream, backlog),
-        Call::Capture(stream, _, _, backlog) => Request::Capture(stream, backlog),
-        Call::Event(code, data) => Request::Event(code, data),
-    }
 }
 
 // How many bytes the HEX is that a text ends with, from `at` on.
@@ -58,7 +39,7 @@ fn lend_hex(s: &[u8], at: usize, host: &mut [u8]) -> usize
 
 // How many bytes of the host buffer a call of the line `s` lends: a play's N; those of a capture's HEX,
 // which are written there; none for the others.
-fn lend(call: Call, s: &[u8], host: &mut [u8]) -> usize
+pub fn lend(call: Call, s: &[u8], host: &mut [u8]) -> usize
     ensures { λ r. ⌜ Counts r (now (host .exit)) ⌝ }
     ensures { λ r. ⌜ (r ≡ hostCount call (now (s .entry)) (length (now (host .entry))))
         × (now (host .exit) ≡ hostFilled call (now (s .entry)) (now (host .entry))) ⌝ }
@@ -74,14 +55,4 @@ fn lend(call: Call, s: &[u8], host: &mut [u8]) -> usize
         }
         Call::Event(_, _) => 0,
     }
-}
-
-// A call on the card that the line `s` makes, with the memory lent to it.
-pub fn call(card: Card, line: u64, call: Call, s: &[u8], m: &mut [u8]) -> Shown
-    requires { ⌜ Fit card ⌝ }
-    ensures { λ r. ⌜ Shows card line (askedBy call (now (s .entry))) (now (m .entry)) (now (m .exit)) r ⌝ }
-{
-    let mut host = host_buffer();
-    let count = lend(call, s, &mut host);
-    replay_call::call(card, line, request(call), m, &mut host[..count])
 }

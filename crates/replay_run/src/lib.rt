@@ -107,7 +107,7 @@ fn call_line(state: State, call: Call, s: &[u8], ram: &mut [u8], out: &mut [u8])
     }
     let lent = replay_memory::within(state.len, ram);
     let card = state.card;
-    let shown = replay_host::call(card, state.line, call, s, &mut ram[..lent]);
+    let shown = replay_call::call(card, state.line, call, s, &mut ram[..lent]);
     let text = shown.text;
     let end = replay_text::lay(text, out);
     let after = shown.card;

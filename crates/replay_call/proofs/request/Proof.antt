@@ -1,7 +1,7 @@
 -- Each kind of call asks for its own kind of request.
 use borrow.Author.Needs.{needs}
-use Rattle.replay_host.proofs.request.Statement.{statement}
-use Rattle.replay_host.proofs.request.Tie as tie
+use Rattle.replay_call.proofs.request.Statement.{statement}
+use Rattle.replay_call.proofs.request.Tie as tie
 
 enum-known-call : tie.Need-enum-known-call
 enum-known-call c = search needs
