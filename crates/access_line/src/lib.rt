@@ -1,5 +1,7 @@
 // A line of the access program, read from its bytes: "r OFF W" or "w OFF W VAL"; and a line collected
 // byte by byte, for a program that reads its input in blocks.
+#![tactic(auto)]
+
 ghost use Rattle.std.specs.Prelude.{◌≡◌, take, drop};
 ghost use Rattle.access_line.specs.Line.{line_of, read_form, write_form};
 ghost use Rattle.access_line.specs.Collect.{empty_line, with_byte, kept};

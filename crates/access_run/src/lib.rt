@@ -1,6 +1,8 @@
 // The access program of 01: the lines of standard input are register reads and writes on one card;
 // each is answered by a line of standard output. The input is taken in blocks; what a block says is done
 // on the card's small state, and its answers are left in a buffer, which `run` writes out.
+#![tactic(auto)]
+
 ghost use Rattle.std.specs.Prelude.{◌≡◌, ◌+◌, ◌*◌, ◌≤◌, length, take};
 ghost use mathlib.Core.List.{foldl};
 ghost use Rattle.live.specs.Live.{FitLive};

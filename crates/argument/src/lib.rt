@@ -1,4 +1,6 @@
 // A program's argument that is a number: 1 to 10 decimal digits and nothing else.
+#![tactic(auto)]
+
 ghost use Rattle.std.specs.Prelude.{◌≡◌};
 ghost use Rattle.argument.specs.Number.{number_of};
 

@@ -1,5 +1,7 @@
 // Any call of the monitor on a card that is passed as one value, for the programs. What it promises is what demand 3 is proved of
 // (proofs/Demand3).
+#![tactic(auto)]
+
 ghost use Rattle.std.specs.Prelude.{◌≡◌, [], length, take};
 ghost use Rattle.card.specs.Rules.{read_card, write_card};
 ghost use Rattle.live.specs.Live.{card_in};

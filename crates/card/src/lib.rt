@@ -1,5 +1,7 @@
 // The card: its state, and its parts at power-up. The state holds numbers, arrays and structs only, so that
 // it can cross to C.
+#![tactic(auto)]
+
 ghost use Rattle.std.specs.Prelude.{◌≡◌, map, true, ◌<◌};
 ghost use Rattle.card.specs.Card.{no_message, no_params, fresh_stream, jack_at_power, parts_at_power, no_parts};
 ghost use Rattle.card.specs.Fit.{FitParts};

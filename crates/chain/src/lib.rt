@@ -1,5 +1,7 @@
 // The walk of a descriptor chain of a split virtqueue: the ranges that its descriptors name, or the
 // fault that ends it. It ends whatever memory holds; a byte past the end of memory reads as 0.
+#![tactic(auto)]
+
 ghost use Rattle.std.specs.Prelude.{◌≡◌, ◌+◌, ◌*◌, ◌≤◌, ◌<◌, length};
 ghost use Rattle.chain.specs.declared.End.TheVariants.{Faulted};
 ghost use Rattle.chain.specs.Walk.{descriptor_at, has_next, is_writable, is_indirect, range_of, enter_of, SoundChain, empty_chain};

@@ -1,5 +1,7 @@
 // PCM commands (01, "Control messages"), step by step: the lifecycle of a stream, SET_PARAMS, and what a
 // RELEASE asks for. Where a step refuses, the message is completed with the step's status.
+#![tactic(auto)]
+
 ghost use Rattle.std.specs.Prelude.{◌≡◌, ◌≤◌, ◌<◌};
 ghost use Rattle.card.specs.Fit.{FitParts};
 ghost use Rattle.rules.specs.Parts.{parts_of};

@@ -1,5 +1,7 @@
 // Control messages (01, "Control messages"): what a request asks, and the requests that may change the parts.
 // The queues, and with them the work of RELEASE, are the caller's.
+#![tactic(auto)]
+
 ghost use Rattle.std.specs.Prelude.{◌≡◌, leb, replicate};
 ghost use Rattle.card.specs.Fit.{FitParts};
 ghost use Rattle.rules.specs.Parts.{parts_of};

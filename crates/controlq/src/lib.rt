@@ -2,6 +2,8 @@
 // read step by step, acted on and answered. A step that fails completes the chain. The card is lent in
 // pieces: its small state and parts by value, the words of its chains as slices. Only a request that may
 // change the parts hands them on; every other end leaves them as they are.
+#![tactic(auto)]
+
 ghost use Rattle.std.specs.Prelude.{◌≡◌, ◌+◌, ◌<◌, ◌≤◌, [], length, replicate};
 ghost use Rattle.live.specs.Live.{FitLive, parts_now, card_in};
 ghost use Rattle.live.specs.Setters.{with_registers};

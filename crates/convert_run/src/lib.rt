@@ -1,4 +1,6 @@
 // The program `convert FORMAT FROM TO`: the samples of a file, as S16, into another file, a block at a time.
+#![tactic(auto)]
+
 ghost use Rattle.std.specs.Prelude.{◌≡◌, ◌≤◌, ◌<◌, length};
 ghost use Rattle.samples.specs.Formats.{coding_of};
 ghost use Rattle.convert_run.specs.Blocks.{MadeBy};

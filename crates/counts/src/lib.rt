@@ -1,6 +1,8 @@
 // Three counts that must not be mixed: a page number, a guest address and a descriptor number.
 // Each is a type of its own, with a field that only this crate sees: what turns a number into a count,
 // a count into a number or one count into another stands here.
+#![tactic(auto)]
+
 ghost use Rattle.std.specs.Prelude.{◌≡◌, ◌*◌};
 ghost use Rattle.counts.specs.Counts.{address_of_page, offset_of_descriptor};
 

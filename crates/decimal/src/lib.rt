@@ -1,4 +1,6 @@
 // Numbers in decimal: read from a line by their place in it, and written into a text.
+#![tactic(auto)]
+
 ghost use Rattle.std.specs.Prelude.{◌≡◌, ◌*◌, ◌+◌, ◌<◌, ◌≤◌, leb, length};
 ghost use Rattle.decimal.specs.Read.{is_digit, number_at, field_at};
 ghost use Rattle.decimal.specs.Write.{field_of, Put};

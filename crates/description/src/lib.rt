@@ -1,4 +1,6 @@
 // What the monitor describes at power-up, and the judgement of it (01, "The card at power-up").
+#![tactic(auto)]
+
 ghost use Rattle.std.specs.Prelude.{◌≡◌, ◌+◌, ◌≤◌, ◌<◌, take};
 ghost use Rattle.description.specs.Nothing.{nothing_described};
 ghost use Rattle.description.specs.Lawful.{every, lawful, lawful_jack, lawful_map, lawful_stream, lawful_channels, lawful_positions};

@@ -1,5 +1,7 @@
 // The calls on queues as C takes them: an answer's number and queue side by side, so that every field of what a call
 // answers is a number.
+#![tactic(auto)]
+
 ghost use Rattle.std.specs.Prelude.{◌≡◌};
 ghost use Rattle.live.specs.Live.{FitBoard};
 ghost use Rattle.meaning.specs.Fit.{Fits};

@@ -1,5 +1,7 @@
 // The event call (01, "Play, capture, events", third paragraph): a jack's connection or an XRUN, told
 // to the guest.
+#![tactic(auto)]
+
 ghost use Rattle.std.specs.Prelude.{◌≡◌, cond, ◌&&◌, eqb};
 ghost use Rattle.registers.specs.Rules.{has_bit};
 ghost use Rattle.rules.specs.Calls.{is_running, event_allowed};

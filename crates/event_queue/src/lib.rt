@@ -1,5 +1,7 @@
 // The event queue (01, "Play, capture, events", third paragraph): an event goes into the next chain
 // that has room for it.
+#![tactic(auto)]
+
 ghost use Rattle.std.specs.Prelude.{◌≡◌, ◌≤◌, true, [], length, if◌then◌else◌};
 ghost use Rattle.std.proofs.Math.Option.{none, some};
 ghost use Rattle.chain.specs.Walk.{whole, walk_of};

@@ -1,5 +1,7 @@
 // Files of the programs that make one file from another: blocks read, a new file that takes the other's place once it is whole, and
 // arguments that are numbers.
+#![tactic(auto)]
+
 ghost use Rattle.std.specs.Prelude.{◌≡◌, ◌≤◌, length};
 ghost use Rattle.io.specs.Counts.{IsPrefixLen};
 

@@ -1,5 +1,7 @@
 // The work on the message in work of a stream's line (01, "Play, capture, events"): it is handed to the host or
 // filled from it, and completed where nothing of it waits or a Release ends it. Payload moves in runs.
+#![tactic(auto)]
+
 ghost use Rattle.std.specs.Prelude.{◌≡◌, ◌+◌, ◌-◌, ◌≤◌, ◌<◌, length, ◌||◌};
 ghost use Rattle.message.specs.Message.{direction_of, virtqueue_in};
 ghost use Rattle.device.specs.Counters.{counters_of};

@@ -1,4 +1,6 @@
 // A 64-bit mask of formats: its lowest bit set, and how many are set.
+#![tactic(auto)]
+
 ghost use Rattle.std.specs.Prelude.{◌≡◌};
 ghost use Rattle.format_mask.specs.Mask.{lowest_bit, bits_set};
 

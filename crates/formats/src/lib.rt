@@ -1,4 +1,6 @@
 // The sample formats by their virtio numbers (VIRTIO_SND_PCM_FMT_), and the physical width of each.
+#![tactic(auto)]
+
 ghost use Rattle.std.specs.Prelude.{◌≡◌};
 ghost use Rattle.formats.specs.Widths.{physical_bits};
 

@@ -1,4 +1,6 @@
 // A fraction of two numbers in lowest terms, by the greatest number that divides both.
+#![tactic(auto)]
+
 ghost use Rattle.std.specs.Prelude.{◌≡◌, ◌<◌};
 ghost use Rattle.fraction.specs.Fraction.{greatest_common, lowest_terms};
 

@@ -1,4 +1,6 @@
 // The items of JACK_INFO, PCM_INFO and CHMAP_INFO (01, "Control messages").
+#![tactic(auto)]
+
 ghost use Rattle.std.specs.Prelude.{◌≡◌, map, ◌+◌, ◌≤◌, length, take, drop, replicate};
 ghost use Rattle.card.specs.Fit.{FitParts};
 ghost use Rattle.live.specs.Live.{jack_now, parts_now};

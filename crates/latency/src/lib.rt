@@ -1,4 +1,6 @@
 // The latency report: from the input's bytes to the one or two lines that are printed.
+#![tactic(auto)]
+
 ghost use Rattle.std.specs.Prelude.{◌≡◌};
 ghost use mathlib.Core.List.{foldl};
 ghost use Rattle.latency.specs.Text.{with_byte, collected};

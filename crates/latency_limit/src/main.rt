@@ -1,6 +1,8 @@
 // The latency report on each side of its limits: of 7 bytes, of a mask and 1,000,000 records, and of
 // one byte more. The input is made here, block by block, and taken by the functions that the program
 // hands its blocks to.
+#![tactic(auto)]
+
 use latency_tally::Input;
 
 // The records of a block, and how often it is taken: 1,000,000 records in all.

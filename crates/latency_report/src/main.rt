@@ -1,5 +1,7 @@
 // The latency report of order 12, on the order's own example: mask 96, records OK 8, OK 4, IO_ERR
 // 0.
+#![tactic(auto)]
+
 fn main() {
     latency::run();
 }

@@ -1,4 +1,6 @@
 // The records of a latency report, 8 bytes each, read from blocks and counted.
+#![tactic(auto)]
+
 ghost use Rattle.std.specs.Prelude.{◌≡◌, ◌+◌, ◌/◌, min, max, length};
 ghost use mathlib.Core.List.{foldl};
 ghost use Rattle.latency_tally.specs.Records.{status, records};

@@ -1,5 +1,7 @@
 // The chains of a stream queue with lines (order 8): judged when they are taken, and read anew when work on
 // them, or their Release, begins.
+#![tactic(auto)]
+
 ghost use Rattle.std.specs.Prelude.{◌≡◌, ◌&&◌, ◌+◌, ◌≤◌, eqb, length};
 ghost use Rattle.chain.specs.Walk.{outcome_of, SoundChain};
 ghost use Rattle.ring.specs.Rules.{completion};

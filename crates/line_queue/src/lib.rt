@@ -1,5 +1,7 @@
 // A job on a stream queue with lines (order 8): the queue is checked, all new entries are taken, and the line of one
 // stream is worked, or ended by its Release.
+#![tactic(auto)]
+
 ghost use Rattle.std.specs.Prelude.{◌≡◌, ◌<◌, ◌≤◌, length};
 ghost use Rattle.line_chains.specs.Queue.{virtqueue_of};
 ghost use Rattle.line_words.specs.Slots.{FitSlot, FitSlots};

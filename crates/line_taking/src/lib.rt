@@ -1,5 +1,7 @@
 // Taking on a stream queue with lines (order 8): "Each play, capture or Release, naming its stream, first takes all
 // new entries".
+#![tactic(auto)]
+
 ghost use Rattle.std.specs.Prelude.{◌≡◌, ◌+◌, ◌≤◌, length};
 ghost use Rattle.message.specs.Message.{taking_in, FitTaken};
 ghost use Rattle.queue_lines.specs.Chains.{at_once, arrival_of, queue_size};

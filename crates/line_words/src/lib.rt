@@ -1,5 +1,7 @@
 // The words of a stream queue with lines (order 8): a slot for each of its streams. In a slot stand the chain that
 // is remembered, the marks, and the ring of the waiting heads.
+#![tactic(auto)]
+
 ghost use Rattle.std.specs.Prelude.{◌≡◌, ◌+◌, ◌*◌, ◌≤◌, ◌<◌, length};
 ghost use Rattle.line_chains.specs.Queue.{virtqueue_of};
 ghost use Rattle.queue_lines.specs.Chains.{queue_size};

@@ -1,5 +1,7 @@
 // The line of one stream on its queue (order 8): its front is read, worked or ended, and so on until the line is
 // empty, or a transfer has no room.
+#![tactic(auto)]
+
 ghost use Rattle.std.specs.Prelude.{◌≡◌, ◌≤◌, length};
 ghost use Rattle.card.specs.Fit.{FitMessage};
 ghost use Rattle.device.specs.Transfer.{is_well};

@@ -2,6 +2,8 @@
 // entries over it. The rest of a card is its parts and the words of its queues; together they are
 // the card (`card_in`). A reset changes the small state only: what it undoes of the parts is told by
 // `fresh`, that the words stand for nothing by `play_dropped` and `capture_dropped`.
+#![tactic(auto)]
+
 ghost use Rattle.std.specs.Prelude.{◌≡◌, true, ◌||◌, map, ◌<◌, eqb, set};
 ghost use Rattle.card.specs.Card.{no_counters, card_of};
 ghost use Rattle.card.specs.Fit.{FitParts};

@@ -1,5 +1,7 @@
 // The marks of a stream on its queue (order 8), in eleven lent words: its message in work and where its line stands.
 // Nothing else knows the places.
+#![tactic(auto)]
+
 ghost use Rattle.std.specs.Prelude.{◌≡◌, length};
 ghost use Rattle.marks.specs.Marks.{message_in, line_in};
 

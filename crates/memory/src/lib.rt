@@ -1,5 +1,7 @@
 // Guest memory: a lent slice, address 0 first. Nothing here can be made to leave the slice: a byte
 // past its end reads as 0, and a write there changes nothing.
+#![tactic(auto)]
+
 ghost use Rattle.std.specs.Prelude.{◌≡◌, ◌+◌, ◌≤◌, ◌<◌, ◌^◌, min, length, get_or};
 ghost use Rattle.memory.specs.Bytes.{le, put, inside_of};
 

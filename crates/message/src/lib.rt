@@ -1,5 +1,7 @@
 // Messages of a stream's queue (01, "Play, capture, events"): what is asked of a chain, and the completion
 // that answers it.
+#![tactic(auto)]
+
 ghost use Rattle.std.specs.Prelude.{◌≡◌, ◌-◌, ◌≤◌, length};
 ghost use Rattle.ranges.specs.Ranges.{ranges_of, Sound};
 ghost use Rattle.registers.specs.Map.{size_of};

@@ -1,5 +1,7 @@
 // The play and capture calls of the card (01, "Play, capture, events"), each of one stream (order 8), over its small
 // state and the words of the queue, which are lent.
+#![tactic(auto)]
+
 ghost use Rattle.std.specs.Prelude.{◌≡◌, cond, ◌<◌, eqb, get_or, set};
 ghost use Rattle.live.specs.Live.{FitLive};
 ghost use Rattle.message.specs.Message.{direction_of};

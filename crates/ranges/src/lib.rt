@@ -1,6 +1,8 @@
 // The ranges of a message: what its descriptors name of guest memory, one side at a time. The bytes
 // of a side are those of its ranges, one after the other; descriptor borders mean nothing. The ranges
 // stand in a list of words that the caller lends.
+#![tactic(auto)]
+
 ghost use Rattle.std.specs.Prelude.{◌≡◌, ◌+◌, ◌≤◌, ◌<◌, min, length, get_or, set, take, drop, replicate};
 ghost use Rattle.std.proofs.lemmas.List.Edits.{sets};
 ghost use Rattle.ranges.specs.Ranges.{no_ranges, range_in, put_range, ranges_of, up_from, places, bytes_at, put_at, all_inside};

@@ -1,5 +1,7 @@
 // The map of the legacy transport's registers (002, 1.3): which one an access reaches, and the sizes
 // of the queues.
+#![tactic(auto)]
+
 ghost use Rattle.std.specs.Prelude.{◌≡◌};
 ghost use Rattle.register_map.specs.Map.{register_at, exactly, config_at, size_of};
 

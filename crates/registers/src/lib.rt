@@ -1,5 +1,7 @@
 // The register file of the legacy transport (002, 1.3 to 2.1): a struct with methods by value that
 // hand the next state back. What a write means for the rest of the card is told as an effect.
+#![tactic(auto)]
+
 ghost use Rattle.std.specs.Prelude.{◌≡◌, ◌+◌, ◌*◌, ◌/◌, ◌%◌, ◌<◌, get_or, set};
 ghost use Rattle.registers.specs.Rules.{read_of, write_of, power_on, live, raised, signalled, broken};
 ghost use Rattle.registers.specs.Rules.{refused_read, value_read, page_read, isr_read, config_bytes, config_value};

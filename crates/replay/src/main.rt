@@ -1,4 +1,6 @@
 // The replay program, on all the vectors.
+#![tactic(auto)]
+
 fn main() {
     replay_run::run();
 }

@@ -1,5 +1,7 @@
 // A call of a script on the card, with the host buffer that its line lends: it hands back what is printed for the call
 // and the card after it.
+#![tactic(auto)]
+
 ghost use Rattle.std.specs.Prelude.{◌≡◌};
 ghost use Rattle.calls.specs.Calls.{request_of, told_of, host_of};
 ghost use Rattle.meaning.specs.Card.{step_of};

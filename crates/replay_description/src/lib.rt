@@ -1,4 +1,6 @@
 // The description that the lines of a script collect for the next power-up.
+#![tactic(auto)]
+
 ghost use Rattle.std.specs.Prelude.{◌≡◌};
 ghost use Rattle.replay_description.specs.Parts.{next_count, with_jack, with_map, map_at, with_output, with_input, with_part};
 

@@ -1,5 +1,7 @@
 // The words of a script line: numbers and HEX, found by their place in the line. A word of HEX stays in
 // the line, and `pour_hex` writes its bytes.
+#![tactic(auto)]
+
 ghost use Rattle.std.specs.Prelude.{◌≡◌, ◌<◌, drop};
 ghost use Rattle.replay_field.specs.Number.{field_at, pair_at, size_at};
 ghost use Rattle.replay_field.specs.Hex.{is_hex_digit, every_hex_digit, is_hex, hex_at, nibble, bytes_of_hex, poured};

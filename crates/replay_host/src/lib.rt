@@ -1,4 +1,6 @@
 // The host buffers that the calls of a script lend.
+#![tactic(auto)]
+
 ghost use Rattle.std.specs.Prelude.{◌≡◌, ◌-◌, ◌/◌, length};
 ghost use Rattle.io.specs.Counts.{IsPrefixLen};
 ghost use Rattle.replay_host.specs.Host.{host_buffer, host_filled, host_count, hex_filled, hex_count};

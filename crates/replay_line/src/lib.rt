@@ -1,5 +1,7 @@
 // A line of the replay program's script, read from its bytes without the line feed. A word of HEX
 // stays in the line: the line read says where it starts.
+#![tactic(auto)]
+
 ghost use Rattle.std.specs.Prelude.{◌≡◌};
 ghost use Rattle.replay_line.specs.Line.{jack_form, map_form, stream_form, power_form};
 ghost use Rattle.replay_line.specs.Line.{read_form, write_form, control_form, play_form, captured_form, capture_form, event_form};

@@ -1,5 +1,7 @@
 // The memory lent, as the guest's lines change and print it: the first bytes of an array that is 0
 // past them.
+#![tactic(auto)]
+
 ghost use Rattle.std.specs.Prelude.{◌≡◌, ◌≤◌, min, length};
 ghost use Rattle.io.specs.Counts.{IsPrefixLen};
 ghost use Rattle.decimal.specs.Write.{Put};

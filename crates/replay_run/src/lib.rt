@@ -1,6 +1,8 @@
 // The replay program: the lines of a script are described parts, calls on one card and the guest's
 // writes to the memory lent; each call is answered by a line of standard output. A line leaves its text
 // in a buffer, which `session` writes out.
+#![tactic(auto)]
+
 ghost use Rattle.std.specs.Prelude.{◌≡◌, ◌≤◌, min, length};
 ghost use Rattle.card.specs.Rules.{powered_of};
 ghost use Rattle.decimal.specs.Write.{Put};

@@ -1,4 +1,6 @@
 // What the replay program prints: the text of a line, bytes as HEX, and the Adler-32 checksum.
+#![tactic(auto)]
+
 ghost use Rattle.std.specs.Prelude.{◌≡◌, ◌<◌, ◌≤◌, ◌+◌, ◌*◌, length, get_or, take};
 ghost use Rattle.decimal.specs.Write.{field_of, Put};
 ghost use Rattle.replay_text.specs.Text.{no_text, with_bytes, kept, start_text, queue_bytes, answer_text, call_text, play_text};

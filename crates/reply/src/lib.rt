@@ -1,5 +1,7 @@
 // A control message that is taken, and its completion (01, "Completing", "Control messages"): the status,
 // or more, into the reply's ranges, then the used entry.
+#![tactic(auto)]
+
 ghost use Rattle.std.specs.Prelude.{◌≡◌};
 ghost use Rattle.ranges.specs.Ranges.{ranges_of, places, put_at};
 ghost use Rattle.ring.specs.Rules.{completion};

@@ -1,5 +1,7 @@
 // Control requests of jacks and for information (01, "Control messages"), step by step: each step answers an
 // enum, and where it refuses, the message is completed with the step's status.
+#![tactic(auto)]
+
 ghost use Rattle.std.specs.Prelude.{◌≡◌, ◌++◌, map, ◌+◌, ◌*◌, ◌≤◌, ◌<◌, ltb, length, take, drop};
 ghost use Rattle.card.specs.Fit.{FitParts};
 ghost use Rattle.rules.specs.Parts.{parts_of};

@@ -1,6 +1,8 @@
 // A split virtqueue as the device's end sees it (01, Rings and chains): what a call finds of a queue,
 // the next head, and the completing of a chain. `page` is the queue's base and `size` its number of
 // descriptors, 01's N, whatever it is. Nothing here can be made to leave memory.
+#![tactic(auto)]
+
 ghost use Rattle.std.specs.Prelude.{◌≡◌, ◌%◌};
 ghost use Rattle.ranges.specs.Ranges.{ranges_of};
 ghost use Rattle.ring.specs.Layout.{available_at, used_at, end_at};

@@ -1,6 +1,7 @@
 // Document 01 as definitions (specs/) and what is proved of them (proofs/). The code of the calls is in the crates above; here stand
 // the numbers of the texts (001, Device Operation; VIRTIO 1.2, Sound Device) for it, as specs/Numbers has them for the rules, and what
 // a control request can ask, for both.
+#![tactic(auto)]
 
 ghost use Rattle.std.specs.Prelude.{◌≡◌};
 ghost use Rattle.device.specs.Answers.{broken_answer};

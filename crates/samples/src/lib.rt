@@ -1,4 +1,6 @@
 // Samples converted to S16, for the mixer. The formats go by their virtio numbers; samples stand in byte slices, the lowest byte first.
+#![tactic(auto)]
+
 ghost use Rattle.std.specs.Prelude.{◌≡◌, ◌+◌, ◌*◌, ◌%◌, ◌<◌, ◌≤◌, length};
 ghost use Rattle.memory.specs.Bytes.{le, put};
 ghost use Rattle.samples.specs.Values.{bits};

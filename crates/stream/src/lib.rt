@@ -1,6 +1,8 @@
 // A stream queue in the small state of the card: where the guest laid it out, its streams and its counters, a
 // job on one of its lines, and the emptying of a line by a RELEASE (01, "Control messages"). The words of the
 // queue, in which its lines stand, are lent beside the state.
+#![tactic(auto)]
+
 ghost use Rattle.std.specs.Prelude.{◌≡◌, ◌*◌, ◌≤◌, ◌<◌, length};
 ghost use Rattle.live.specs.Live.{FitLive};
 ghost use Rattle.device.specs.Answers.{broken_by};

@@ -1,5 +1,7 @@
 // The line of a stream's waiting messages (order 8: "Taken messages wait in a line per stream"): their heads in a
 // ring of lent places. Nothing is moved when a message joins or leaves.
+#![tactic(auto)]
+
 ghost use Rattle.std.specs.Prelude.{◌≡◌, [], ◌∷◌, ◌++◌, ◌≤◌, ◌<◌, length, drop, get_or};
 ghost use Rattle.waiting.specs.Waiting.{heads_in, FitLine, place_behind};
 

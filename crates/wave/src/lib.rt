@@ -1,4 +1,6 @@
 // Sound as a WAVE file, written and read: the RIFF form with a 16-byte format part, tag 1. Formats and rates go by their virtio numbers.
+#![tactic(auto)]
+
 ghost use Rattle.std.specs.Prelude.{◌≡◌, ◌+◌, ◌/◌, ◌≤◌, ◌<◌, length, get_or};
 ghost use Rattle.wave.specs.Lists.{listed, bits_of, hz_of, format_with, rate_with};
 ghost use Rattle.wave.specs.File.{block_align, byte_rate, riff_part, format_part, data_part, header_of, file_len_of, file_of};

@@ -1,4 +1,6 @@
 // The program `wave write FORMAT CHANNELS RATE FROM TO`, `wave read FROM TO`: what was played as a WAVE file, and back, a block at a time.
+#![tactic(auto)]
+
 ghost use Rattle.std.specs.Prelude.{◌≡◌, ◌≤◌, min, length};
 ghost use Rattle.wave.specs.Outcome.{judged};
 

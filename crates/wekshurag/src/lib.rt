@@ -2,6 +2,8 @@
 // (`live`). The header is include/wekshurag.h, whose functions only pass the pieces' addresses. An entry
 // copies the struct out of its borrow, calls the entry of the card that it is named after, and stores the
 // next; its contract is that entry's, whole.
+#![tactic(auto)]
+
 ghost use Rattle.std.specs.Prelude.{◌≡◌};
 ghost use Rattle.live.specs.Live.{read_live, write_live, powered_board, FitLive, FitBoard};
 ghost use Rattle.meaning.specs.Fit.{Fits, Ready};
