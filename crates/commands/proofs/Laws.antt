@@ -15,7 +15,7 @@ use Rattle.card.specs.Fit.{FitParts}
 use Rattle.card.specs.declared.Params.{Params}
 use Rattle.card.specs.declared.Parts.{Parts}
 use Rattle.rules.specs.Parts.{parts_of}
-use Rattle.rules.proofs.Parts.{stream_at}
+use Rattle.rules.proofs.Parts.{stream_at_lem}
 use Rattle.reply.proofs.Laws.{stream-total}
 use Rattle.rules.specs.Control as rules
 use Rattle.device.specs.Numbers.{s_bad_msg}
@@ -42,7 +42,7 @@ module _ (p : Parts) (f : FitParts p) (c : Command) (request : List ℕ) where
         (next : Option ℕ) → transition c (get_or p.streams (rules.word request 1) no_stream).state ≡ next
         → rules.commanded (parts_of p) c request ≡ rules.led (parts_of p) c (rules.word request 1) request next
     unfolding rules.commanded
-    command-led next g = rw (stream-total p f, h, stream_at p (rules.word request 1) (ltb-true _ _ h), g)
+    command-led next g = rw (stream-total p f, h, stream_at_lem p (rules.word request 1) (ltb-true _ _ h), g)
 
 -- ---- the lifecycle
 

@@ -1,0 +1,70 @@
+-- The bytes moved are the rule's, and host and message move on together.
+use mathlib.Core.Path.{◌≡◌, ◌∙◌, refl, ap}
+use Prim.Native.Nat.{ℕ, ◌-◌, min}
+use native.Mathlib.Omega.{arith}
+use lib.ListN.{length}
+use Rattle.message.specs.Message.{direction_of}
+use Rattle.message.specs.declared.Direction.{Direction}
+use Rattle.flow.specs.Flow.{payload_bytes, advanced_by, FitFlow}
+use Rattle.flow.proofs.Laws.{handed-on, filled, moved_fit, no-input}
+use Rattle.flow.proofs.move_payload.Goals.{After-least-n, Start}
+use Rattle.flow.proofs.move_payload.Goals as goal
+
+-- how many they are
+abbrev share : (c : Start) → Direction → ℕ
+share s d =
+    min (length s.args.host.now - s.args.f.moved) (payload_bytes (direction_of d) s.args.f.message - s.args.f.message.done)
+
+-- how many they are
+abbrev share_at_After_least_n : (c : After-least-n) → Direction → ℕ
+share_at_After_least_n s d =
+    min (length s.args.host.now - s.args.f.moved) (payload_bytes (direction_of d) s.args.f.message - s.args.f.message.done)
+
+number : (c : After-least-n) → c.least-n.result ≡ share_at_After_least_n c c.args.q.direction
+number c = rw (← c.waiting.ensures) c.least-n.ensures
+
+fits_after : (c : After-least-n) → let a = c.args in FitFlow (length a.m.now) (length a.host.now) a.list.now (advanced_by c.least-n.result a.f)
+fits_after c =
+    moved_fit (direction_of c.args.q.direction) _ _ _ c.args.f c.least-n.result c.requires.0 c.requires.1 (number c)
+
+pub advanced-requires : goal.advanced-requires
+advanced-requires c = let g = fits_after (goal.at.advanced-requires c).After-least-n in (g.message.moved, omega (arith, g.inside))
+
+pub advanced-requires-in-Input : goal.advanced-requires-in-Input
+advanced-requires-in-Input c = let g = fits_after (goal.at.advanced-requires-in-Input c).After-least-n in (g.message.moved, omega (arith, g.inside))
+
+pub returns-in-Output : goal.returns-in-Output
+returns-in-Output c =
+    let a = c.args in
+    let told = c.in-Output.is in
+    record {
+      steps = record {
+        run =
+            rw (c.advanced.ensures, c.gather.ensures, told)
+            (handed-on a.q a.list.now a.m.now a.host.now a.f c.least-n.result c.requires.0 c.requires.1.inside
+            c.requires.1.message.request (number (goal.at.returns-in-Output c).After-least-n ∙ ap (share (goal.at.returns-in-Output c).Start) told));
+        fit = rw c.advanced.ensures (fits_after (goal.at.returns-in-Output c).After-least-n);
+        long = refl;
+        host-long = c.gather.auto.dst;
+        read = λ e. absurd (no-input (rw told at e));
+      };
+      busy = rw c.advanced.ensures c.requires.0;
+    }
+
+pub returns-in-Input : goal.returns-in-Input
+returns-in-Input c =
+    let a = c.args in
+    let told = c.in-Input.is in
+    record {
+      steps = record {
+        run =
+            rw (c.advanced-in-Input.ensures, c.scatter.ensures, told)
+            (filled a.q a.list.now a.m.now a.host.now a.f c.least-n.result c.requires.0 c.requires.1.inside
+            c.requires.1.message.reply (number (goal.at.returns-in-Input c).After-least-n ∙ ap (share (goal.at.returns-in-Input c).Start) told));
+        fit = rw c.advanced-in-Input.ensures (fits_after (goal.at.returns-in-Input c).After-least-n);
+        long = c.scatter.auto.m;
+        host-long = refl;
+        read = λ e. refl;
+      };
+      busy = rw c.advanced-in-Input.ensures c.requires.0;
+    }

@@ -1,0 +1,15 @@
+-- The numbers stand one behind the other, zeros behind them.
+use Rattle.memory.specs.Bytes.{put}
+use Rattle.device.specs.Device.{bytes_of}
+use Rattle.information.proofs.jack_item.Goals as goal
+
+pub returns : goal.returns
+unfolding put bytes_of
+returns c =
+    rw (
+      c.set32-4.ensures,
+      c.set32-3.ensures,
+      c.set32-2.ensures,
+      c.set32.ensures,
+      c.defconf_now-defconf.ensures,
+    )

@@ -1,0 +1,15 @@
+-- The numbers stand one behind the other, zeros behind them.
+use Rattle.memory.specs.Bytes.{put}
+use Rattle.device.specs.Device.{bytes_of}
+use Rattle.information.proofs.pcm_item.Goals as goal
+
+pub returns : goal.returns
+unfolding put bytes_of
+returns c =
+    rw (
+      c.direction_of.ensures,
+      c.set64-2.ensures,
+      c.set64.ensures,
+      c.set32-2.ensures,
+      c.set32.ensures,
+    )

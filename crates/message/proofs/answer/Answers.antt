@@ -1,0 +1,24 @@
+-- Without a status only the used entry is written; else the status goes before it, to the reply's last eight bytes.
+use mathlib.Core.Path.{◌∙◌}
+use Rattle.message.specs.Message.{answered_of, direction_of}
+use Rattle.message.proofs.Laws.{posted-answer}
+use Rattle.ranges.specs.Ranges.{ranges_of}
+use Rattle.ring.specs.Rules.{post_of}
+use Rattle.message.proofs.answer.Goals as goal
+
+pub returns-in-Nothing : goal.returns-in-Nothing
+unfolding answered_of post_of
+returns-in-Nothing c =
+    rw (c.post.ensures, c.queue_size-size.ensures, c.in-Nothing.is)
+
+pub returns-in-Code : goal.returns-in-Code
+returns-in-Code c =
+    let a = c.args in
+    rw c.in-Code.is (c.post-in-Code.ensures
+    ∙ rw (
+      c.put_status.ensures,
+      c.used_length-len.ensures,
+      c.queue_size-size.ensures,
+    )
+    (posted-answer (direction_of a.q.direction) a.m.now a.q.page a.completed a.head
+    (ranges_of a.list.now a.reply) _ a.q.latency a.recorded))

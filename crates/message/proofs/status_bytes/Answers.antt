@@ -1,0 +1,7 @@
+-- The code is stored, then the latency behind it.
+use mathlib.Core.Path.{◌∙◌}
+use Rattle.message.proofs.Laws.{io-status-put}
+use Rattle.message.proofs.status_bytes.Goals as goal
+
+pub returns : goal.returns
+returns c = c.set32-2.ensures ∙ rw c.set32.ensures (io-status-put _ _)

@@ -1,0 +1,30 @@
+-- A table of four.
+use borrow.Author.Tests.{ne_eqb}
+use Rattle.register_map.specs.Map.{size_of}
+use Rattle.register_map.proofs.queue_size.Goals as goal
+
+pub returns-in-0 : goal.returns-in-0
+unfolding size_of
+returns-in-0 c = rw c.in-0.is
+
+pub returns-in-1 : goal.returns-in-1
+unfolding size_of
+returns-in-1 c = rw c.in-1.is
+
+pub returns-in-2 : goal.returns-in-2
+unfolding size_of
+returns-in-2 c = rw c.in-2.is
+
+pub returns-in-3 : goal.returns-in-3
+unfolding size_of
+returns-in-3 c = rw c.in-3.is
+
+pub returns-in_default : goal.returns-in_default
+unfolding size_of
+returns-in_default c =
+    rw (
+      ne_eqb _ _ c.in_default.in_default-own.rest.0.0.0.1,
+      ne_eqb _ _ c.in_default.in_default-own.rest.0.0.1,
+      ne_eqb _ _ c.in_default.in_default-own.rest.0.1,
+      ne_eqb _ _ c.in_default.in_default-own.rest.1,
+    )

@@ -1,0 +1,30 @@
+-- Its numbers, one behind the other.
+use native.Mathlib.Omega.{arith}
+use Rattle.replay_text.proofs.Laws.{with-then}
+use Rattle.replay_text.proofs.register_text.Goals as goal
+
+pub with_number-numbered-requires : goal.with_number-numbered-requires
+with_number-numbered-requires c = omega arith
+
+pub with_number-answered-requires : goal.with_number-answered-requires
+with_number-answered-requires c = omega arith
+
+pub with_number-valued-requires : goal.with_number-valued-requires
+with_number-valued-requires c = omega arith
+
+pub with_queue-requires : goal.with_queue-requires
+with_queue-requires c = omega arith
+
+pub with_number-requires : goal.with_number-requires
+with_number-requires c = omega arith
+
+pub returns : goal.returns
+returns c =
+    rw (
+      c.with_number.ensures.0,
+      c.with_queue.ensures.0,
+      c.with_number-valued.ensures.0,
+      c.with_number-answered.ensures.0,
+      c.with_number-numbered.ensures.0,
+      c.empty.ensures.0,
+    ) (simp with-then)

@@ -1,0 +1,5 @@
+-- A queue that goes on leaves the registers as they are.
+use Rattle.stream.proofs.break_by.Goals as goal
+
+pub returns-in-Broke : goal.returns-in-Broke
+returns-in-Broke c = rw c.in-Broke.is c.break_down.ensures
