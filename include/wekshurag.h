@@ -2,7 +2,7 @@
  * Wekshurag: a virtio sound card (legacy virtio-pci, split rings) for a monitor, which lends it the guest's memory and its own
  * sound buffers.
  *
- * Link with libwekshurag.a (`rt staticlib wekshurag`; x86-64 Linux, no flags, nothing else). c/monitor.c is a monitor to copy from;
+ * Link with libwekshurag.a (`tools/build wekshurag`; x86-64 Linux, no flags, nothing else). c/monitor.c is a monitor to copy from;
  * docs/GUESTS.md says what the card asks of guests and of monitors.
  *
  * What the card does in a call is proved to be what its rules say, whatever the guest wrote: no guest memory, register access or

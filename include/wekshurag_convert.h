@@ -1,7 +1,7 @@
 /*
  * Samples converted to S16, for the mixer (order 7).
  *
- * Link with libsamples.a (`rt staticlib samples`; x86-64 Linux). The function keeps no state and touches nothing but the two
+ * Link with libsamples.a (`tools/build samples`; x86-64 Linux). The function keeps no state and touches nothing but the two
  * buffers, so any thread may call it at any time, with buffers that no other thread uses during the call.
  */
 #ifndef WEKSHURAG_CONVERT_H

@@ -1,7 +1,7 @@
 /*
  * Sound as a WAVE file, written and read (order 3).
  *
- * Link with libwave.a (`rt staticlib wave`; x86-64 Linux). The functions keep no state and touch nothing but the buffers lent to them, so any
+ * Link with libwave.a (`tools/build wave`; x86-64 Linux). The functions keep no state and touch nothing but the buffers lent to them, so any
  * thread may call them at any time, with buffers that no other thread uses during the call.
  */
 #ifndef WEKSHURAG_WAVE_H
