@@ -8,11 +8,11 @@ use Rattle.decimal.proofs.put.Goals as goal
 
 -- at most 20 digits
 few : (c : After-decimal-count) → c.decimal-count.result ≤ 20
-few c = fewest-below 20 c.args.n _ c.decimal-count.ensures.len.0 (omega arith) (omega arith)
+few c = fewest-below 20 c.args.n _ c.decimal-count.ensures.len (omega arith) (omega arith)
 
 -- at most 20 digits
 few_at_After_out_1 : (c : After-out-1) → c.decimal-count.result ≤ 20
-few_at_After_out_1 c = fewest-below 20 c.args.n _ c.decimal-count.ensures.len.0 (omega arith) (omega arith)
+few_at_After_out_1 c = fewest-below 20 c.args.n _ c.decimal-count.ensures.len (omega arith) (omega arith)
 
 -- what is behind them is at most 20 further on
 behind : (c : After-out-1) → c.put_bytes-behind.result ≤ c.args.at + 20
@@ -31,5 +31,5 @@ overflow_add-result c = omega (arith, behind (goal.at.overflow_add-result c).Aft
 pub returns : goal.returns
 returns c =
     let a = c.args in
-    let digits = c.decimal-count.ensures.len.1 ∙ digits-of-fewest a.n _ (omega arith) c.decimal-count.ensures.len.0 in
+    let digits = c.decimal-count.ensures.digits ∙ digits-of-fewest a.n _ (omega arith) c.decimal-count.ensures.len in
     (put-field a.n a.end digits c.put_bytes-behind.ensures, omega (arith, behind (goal.at.returns c).After-out-1))

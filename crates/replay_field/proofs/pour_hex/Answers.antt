@@ -61,9 +61,6 @@ bounds-m-d c = omega arith
 pub overflow_add-d : goal.overflow_add-d
 overflow_add-d c = omega arith
 
-pub overflow_add-i : goal.overflow_add-i
-overflow_add-i c = omega arith
-
 pub loop-i-smaller : goal.loop-i-smaller
 loop-i-smaller c = omega arith
 

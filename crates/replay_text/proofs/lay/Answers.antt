@@ -3,8 +3,8 @@ use native.Mathlib.Omega.{arith}
 use Rattle.replay_text.proofs.lay.Goals as goal
 
 pub put_first-requires : goal.put_first-requires
-put_first-requires c = omega (arith, slice-aggregate-put-first c)
+put_first-requires c = omega arith
 
 pub returns : goal.returns
 returns c =
-    (c.put_first.ensures.0, omega (arith, c.put_first.ensures.1, slice-aggregate-put-first c))
+    (c.put_first.ensures.0, omega (arith, c.put_first.ensures.1))

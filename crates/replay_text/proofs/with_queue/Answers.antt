@@ -6,7 +6,7 @@ use Rattle.replay_text.proofs.Laws.{with-put}
 use Rattle.replay_text.proofs.with_queue.Goals as goal
 
 pub put_bytes-count-requires : goal.put_bytes-count-requires
-put_bytes-count-requires c = omega (arith, slice-aggregate-put-bytes c)
+put_bytes-count-requires c = omega arith
 
 pub returns-then-queue-eq255 : goal.returns-then-queue-eq255
 unfolding queue_bytes

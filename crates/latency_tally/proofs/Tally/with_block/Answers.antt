@@ -18,9 +18,6 @@ number32-latency-requires c = omega arith
 pub with_record-next-requires : goal.with_record-next-requires
 with_record-next-requires c = omega arith
 
-pub overflow_add-at : goal.overflow_add-at
-overflow_add-at c = omega arith
-
 pub overflow_sub-left : goal.overflow_sub-left
 overflow_sub-left c = omega arith
 
