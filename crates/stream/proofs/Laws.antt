@@ -40,7 +40,7 @@ module _ (l : Live) (p : Parts) (ws other : List ℕ) (f : FitBoard l p) (latenc
       ≡ queue_with (virtqueue_in l d latency) (dropped_live (direction_of d) l) ws (counters_live (direction_of d) l)
   unfolding device_of queue_with queue_in
   queue-in Output = rw f.outputs
-  queue-in Input = rw (f.outputs, f.inputs)
+  queue-in Input = rw f.inputs
 
   -- ---- after a job
 

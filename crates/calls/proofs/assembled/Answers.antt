@@ -1,6 +1,6 @@
 -- The pieces are joined; owning the parts tells the length of their streams (`good`: their fields one after the other).
-use mathlib.Core.Path.{◌≡◌, ◌∙◌, sym, refl}
-use lib.ListN.{length, length-map}
+use mathlib.Core.Path.{◌≡◌, refl}
+use lib.ListN.{length}
 use Rattle.calls.proofs.assembled.Goals as goal
 
 pub play_words-requires : goal.play_words-requires
@@ -16,5 +16,5 @@ pub returns : goal.returns
 returns c =
     let p = c.args.parts in
     let from-jacks = c.well_formed.0.1.1.1.1.1.1 in
-    let six : length p.streams ≡ 6 = sym (length-map p.streams _) ∙ from-jacks.1.1.0.1.0.1 in
+    let six : length p.streams ≡ 6 = from-jacks.1.1.0.1.0.1 in
     rw c.joined.ensures (refl, c.play_words.ensures, c.capture_words.ensures, six)

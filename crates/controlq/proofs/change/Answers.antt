@@ -20,12 +20,12 @@ serves-at c = rw (c.parts_now-current.ensures, c.pending_in-pending.ensures) at 
 -- a stream is released first: it is there, and memory is as it was
 left : (c : After-act-served) (id : ℕ) → c.act-served.result.kind ≡ kinds.Release id →
     let a = c.args in
-    let asked = asks_in (card_in a.live a.parts a.play-words.now a.capture-words.now) a.list.now a.message in
+    let asked = asks_in (card_in a.live a.parts a.play_words.now a.capture_words.now) a.list.now a.message in
     (acted (changed_by a.asked (parts_of (parts_now a.live a.parts)) a.request.now) asked a.m.now ≡ ReleaseFirst id asked)
     × (c.act-served.new.m ≡ a.m.now) × (id < a.live.outputs + a.live.inputs)
 left c id h =
     let a = c.args in
-    served-release a.live a.parts a.play-words.now a.capture-words.now c.requires.0 a.message.head a.list.now
+    served-release a.live a.parts a.play_words.now a.capture_words.now c.requires.0 a.message.head a.list.now
     a.message.reply c.act-served.result a.m.now _ _ id (serves-at c) h
 
 pub act-served-requires : goal.act-served-requires
@@ -39,7 +39,7 @@ pub returns-in-Completed : goal.returns-in-Completed
 returns-in-Completed c =
     let a = c.args in
     rw (c.finish.ensures, c.keep.ensures)
-    (served-completed a.live a.parts a.play-words.now a.capture-words.now c.requires.0 a.message.head a.list.now
+    (served-completed a.live a.parts a.play_words.now a.capture_words.now c.requires.0 a.message.head a.list.now
     a.message.reply c.act-served.result a.m.now _ _ _ (serves-at (goal.at.returns-in-Completed c).After-act-served) c.in-Completed.is)
 
 pub returns-in-Release : goal.returns-in-Release

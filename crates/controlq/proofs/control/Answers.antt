@@ -13,25 +13,25 @@ use Rattle.controlq.proofs.control.Goals as goal
 -- what the message that is taken comes to
 comes : (c : In-Taken) (r : Answered) → c.in-Taken.answered ≡ r →
     let a = c.args in
-    Comes (step_of (card_in a.live a.parts a.play-words.now a.capture-words.now) Control a.m.now) (taken_live a.live)
-    a.parts a.play-words.now a.capture-words.now c.attend.new.words c.attend.new.bytes
+    Comes (step_of (card_in a.live a.parts a.play_words.now a.capture_words.now) Control a.m.now) (taken_live a.live)
+    a.parts a.play_words.now a.capture_words.now c.attend.new.words c.attend.new.bytes
     c.attend.new.m r
 comes c r e =
     let a = c.args in
     turns_as a.live a.parts a.m.now _ _ _ c.attend.result (Turn.Taken r)
-    (c.in-Taken.is ∙ ap Turn.Taken e) c.attend.ensures a.play-words.now a.capture-words.now c.requires
+    (c.in-Taken.is ∙ ap Turn.Taken e) c.attend.ensures a.play_words.now a.capture_words.now c.requires
 
 pub change-changed-requires : goal.change-changed-requires
 change-changed-requires c =
     let a = c.args in
     let w = comes (goal.at.change-changed-requires c).In-Taken _ c.in-Changes.is in
-    rw c.take_one-taken.ensures (taken-fits a.live a.parts a.play-words.now a.capture-words.now c.requires a.m.now, w.1)
+    rw c.take_one-taken.ensures (taken-fits a.live a.parts a.play_words.now a.capture_words.now c.requires a.m.now, w.1)
 
 pub returns-in-Over : goal.returns-in-Over
 returns-in-Over c =
     let a = c.args in
     let over = rw c.in-Over.is at c.attend.ensures in
-    rw c.finish.ensures (over a.play-words.now a.capture-words.now c.requires)
+    rw c.finish.ensures (over a.play_words.now a.capture_words.now c.requires)
 
 pub returns-in-Completed : goal.returns-in-Completed
 returns-in-Completed c =

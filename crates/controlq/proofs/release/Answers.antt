@@ -13,7 +13,7 @@ signalled : (c : After-empty-emptied) → let e = c.empty-emptied.result in
     c.empty-emptied.new.capture_words
 signalled c =
     let a = c.args in
-    emptied-fits a.live a.parts a.play-words.now a.capture-words.now c.requires.0 a.id a.m.now _ _ _
+    emptied-fits a.live a.parts a.play_words.now a.capture_words.now c.requires.0 a.id a.m.now _ _ _
     c.empty-emptied.result c.empty-emptied.ensures a.message.head a.list.now a.message.reply
 
 pub mark_released-marked-requires : goal.mark_released-marked-requires
@@ -28,7 +28,7 @@ pub returns-in-Broke : goal.returns-in-Broke
 returns-in-Broke c =
     let a = c.args in
     rw (c.finish.ensures, c.signal-signalled.ensures)
-    (release-broken a.live a.parts a.play-words.now a.capture-words.now c.requires.0 a.id a.m.now _ _ _
+    (release-broken a.live a.parts a.play_words.now a.capture_words.now c.requires.0 a.id a.m.now _ _ _
     c.empty-emptied.result c.empty-emptied.ensures a.message.head a.list.now a.message.reply _ _ c.queue_of.ensures
     c.in-Broke.is)
 
@@ -45,7 +45,7 @@ pub returns-in-Going : goal.returns-in-Going
 returns-in-Going c =
     let a = c.args in
     rw (c.finish-in-Going.ensures, c.mark_released-marked.ensures, c.signal-signalled.ensures)
-    (release-going a.live a.parts a.play-words.now a.capture-words.now c.requires.0 a.id a.m.now _ _ _
+    (release-going a.live a.parts a.play_words.now a.capture_words.now c.requires.0 a.id a.m.now _ _ _
     c.empty-emptied.result c.empty-emptied.ensures a.message.head a.list.now a.message.reply _ c.complete-posted.result
     c.in-Going.is
     (rw (c.pending_in-pending.ensures, c.mark_released-marked.ensures, c.signal-signalled.ensures) at c.complete-posted.ensures))
