@@ -5,17 +5,18 @@ use native.Mathlib.Omega.{arith}
 use lib.ListN.{take, length-take}
 use Rattle.latency.proofs.Readings.{Head, bytes-taken, reported-short, head-eight, reported-more}
 use Rattle.latency.proofs.input.read_input.Goals.{After-read_head-first}
+use Rattle.latency.proofs.input.read_input.Given.{Over}
 use Rattle.latency.proofs.input.read_input.Goals as goal
 
 -- what stands at the buffer's start after the first read
-head : (g : goal.Over) (c : After-read_head-first g) → Head c.read_head-first.result.input c.read_head-first.result.count
+head : (g : Over) (c : After-read_head-first g) → Head c.read_head-first.result.input c.read_head-first.result.count
 head g c =
     let n = c.read_head-first.result.count in
     let e = c.read_head-first.ensures in
     let after = c.read_head-first.new.buffer in
     record { read = take n after; bytes = bytes-taken n after e.bytes; long = rw length-take (omega (arith, e.count_in_bounds)); same = e.input_value }
 
-eight : (g : goal.Over) (c : After-read_head-first g) → 8 ≤ c.read_head-first.result.count → Head c.read_head-first.result.input 8
+eight : (g : Over) (c : After-read_head-first g) → 8 ≤ c.read_head-first.result.count → Head c.read_head-first.result.input 8
 eight g c h =
     let n : c.read_head-first.result.count ≡ 8 = omega (arith, c.read_head-first.ensures.count_in_bounds, c.read_head-first.auto.buffer) in
     rw n at (head g c)

@@ -9,16 +9,17 @@ use Rattle.latency_tally.specs.declared.Input.{Input}
 use Rattle.latency.specs.Reading.{Behind}
 use Rattle.latency.proofs.Readings.{bytes-taken, behind-none, behind_more}
 use Rattle.latency.proofs.input.read_records.Goals.{After-read_block-turn}
+use Rattle.latency.proofs.input.read_records.Given.{Over}
 use Rattle.latency.proofs.input.read_records.Goals as goal
 
 -- what one block more leaves
-record Next (g : goal.Over) (c : After-read_block-turn g) : Type 0 where
+record Next (g : Over) (c : After-read_block-turn g) : Type 0 where
   behind : Behind c.args.opened c.read_block-turn.result.input
   whole : 65536 ≤ c.read_block-turn.result.count → length behind.read % 8 ≡ 0
   buffer : 65536 ≡ length c.read_block-turn.new.buffer
   bytes : c.read_block-turn.result.input.bytes ≡ (c.loop-input.input.bytes + c.read_block-turn.result.count) % 2 ^ 64
 
-next : (g : goal.Over) (c : After-read_block-turn g) → Next g c
+next : (g : Over) (c : After-read_block-turn g) → Next g c
 next g c =
     let l = c.loop-input in
     let r = c.read_block-turn.result in
@@ -35,9 +36,6 @@ next g c =
       bytes = ap (λ (x : Input). x.bytes) e.input_value ∙ rw long;
     }
 
-pub large_buffer-buffer-requires : goal.large_buffer-buffer-requires
-large_buffer-buffer-requires g c = omega arith
-
 pub loop-input-init : goal.loop-input-init
 loop-input-init g c =
     let none = behind-none c.args.opened c.requires in
@@ -46,11 +44,9 @@ loop-input-init g c =
 pub slice_bounds-read_block-end : goal.slice_bounds-read_block-end
 slice_bounds-read_block-end g c = c.loop-input.invariant.0
 
-pub read_block-turn-requires : goal.read_block-turn-requires
-read_block-turn-requires g c = omega arith
-
 pub returns-then-turn-lt-BLOCK : goal.returns-then-turn-lt-BLOCK
-returns-then-turn-lt-BLOCK g c = ((next g (goal.at.returns-then-turn-lt-BLOCK g c).After-read_block-turn).behind, inl c.if-turn-lt-BLOCK.true)
+returns-then-turn-lt-BLOCK g c =
+    record { behind = (next g (goal.at.returns-then-turn-lt-BLOCK g c).After-read_block-turn).behind; last = inl c.if-turn-lt-BLOCK.true }
 
 pub loop-input-smaller : goal.loop-input-smaller
 loop-input-smaller g c =
@@ -63,4 +59,4 @@ loop-input-preserved g c =
     (n.buffer, n.behind, n.whole c.if-turn-lt-BLOCK.false)
 
 pub returns : goal.returns
-returns g c = (c.loop-input.invariant.1, inr c.loop-input-test.false)
+returns g c = record { behind = c.loop-input.invariant.1; last = inr c.loop-input-test.false }
