@@ -2,7 +2,7 @@
 // is told of. Any reader and writer will do: standard input and output, a file, bytes in memory.
 #![tactic(auto)]
 
-ghost use Rattle.std.specs.Prelude.{◌≡◌, take, true};
+ghost use Rattle.std.specs.Prelude.{◌≡◌, take, true, decimal};
 ghost use Rattle.std.specs.Io.KnownBytes.{Appends, Consumes};
 ghost use Rattle.io.specs.Counts.{IsPrefixLen};
 
@@ -40,4 +40,11 @@ pub fn write_all<W: Write>(output: &mut W, s: &[u8]) -> bool
     ensures { result ≡ true → Appends (W.contents output.old) (W.contents output.new) s.now }
 {
     output.write_all(s).is_ok()
+}
+
+// Writes `n` in decimal, and whether that went well.
+pub fn write_number<W: Write>(output: &mut W, n: u64) -> bool
+    ensures { result ≡ true → Appends (W.contents output.old) (W.contents output.new) (decimal n) }
+{
+    write!(output, "{n}").is_ok()
 }
