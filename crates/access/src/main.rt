@@ -1,6 +1,6 @@
 // The access program, on the example of 01.
 #![tactic(auto)]
 
-fn main() {
-    access_run::run();
+fn main(rt: HostRuntime) {
+    access_run::run(&mut rt.stdin(), &mut rt.stdout());
 }

@@ -12,8 +12,8 @@ ghost use Rattle.access_run.specs.Session.{first_session, line_ended, line_text,
 
 use access_line::{Collected, Line};
 use description::{Description, StreamInfo};
-use libc::{STDIN_FILENO, STDOUT_FILENO};
 use live::Live;
+use std::io::{Read, Write};
 
 // The answer to a line that can't be read.
 const UNREADABLE: u8 = 99;
@@ -213,14 +213,18 @@ fn finish(session: Session, out: &mut [u8]) -> usize
 }
 
 // One read of the input into `block`, done and answered; nothing read is its end.
-fn take_block(session: Session, block: &mut [u8], out: &mut [u8]) -> Taken
+fn take_block<R: Read>(
+    input: &mut R,
+    session: Session,
+    block: &mut [u8],
+    out: &mut [u8],
+) -> Taken
     requires { FitLive session.live × (63 + 63 * length block.old ≤ length out.old) }
     ensures { Takes (foldl fed session (take result.count block.new)) (taken_text session result.count block.new)
         out.old 0 out.new result.session result.end
         × (result.end ≤ length out.new) }
 {
-    let got = libc::read(STDIN_FILENO, block);
-    let count = io::count(got, block);
+    let count = streams::read_some(input, block);
     if count == 0 {
         let end = finish(session, out);
         return Taken {
@@ -239,15 +243,15 @@ fn take_block(session: Session, block: &mut [u8], out: &mut [u8]) -> Taken
 }
 
 // The whole program: each block is taken, and what it left in `out` is written out.
-pub fn run() {
+pub fn run<R: Read, W: Write>(input: &mut R, output: &mut W) {
     let mut session = first_session();
     let mut block = io::buffer();
     let mut out = text_buffer();
     let mut left = BLOCKS;
     while 0 < left {
-        let taken = take_block(session, &mut block, &mut out);
+        let taken = take_block(input, session, &mut block, &mut out);
         let end = taken.end;
-        io::write_all(STDOUT_FILENO, &out[..end]);
+        streams::write_all(output, &out[..end]);
         if taken.count == 0 {
             return;
         }

@@ -1,6 +1,6 @@
 // The converter as a program: convert FORMAT FROM TO.
 #![tactic(auto)]
 
-fn main() {
-    convert_run::run();
+fn main(rt: HostRuntime) {
+    convert_run::run(&rt);
 }

@@ -7,10 +7,8 @@ ghost use Rattle.convert_run.specs.Blocks.{MadeBy};
 ghost use Rattle.convert_run.specs.Reports.{refusal, length_answer, FormatFirst};
 
 use argument::Argument;
-use libc::STDOUT_FILENO;
-
-// No file to write to: a pass without one only counts what it reads.
-const NO_SINK: i32 = -1;
+use std::fs::File;
+use std::io::{Read, Write};
 
 // Wrong arguments, and a file that can't be used.
 const USAGE: u32 = 99;
@@ -83,13 +81,20 @@ fn convert_block(format: u32, block: &[u8], out: &mut [u8]) -> Piece
     }
 }
 
-// The next block of `source`, converted into `sink`.
-fn pass_block(source: i32, sink: i32, format: u32, block: &mut [u8], out: &mut [u8]) -> Piece
+// The next block of `source`, converted into `sink`; or only counted.
+fn pass_block<R: Read, W: Write>(
+    source: &mut R,
+    sink: &mut W,
+    counts: bool,
+    format: u32,
+    block: &mut [u8],
+    out: &mut [u8],
+) -> Piece
     ensures { result.count ≤ length block.new }
 {
     let read = files::read_block(source, block);
     let count = read.count;
-    if sink < 0 {
+    if counts {
         return Piece {
             count: count,
             sound: read.sound,
@@ -97,21 +102,21 @@ fn pass_block(source: i32, sink: i32, format: u32, block: &mut [u8], out: &mut [
     }
     let made = convert_block(format, &block[..count], out);
     let bytes = made.count;
-    let wrote = io::write_all(sink, &out[..bytes]);
+    let wrote = streams::write_all(sink, &out[..bytes]);
     Piece {
         count: count,
         sound: read.sound && made.sound && wrote,
     }
 }
 
-// A pass over `source`, from where it stands to its end.
-fn pass(source: i32, sink: i32, format: u32) -> Passed {
+// A pass over `source`, from where it stands to its end, converted into `sink`; or only counted.
+fn pass<R: Read, W: Write>(source: &mut R, sink: &mut W, counts: bool, format: u32) -> Passed {
     let mut block = block_buffer();
     let mut out = output_buffer();
     let mut bytes: u64 = 0;
     let mut left = BLOCKS;
     while 0 < left {
-        let piece = pass_block(source, sink, format, &mut block, &mut out);
+        let piece = pass_block(source, sink, counts, format, &mut block, &mut out);
         bytes += piece.count as u64;
         if !piece.sound {
             return Passed {
@@ -134,23 +139,22 @@ fn pass(source: i32, sink: i32, format: u32) -> Passed {
 }
 
 // All of `source`, which had so many bytes, converted into `sink`.
-fn write_samples(source: i32, sink: i32, format: u32, bytes: u64) -> bool {
+fn write_samples(source: &mut File, sink: &mut File, format: u32, bytes: u64) -> bool {
     if !files::rewind(source, 0) {
         return false;
     }
-    let passed = pass(source, sink, format);
+    let passed = pass(source, sink, false, format);
     passed.sound && passed.bytes == bytes
 }
 
 // TO made to hold the samples of `source`.
-fn write_to(to: &[u8], source: i32, format: u32, bytes: u64) -> bool {
+fn write_to(rt: &HostRuntime, to: &[u8], source: &mut File, format: u32, bytes: u64) -> bool {
     let mut name = io::buffer();
-    let sink = files::open_sink(to, &mut name);
-    if sink.file < 0 {
+    let Some(mut sink) = files::open_sink(rt, to, &mut name) else {
         return false;
-    }
-    let wrote = write_samples(source, sink.file, format, bytes);
-    files::close_sink(sink, &name, to, wrote)
+    };
+    let wrote = write_samples(source, &mut sink.file, format, bytes);
+    files::close_sink(rt, sink, &name, to, wrote)
 }
 
 // FROM's length judged: 98 unless it was read to its end, 31 unless it is whole samples.
@@ -168,16 +172,22 @@ fn judge_length(length: Passed, bytes: u64) -> u32
 }
 
 // The order past FROM's opening: FROM can't be read, not whole samples, TO can't be used.
-fn convert_open(source: i32, format: u32, bytes: u64, to: &[u8]) -> Report
+fn convert_open(
+    rt: &HostRuntime,
+    source: &mut File,
+    format: u32,
+    bytes: u64,
+    to: &[u8],
+) -> Report
     requires { 0 < bytes }
     ensures { result.answer ≡ 30 → ⊥ }
 {
-    let length = pass(source, NO_SINK, format);
+    let length = pass(source, &mut std::io::sink(), true, format);
     let answer = judge_length(length, bytes);
     if answer != samples::DONE {
         return refused(answer);
     }
-    if !write_to(to, source, format, length.bytes) {
+    if !write_to(rt, to, source, format, length.bytes) {
         return refused(UNUSABLE);
     }
     Report {
@@ -187,50 +197,47 @@ fn convert_open(source: i32, format: u32, bytes: u64, to: &[u8]) -> Report
 }
 
 // The order past FORMAT's reading: not in the list (30, then only), FROM can't be opened.
-fn convert_file(format: u32, from: &[u8], to: &[u8]) -> Report
+fn convert_file(rt: &HostRuntime, format: u32, from: &[u8], to: &[u8]) -> Report
     ensures { FormatFirst format result }
 {
     let bytes = samples::sample_bytes(format) as u64;
     if bytes == 0 {
         return refused(samples::OTHER_FORMAT);
     }
-    let source = os::open_read(from);
-    if source < 0 {
+    let Some(mut source) = files::open_read(rt, from) else {
         return refused(UNUSABLE);
-    }
-    let report = convert_open(source, format, bytes, to);
-    libc::close(source);
-    report
+    };
+    convert_open(rt, &mut source, format, bytes, to)
 }
 
 // The arguments: FORMAT, 1 to 10 digits; FROM; TO. One that is too long for its buffer is read as empty.
-fn from_arguments() -> Report {
-    if os::arg_count() != 4 {
+fn from_arguments(rt: &HostRuntime) -> Report {
+    if !files::is_last_argument(rt, 3) {
         return refused(USAGE);
     }
-    let Argument::Number(format) = files::number_argument(1) else {
+    let Argument::Number(format) = files::number_argument(rt, 1) else {
         return refused(USAGE);
     };
     if 4294967295 < format {
         return refused(samples::OTHER_FORMAT);
     }
     let mut from = io::buffer();
-    let from_len = os::arg(2, &mut from);
+    let from_len = files::argument_word(rt, 2, &mut from);
     let mut to = io::buffer();
-    let to_len = os::arg(3, &mut to);
-    convert_file(format as u32, &from[..from_len], &to[..to_len])
+    let to_len = files::argument_word(rt, 3, &mut to);
+    convert_file(rt, format as u32, &from[..from_len], &to[..to_len])
 }
 
-fn print(report: Report) {
-    io::print_decimal(STDOUT_FILENO, report.answer as u64);
+fn print<W: Write>(output: &mut W, report: Report) {
+    streams::write_number(output, report.answer as u64);
     if report.answer == samples::DONE {
-        io::write_all(STDOUT_FILENO, b" ");
-        io::print_decimal(STDOUT_FILENO, report.samples);
+        streams::write_all(output, b" ");
+        streams::write_number(output, report.samples);
     }
-    io::write_all(STDOUT_FILENO, b"\n");
+    streams::write_all(output, b"\n");
 }
 
 // The whole program.
-pub fn run() {
-    print(from_arguments());
+pub fn run(rt: &HostRuntime) {
+    print(&mut rt.stdout(), from_arguments(rt));
 }

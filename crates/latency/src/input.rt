@@ -1,11 +1,11 @@
-// Standard input, read block by block, and the report of it.
+// The input, read block by block, and the report of it, written out.
 ghost use Rattle.std.specs.Prelude.{◌≡◌, ◌≤◌, length, take};
 ghost use Rattle.latency_tally.specs.Tally.{opened, taken};
 ghost use Rattle.latency.specs.Reading.{Bytes, Behind, Last, Reported, Handed, Answered};
 
 use crate::{MOST, Text};
 use latency_tally::Input;
-use libc::{STDIN_FILENO, STDOUT_FILENO};
+use std::io::{Read, Write};
 
 // The bytes of a full block.
 const BLOCK: usize = 65536;
@@ -18,12 +18,12 @@ struct Turn {
 }
 
 // The first bytes: what the read left in the buffer.
-fn read_head(buffer: &mut [u8]) -> Turn
+fn read_head<R: Read>(from: &mut R, buffer: &mut [u8]) -> Turn
     ensures count_in_bounds { result.count ≤ length buffer.new }
     ensures bytes { Bytes buffer.new }
     ensures input_value { result.input ≡ opened (take result.count buffer.new) }
 {
-    let count = io::read_full(STDIN_FILENO, buffer);
+    let count = streams::read_full(from, buffer);
     Turn {
         input: latency_tally::open(&buffer[..count]),
         count: count,
@@ -31,12 +31,12 @@ fn read_head(buffer: &mut [u8]) -> Turn
 }
 
 // One block behind them.
-fn read_block(input: Input, buffer: &mut [u8]) -> Turn
+fn read_block<R: Read>(from: &mut R, input: Input, buffer: &mut [u8]) -> Turn
     ensures count_in_bounds { result.count ≤ length buffer.new }
     ensures bytes { Bytes buffer.new }
     ensures input_value { result.input ≡ taken input (take result.count buffer.new) }
 {
-    let count = io::read_full(STDIN_FILENO, buffer);
+    let count = streams::read_full(from, buffer);
     Turn {
         input: latency_tally::take_block(input, &buffer[..count]),
         count: count,
@@ -45,7 +45,7 @@ fn read_block(input: Input, buffer: &mut [u8]) -> Turn
 
 // The records behind the mask, up to the last block. A block that is not full is the last, and so is
 // the one that passes the limit.
-fn read_records(opened: Input) -> Turn
+fn read_records<R: Read>(from: &mut R, opened: Input) -> Turn
     requires { opened.bytes ≡ 8 }
     ensures behind { Behind opened result.input }
     ensures last { Last result.input result.count }
@@ -53,7 +53,7 @@ fn read_records(opened: Input) -> Turn
     let mut buffer = io::large_buffer();
     let mut input = opened;
     while input.bytes <= MOST {
-        let turn = read_block(input, &mut buffer);
+        let turn = read_block(from, input, &mut buffer);
         if turn.count < BLOCK {
             return turn;
         }
@@ -66,52 +66,52 @@ fn read_records(opened: Input) -> Turn
 }
 
 // The mask, and what stands behind it.
-fn read_input() -> Input
+fn read_input<R: Read>(from: &mut R) -> Input
     ensures { Reported result }
 {
     let mut head = [0u8; 8];
-    let first = read_head(&mut head);
+    let first = read_head(from, &mut head);
     let opened = first.input;
     if first.count < 8 {
         return opened;
     }
-    let last = read_records(opened);
+    let last = read_records(from, opened);
     last.input
 }
 
 // The first `count` bytes of `s`, or all of `s` where it has no more, written out.
-fn write(s: &[u8], count: usize) {
+fn write<W: Write>(to: &mut W, s: &[u8], count: usize) {
     if s.len() <= count {
-        io::write_all(STDOUT_FILENO, s);
+        streams::write_all(to, s);
         return;
     }
-    io::write_all(STDOUT_FILENO, &s[..count]);
+    streams::write_all(to, &s[..count]);
 }
 
-// A text, handed to standard output.
-pub fn print(text: Text) {
+// A text, written out.
+pub fn print<W: Write>(to: &mut W, text: Text) {
     let bytes = text.bytes;
-    write(&bytes, text.count);
+    write(to, &bytes, text.count);
 }
 
 // The report of what is read.
-fn answer() -> Text
+fn answer<R: Read>(from: &mut R) -> Text
     ensures { Answered result }
 {
-    crate::report(read_input())
+    crate::report(read_input(from))
 }
 
 // Writes a report, and nothing that is none.
-fn hand_out(s: &[u8])
+fn hand_out<W: Write>(to: &mut W, s: &[u8])
     requires { Handed s.now }
 {
-    io::write_all(STDOUT_FILENO, s);
+    streams::write_all(to, s);
 }
 
 // The whole program.
-pub fn run() {
-    let text = answer();
+pub fn run<R: Read, W: Write>(from: &mut R, to: &mut W) {
+    let text = answer(from);
     let bytes = text.bytes;
     let count = text.count;
-    hand_out(&bytes[..count]);
+    hand_out(to, &bytes[..count]);
 }

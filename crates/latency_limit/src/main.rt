@@ -4,6 +4,7 @@
 #![tactic(auto)]
 
 use latency_tally::Input;
+use std::io::Write;
 
 // The records of a block, and how often it is taken: 1,000,000 records in all.
 const RECORDS: u32 = 8000;
@@ -45,16 +46,17 @@ fn with_blocks(opened: Input, block: &[u8]) -> Input {
     input
 }
 
-fn show(input: Input) {
-    latency::print(latency::report(input));
+fn show<W: Write>(to: &mut W, input: Input) {
+    latency::print(to, latency::report(input));
 }
 
-fn main() {
+fn main(rt: HostRuntime) {
+    let mut to = rt.stdout();
     let mut records = block();
     fill(&mut records);
     let mask = [96u8, 0, 0, 0, 0, 0, 0, 0];
-    show(latency_tally::open(&mask[..7]));
+    show(&mut to, latency_tally::open(&mask[..7]));
     let full = with_blocks(latency_tally::open(&mask), &records);
-    show(full);
-    show(latency_tally::take_block(full, &mask[..1]));
+    show(&mut to, full);
+    show(&mut to, latency_tally::take_block(full, &mask[..1]));
 }

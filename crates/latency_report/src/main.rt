@@ -2,6 +2,6 @@
 // 0.
 #![tactic(auto)]
 
-fn main() {
-    latency::run();
+fn main(rt: HostRuntime) {
+    latency::run(&mut rt.stdin(), &mut rt.stdout());
 }

@@ -8,15 +8,8 @@ use Rattle.access_run.specs.Session.{fed, block_text}
 use Rattle.access_run.specs.declared.Session.{Session}
 use Rattle.decimal.proofs.Folds.{fold_more, fold_end}
 use Rattle.access_run.proofs.Laws.{text-more, text-end}
+use Rattle.access_run.proofs.with_block.Invariants.{Going}
 use Rattle.access_run.proofs.with_block.Goals as goal
-
-record Going (bytes out₀ : List ℕ) (first : Session) (out : List ℕ) (now : Session) (end i : ℕ) : Type 0 where
-  inside : i ≤ length bytes
-  long : length out ≡ length out₀
-  room : end ≤ 63 * i
-  fit : FitLive now.live
-  session : foldl fed now (drop i bytes) ≡ foldl fed first bytes
-  text : Rest (block_text first bytes) out₀ 0 out end (block_text now (drop i bytes))
 
 pub loop-i-init : goal.loop-i-init
 loop-i-init c =
@@ -47,7 +40,7 @@ loop-i-preserved c =
     let f = c.feed-turn in
     let l = c.loop-i in
     let bytes = c.args.bytes.now in
-    let more : l.i < length bytes = c.loop-i-test.false in
+    let more : l.i < length bytes = c.loop-i-test.true in
     record {
       inside = omega (arith, more);
       long = f.auto.out ∙ l.invariant.long;

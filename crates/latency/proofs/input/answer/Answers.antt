@@ -3,4 +3,4 @@ use Rattle.latency.proofs.Readings.{answered}
 use Rattle.latency.proofs.input.answer.Goals as goal
 
 pub returns : goal.returns
-returns c = rw c.report.ensures (answered c.read_input.result c.read_input.ensures)
+returns g c = rw c.report.ensures (answered c.read_input.result c.read_input.ensures)

@@ -5,28 +5,29 @@ use native.Mathlib.Omega.{arith}
 use lib.ListN.{take, length-take}
 use Rattle.latency.proofs.Readings.{Head, bytes-taken, reported-short, head-eight, reported-more}
 use Rattle.latency.proofs.input.read_input.Goals.{After-read_head-first}
+use Rattle.latency.proofs.input.read_input.Given.{Over}
 use Rattle.latency.proofs.input.read_input.Goals as goal
 
 -- what stands at the buffer's start after the first read
-head : (c : After-read_head-first) → Head c.read_head-first.result.input c.read_head-first.result.count
-head c =
+head : (g : Over) (c : After-read_head-first g) → Head c.read_head-first.result.input c.read_head-first.result.count
+head g c =
     let n = c.read_head-first.result.count in
     let e = c.read_head-first.ensures in
     let after = c.read_head-first.new.buffer in
-    record { read = take n after; bytes = bytes-taken n after e.1.0; long = rw length-take (omega (arith, e.0)); same = e.1.1 }
+    record { read = take n after; bytes = bytes-taken n after e.bytes; long = rw length-take (omega (arith, e.count_in_bounds)); same = e.input_value }
 
-eight : (c : After-read_head-first) → 8 ≤ c.read_head-first.result.count → Head c.read_head-first.result.input 8
-eight c h =
+eight : (g : Over) (c : After-read_head-first g) → 8 ≤ c.read_head-first.result.count → Head c.read_head-first.result.input 8
+eight g c h =
     let n : c.read_head-first.result.count ≡ 8 = omega (arith, c.read_head-first.ensures.count_in_bounds, c.read_head-first.auto.buffer) in
-    rw n at (head c)
+    rw n at (head g c)
 
 pub returns-then-first-lt8 : goal.returns-then-first-lt8
-returns-then-first-lt8 c =
-    reported-short c.read_head-first.result.input c.read_head-first.result.count (head (goal.at.returns-then-first-lt8 c).After-read_head-first) c.if-first-lt8.true
+returns-then-first-lt8 g c =
+    reported-short c.read_head-first.result.input c.read_head-first.result.count (head g (goal.at.returns-then-first-lt8 g c).After-read_head-first) c.if-first-lt8.true
 
 pub read_records-last-requires : goal.read_records-last-requires
-read_records-last-requires c = head-eight _ (eight (goal.at.read_records-last-requires c).After-read_head-first c.if-first-lt8.false)
+read_records-last-requires g c = head-eight _ (eight g (goal.at.read_records-last-requires g c).After-read_head-first c.if-first-lt8.false)
 
 pub returns : goal.returns
-returns c =
-    reported-more c.read_head-first.result.input _ (eight (goal.at.returns c).After-read_head-first c.if-first-lt8.false) c.read_records-last.ensures.behind
+returns g c =
+    reported-more c.read_head-first.result.input _ (eight g (goal.at.returns g c).After-read_head-first c.if-first-lt8.false) c.read_records-last.ensures.behind

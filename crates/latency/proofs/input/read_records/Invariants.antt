@@ -5,7 +5,7 @@ use Rattle.latency.specs.Reading.{Behind}
 use Rattle.latency.proofs.input.read_records.Given as goal
 
 abbrev pub invariant-loop-input : goal.invariant-loop-input
-invariant-loop-input l = (65536 ≡ length l.buffer) × (b : Behind l.initial.input l.input) × (length b.read % 8 ≡ 0)
+invariant-loop-input g l = (65536 ≡ length l.buffer) × (b : Behind l.initial.input l.input) × (length b.read % 8 ≡ 0)
 
 abbrev pub decreases-loop-input : goal.decreases-loop-input
-decreases-loop-input l = 8000009 - l.input.bytes
+decreases-loop-input g l = 8000009 - l.input.bytes
