@@ -34,7 +34,8 @@ common-most (suc k) a b d p l x y = by (divides (suc k) a && divides (suc k) b) 
   top : d ≡ suc k → (divides (suc k) a && divides (suc k) b) ≡ true
   top e = rw (← e, true-divides d a x, true-divides d b y)
 
-  by : (t : Bool) → (divides (suc k) a && divides (suc k) b) ≡ t → (d ≤ k → d ≤ common_up_to k a b) → d ≤ cond t (suc k) (common_up_to k a b)
+  by : (t : Bool) → (divides (suc k) a && divides (suc k) b) ≡ t → (d ≤ k → d ≤ common_up_to k a b)
+      → d ≤ cond t (suc k) (common_up_to k a b)
   by true e less = l
   by false e less = other (eqb d (suc k)) refl where
     other : (u : Bool) → eqb d (suc k) ≡ u → d ≤ common_up_to k a b

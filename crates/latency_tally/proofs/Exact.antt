@@ -1,5 +1,6 @@
 -- The tally of at most 1,000,000 records, kept record by record in 32 and 64 bits, is that of all of them at once: no sum wraps.
-use Rattle.std.proofs.Common.{◌≡◌, ℕ, suc, ◌+◌, ◌*◌, ◌^◌, ◌<◌, ◌≤◌, min, max, Bool, true, false, List, [], ◌∷◌, length, refl, ◌∙◌, arith, eqb-true}
+use Rattle.std.proofs.Common.{◌≡◌, ℕ, suc, ◌+◌, ◌*◌, ◌^◌, ◌<◌, ◌≤◌, min, max, Bool, true, false, List, [], ◌∷◌, length, refl, ◌∙◌, arith}
+use Rattle.std.proofs.Common.{eqb-true}
 use mathlib.Core.List.{foldl}
 use Rattle.latency_tally.specs.Records.{Status, is_ok, is_io_err, count, ok_latencies, smallest, largest, sum}
 use Rattle.latency_tally.specs.Tally.{no_tally, with_code, with_latency, with_record, tally_of}

@@ -1,5 +1,6 @@
 -- Blocks of whole records, one after the other, leave what the joined bytes leave; and that is what all bytes come to at once.
-use Rattle.std.proofs.Common.{◌≡◌, ℕ, zero, suc, ◌+◌, ◌-◌, ◌*◌, ◌/◌, ◌%◌, ◌^◌, ◌<◌, ◌≤◌, List, [], ◌∷◌, ◌++◌, length, get_or, sym, refl, ap, ◌∙◌, append_assoc, add-zero, add_assoc, suc-add, zero-add, arith, length-append, get_or-append-add}
+use Rattle.std.proofs.Common.{◌≡◌, ℕ, zero, suc, ◌+◌, ◌-◌, ◌*◌, ◌/◌, ◌%◌, ◌^◌, ◌<◌, ◌≤◌, List, [], ◌∷◌, ◌++◌, length, get_or, sym, refl}
+use Rattle.std.proofs.Common.{ap, ◌∙◌, append_assoc, add-zero, add_assoc, suc-add, zero-add, arith, length-append, get_or-append-add}
 use mathlib.Core.List.{foldl, foldl-append}
 use lib.ListN.{get_or-append}
 use Rattle.memory.specs.Bytes.{le}

@@ -1,6 +1,7 @@
 -- HEX: "an even number of the digits 0-9 a-f, two for each byte; the single character `-` stands for no bytes".
 -- Bytes: 48 to 57 are 0-9, 97 to 102 a-f, 45 is `-`, 32 the space.
-use Rattle.std.specs.Prelude.{List, [], ◌∷◌, Bool, true, false, cond, ◌&&◌, ℕ, ◌+◌, ◌-◌, ◌*◌, ◌/◌, ◌%◌, eqb, leb, ltb, length, get_or, set, drop}
+use Rattle.std.specs.Prelude.{List, [], ◌∷◌, Bool, true, false, cond, ◌&&◌, ℕ, ◌+◌, ◌-◌, ◌*◌, ◌/◌, ◌%◌, eqb, leb, ltb, length, get_or}
+use Rattle.std.specs.Prelude.{set, drop}
 use Rattle.decimal.specs.Read.{is_digit}
 use Rattle.replay_field.specs.declared.Hex.{Hex}
 use Rattle.replay_field.specs.declared.Hex.TheVariants.{At, None}

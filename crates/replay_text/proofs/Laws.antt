@@ -36,7 +36,8 @@ pub with-then : (t : Text) (u v : List ℕ) → with_bytes (with_bytes t u) v �
 unfolding with_bytes
 with-then t u v =
     let f : Put u t.bytes t.count (with_bytes t u).bytes (with_bytes t u).count = record { stored = refl; behind = refl } in
-    let g : Put v (with_bytes t u).bytes (with_bytes t u).count (with_bytes (with_bytes t u) v).bytes (with_bytes (with_bytes t u) v).count =
+    let g : Put v (with_bytes t u).bytes (with_bytes t u).count (with_bytes (with_bytes t u) v).bytes
+    (with_bytes (with_bytes t u) v).count =
     record { stored = refl; behind = refl } in
     with-put t (u ++ v) _ _ (put_then f g)
 

@@ -62,10 +62,12 @@ module _ (size : ℕ) where
       let rest = heads-join ring (place_behind size s 1) n head l (place_in s 1 f (omega arith)) (omega arith) w in
       let other : get_or (set ring p head) s 0 ≡ get_or ring s 0 =
       get_or-set_other ring p s head 0 (λ e. place_other s n f k (sym e)) in
-      rw other (ap (λ hs. get_or ring s 0 % 65536 ∷ hs) (subst (λ (q : ℕ). heads_from size (set ring q head) (place_behind size s 1) (suc n) ≡ heads_from size ring (place_behind size s 1) n ++ head ∷ []) (place-next s n f (omega arith)) rest))
+      rw other (ap (λ hs. get_or ring s 0 % 65536 ∷ hs) (subst (λ (q : ℕ). heads_from size (set ring q head) (place_behind size s 1)
+      (suc n) ≡ heads_from size ring (place_behind size s 1) n ++ head ∷ []) (place-next s n f (omega arith)) rest))
 
   -- somebody waits: the front, and those behind it
-  pub heads-front : (ring : List ℕ) (s n : ℕ) → 0 < n → heads_from size ring s n ≡ get_or ring s 0 % 65536 ∷ drop 1 (heads_from size ring s n)
+  pub heads-front : (ring : List ℕ) (s n : ℕ) → 0 < n → heads_from size ring s n ≡ get_or ring s 0 % 65536
+      ∷ drop 1 (heads_from size ring s n)
   unfolding heads_from
   heads-front ring s zero k = absurd (omega arith)
   heads-front ring s (suc n) k = refl

@@ -43,9 +43,17 @@ returns-in_default-field_at c =
 pub returns-then-b-s : goal.returns-then-b-s
 unfolding read_form
 returns-then-b-s c =
-    rw (field_is _ 1 _ _ _ (offset (goal.at.returns-then-b-s c).In-Is), field_is _ _ _ _ _ (width (goal.at.returns-then-b-s c).In-Is-field_at), not-ended-at _ _ _ c.if-b-s.true)
+    rw (
+      field_is _ 1 _ _ _ (offset (goal.at.returns-then-b-s c).In-Is),
+      field_is _ _ _ _ _ (width (goal.at.returns-then-b-s c).In-Is-field_at),
+      not-ended-at _ _ _ c.if-b-s.true,
+    )
 
 pub returns : goal.returns
 unfolding read_form
 returns c =
-    rw (field_is _ 1 _ _ _ (offset (goal.at.returns c).In-Is), field_is _ _ _ _ _ (width (goal.at.returns c).In-Is-field_at), ended_at _ _ _ c.if-b-s.false)
+    rw (
+      field_is _ 1 _ _ _ (offset (goal.at.returns c).In-Is),
+      field_is _ _ _ _ _ (width (goal.at.returns c).In-Is-field_at),
+      ended_at _ _ _ c.if-b-s.false,
+    )

@@ -6,7 +6,8 @@ use lib.ListN.{get_or, drop}
 use mathlib.Core.List.{[]}
 use Rattle.decimal.specs.Read.{is_digit, digits, one_more, number_at}
 use Rattle.decimal.specs.declared.Number.TheVariants.{Is}
-use Rattle.decimal.proofs.Reading.{digits-stop, digits-past, number-absent, digit-bounds, reading-none, reading-more, reading-done, reading-long, reading-great}
+use Rattle.decimal.proofs.Reading.{digits-stop, digits-past, number-absent, digit-bounds, reading-none, reading-more, reading-done}
+use Rattle.decimal.proofs.Reading.{reading-long, reading-great}
 use native.Mathlib.Omega.{arith}
 use borrow.Author.Tests.{leb-false, leb-true}
 use Rattle.decimal.proofs.number_at.Goals.{After-has_room, At-loop-i, Else-not-has_room, Else-not-is_digit-2}

@@ -20,7 +20,11 @@ behind c =
     omega (arith, few_at_After_out_1 c, c.decimal-count.ensures.in_bounds, c.put_bytes-behind.ensures.behind)
 
 pub put_bytes-behind-requires : goal.put_bytes-behind-requires
-put_bytes-behind-requires c = omega (arith, few (goal.at.put_bytes-behind-requires c).After-decimal-count, c.decimal-count.ensures.in_bounds)
+put_bytes-behind-requires c = omega (
+  arith,
+  few (goal.at.put_bytes-behind-requires c).After-decimal-count,
+  c.decimal-count.ensures.in_bounds,
+)
 
 pub bounds-out-behind : goal.bounds-out-behind
 bounds-out-behind c = omega (arith, behind (goal.at.bounds-out-behind c).After-out-1, c.put_bytes-behind.auto.out)

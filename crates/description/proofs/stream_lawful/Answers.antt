@@ -23,17 +23,31 @@ returns-then-not-in_bits c = rw (sym c.in_bits.ensures ∙ c.if-not-in_bits.true
 
 pub returns-then-not-in_bits-2 : goal.returns-then-not-in_bits-2
 unfolding lawful_stream
-returns-then-not-in_bits-2 c = rw (formats-in (goal.at.returns-then-not-in_bits-2 c).Else-not-in_bits, sym c.in_bits-2.ensures ∙ c.if-not-in_bits-2.true)
+returns-then-not-in_bits-2 c = rw (
+  formats-in (goal.at.returns-then-not-in_bits-2 c).Else-not-in_bits,
+  sym c.in_bits-2.ensures
+      ∙ c.if-not-in_bits-2.true,
+)
 
 pub returns-then-not-channels_lawful : goal.returns-then-not-channels_lawful
 unfolding lawful_stream
 returns-then-not-channels_lawful c =
-    rw (formats-in (goal.at.returns-then-not-channels_lawful c).Else-not-in_bits, rates-in (goal.at.returns-then-not-channels_lawful c).Else-not-in_bits-2, sym c.channels_lawful.ensures ∙ c.if-not-channels_lawful.true)
+    rw (
+      formats-in (goal.at.returns-then-not-channels_lawful c).Else-not-in_bits,
+      rates-in (goal.at.returns-then-not-channels_lawful c).Else-not-in_bits-2,
+      sym c.channels_lawful.ensures
+          ∙ c.if-not-channels_lawful.true,
+    )
 
 pub returns-then-s-eq0 : goal.returns-then-s-eq0
 unfolding lawful_stream
 returns-then-s-eq0 c =
-    rw (formats-in (goal.at.returns-then-s-eq0 c).Else-not-in_bits, rates-in (goal.at.returns-then-s-eq0 c).Else-not-in_bits-2, channels-in (goal.at.returns-then-s-eq0 c).Else-not-channels_lawful, eq-eqb _ _ c.if-s-eq0.true)
+    rw (
+      formats-in (goal.at.returns-then-s-eq0 c).Else-not-in_bits,
+      rates-in (goal.at.returns-then-s-eq0 c).Else-not-in_bits-2,
+      channels-in (goal.at.returns-then-s-eq0 c).Else-not-channels_lawful,
+      eq-eqb _ _ c.if-s-eq0.true,
+    )
 
 pub returns-then-s-eq16 : goal.returns-then-s-eq16
 unfolding lawful_stream

@@ -13,4 +13,8 @@ returns-in-32771 c = rw (c.in-32771.is, c.wrapping_add_u32-in-32771.ensures.valu
 
 pub returns-in_default : goal.returns-in_default
 unfolding with_code
-returns-in_default c = rw (ne_eqb _ _ c.in_default.in_default-own.rest.0.1, ne_eqb _ _ c.in_default.in_default-own.rest.1, c.wrapping_add_u32-in_default.ensures.value)
+returns-in_default c = rw (
+  ne_eqb _ _ c.in_default.in_default-own.rest.0.1,
+  ne_eqb _ _ c.in_default.in_default-own.rest.1,
+  c.wrapping_add_u32-in_default.ensures.value,
+)
