@@ -2,13 +2,13 @@
 -- account's histories holds. The laws about runs start from any histories such as calls leave.
 use mathlib.Core.Path.{◌≡◌, refl, subst, fun_ext}
 use mathlib.Core.Bool.{Bool, true, false, cond}
-use mathlib.Core.List.{List, []}
+use mathlib.Core.List.{List, [], ◌++◌}
 use Prim.Native.Nat.{ℕ, ◌+◌}
 use lib.Dec.{eqb}
 use lib.ListN.{length}
 use Rattle.description.specs.declared.Description.{Description}
 use Rattle.device.specs.Device.{Direction, output, input, Device, queue_for}
-use Rattle.rules.specs.Calls.{transfer_step, remembering}
+use Rattle.rules.specs.Calls.{transfer_step, remembering, Told}
 use Rattle.rules.specs.Claim.{shown_as}
 use Rattle.rules.proofs.Calls.{low}
 use Rattle.queue_lines.specs.Claim.{queue_of}
@@ -66,7 +66,8 @@ module _ (n : Streams) where
         ≡ heard n (card n) d (first_of n d + i) (w d i) (shown_as queue_of b) cs
     said-heard d i =
         gathered-then (step n (account n)) (step n (card n)) (shown_as queue_of) (Kepts n) (then n) shown-same (step_keeps n)
-        (λ (w : Direction → ℕ → List ℕ). w d i) _ _ _ (λ w b c. refl) cs w b k
+        (λ (w : Direction → ℕ → List ℕ). w d i) (λ (b : Device Queue) (c : Call). clears_on d c.asked b.rest) []
+        (λ (h : List ℕ) (c : Call) (t : Told). h ++ bytes_of d (first_of n d + i) c.asked t) (λ w b c. refl) cs w b k
 
     pub run-keeps : Kepts n (λ (d : Direction) (i : ℕ). heard n (card n) d (first_of n d + i) (w d i) (shown_as queue_of b) cs)
         (after n (account n) b cs)

@@ -1,12 +1,12 @@
 -- The tests are the definition's own, in its order.
 use mathlib.Core.Path.{◌≡◌, ◌∙◌, sym}
 use mathlib.Core.Bool.{cond}
-use mathlib.Core.Logic.{⊎_elim}
-use borrow.Author.Tests.{eq-eqb, ne_eqb, not-true, not-false}
+use Prim.Native.Nat.{◌%◌}
+use borrow.Author.Tests.{eq-eqb, ne_eqb}
 use Rattle.chain.specs.declared.Fault.TheVariants.{TableOutside}
 use Rattle.chain.specs.declared.End.TheVariants.{Whole, Faulted}
 use Rattle.chain.specs.Walk.{enter_of}
-use Rattle.chain.proofs.enter.Goals.{After-inside}
+use Rattle.chain.proofs.enter.Goals.{After-inside, then-d-eq0-via-then-d-eq0, then-d-eq0-via-else-d-eq0+then-d-ne0}
 use Rattle.chain.proofs.enter.Goals as goal
 
 -- past the first three tests, what is left is where the table lies
@@ -16,7 +16,7 @@ unfolding enter_of
 asked c =
     let a = c.args in
     rw (
-      not-false a.negotiated c.if-not-negotiated.false,
+      c.if-not-negotiated.false,
       sym c.has_next.ensures ∙ c.if-has_next.false,
       ← c.inside.ensures,
       ne_eqb a.d.len 0 c.if-d-eq0.false,
@@ -25,13 +25,13 @@ asked c =
 
 pub returns-then-not-negotiated : goal.returns-then-not-negotiated
 unfolding enter_of
-returns-then-not-negotiated c = rw (not-true c.args.negotiated c.if-not-negotiated.true)
+returns-then-not-negotiated c = rw (c.if-not-negotiated.true)
 
 pub returns-then-has_next : goal.returns-then-has_next
 unfolding enter_of
 returns-then-has_next c =
     rw (
-      not-false c.args.negotiated c.if-not-negotiated.false,
+      c.if-not-negotiated.false,
       sym c.has_next.ensures ∙ c.if-has_next.true,
     )
 
@@ -40,18 +40,18 @@ unfolding enter_of
 returns-then-d-eq0 c =
     let a = c.args in
     rw (
-      not-false a.negotiated c.if-not-negotiated.false,
+      c.if-not-negotiated.false,
       sym c.has_next.ensures ∙ c.if-has_next.false,
     )
-    (⊎_elim
-    (λ w. rw (eq-eqb a.d.len 0 w.taken))
-    (λ w. rw (ne_eqb a.d.len 0 w.0.left, w.2.taken))
-    c.then-d-eq0.branch)
+    (elim c.then-d-eq0.branch [
+      | then-d-eq0-via-then-d-eq0 w ↦ rw (eq-eqb a.d.len 0 w.if-d-eq0.true)
+      | then-d-eq0-via-else-d-eq0+then-d-ne0 w ↦ rw (ne_eqb a.d.len 0 w.if-d-eq0.false, ne_eqb (a.d.len % 16) 0 w.if-d-ne0.true)
+    ])
 
 pub returns-then-not-inside : goal.returns-then-not-inside
 unfolding enter_of
-returns-then-not-inside c = rw (asked (goal.at.returns-then-not-inside c).After-inside, not-true c.inside.result c.if-not-inside.true)
+returns-then-not-inside c = rw (asked (goal.at.returns-then-not-inside c).After-inside, c.if-not-inside.true)
 
 pub returns : goal.returns
 unfolding enter_of
-returns c = rw (asked (goal.at.returns c).After-inside, not-false c.inside.result c.if-not-inside.false)
+returns c = rw (asked (goal.at.returns c).After-inside, c.if-not-inside.false)

@@ -28,9 +28,6 @@ returns-then-attempt c =
       c.if-attempt.true,
     )
 
-pub overflow_sub-left : goal.overflow_sub-left
-overflow_sub-left c = omega arith
-
 pub loop-left-smaller : goal.loop-left-smaller
 loop-left-smaller c = omega arith
 

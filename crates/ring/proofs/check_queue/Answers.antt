@@ -23,13 +23,14 @@ region_judged_at_After_new_entries_new c =
     ∙ rw (c.inside.ensures, c.end_at.ensures, c.address-base.ensures)
 
 entries-judged : (c : After-new_entries-new) → let a = c.args in
-    check_of a.m.now a.page a.size a.taken a.in-work
-    ≡ cond (ltb a.size (c.new_entries-new.result + a.in-work)) (Check.Broken Cause.Entries) (Check.New c.new_entries-new.result)
+    check_of a.m.now a.page a.size a.taken a.in_work
+    ≡ cond (ltb a.size (c.new_entries-new.result + a.in_work)) (Check.Broken Cause.Entries) (Check.New c.new_entries-new.result)
 unfolding found_of
 entries-judged c =
     rw (
       ne_eqb _ _ (λ h. c.if-number-eq0.false (c.number.ensures ∙ h)),
-      region_judged_at_After_new_entries_new c ∙ c.if-not-inside.false,
+      region_judged_at_After_new_entries_new c,
+      c.if-not-inside.false,
       c.new_entries-new.ensures,
       c.get16-index.ensures,
       c.available_at.ensures,
@@ -43,7 +44,7 @@ returns-then-number-eq0 c = rw (eq-eqb _ _ (sym c.number.ensures ∙ c.if-number
 pub returns-then-not-inside : goal.returns-then-not-inside
 unfolding found_of
 returns-then-not-inside c =
-    rw (ne_eqb _ _ (λ h. c.if-number-eq0.false (c.number.ensures ∙ h)), region-judged (goal.at.returns-then-not-inside c).After-inside ∙ c.if-not-inside.true)
+    rw (ne_eqb _ _ (λ h. c.if-number-eq0.false (c.number.ensures ∙ h)), region-judged (goal.at.returns-then-not-inside c).After-inside, c.if-not-inside.true)
 
 pub returns-then-size-new : goal.returns-then-size-new
 returns-then-size-new c = rw (entries-judged (goal.at.returns-then-size-new c).After-new_entries-new, lt-ltb _ _ c.if-size-new.true)
