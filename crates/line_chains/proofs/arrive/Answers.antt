@@ -13,9 +13,6 @@ use Rattle.line_chains.proofs.Laws.{walked_whole, arrived-by, in-line, at-once, 
 use Rattle.line_chains.proofs.arrive.Goals.{After-place_of, After-walk-walked}
 use Rattle.line_chains.proofs.arrive.Goals as goal
 
-abbrev placed : tie.After-place-of-arg → tie.After-walk
-placed c = c.before.before.before.before.before.before.before.before
-
 abbrev request : (c : After-walk-walked) → List Range
 request c = ranges_of c.walk-walked.new.list c.walk-walked.result.chain.request
 
@@ -46,7 +43,7 @@ returns-in-Faulted c =
     )
 
 pub place_of-requires : goal.place_of-requires
-place_of-requires c = (placed c).walk.ensures.1.request
+place_of-requires c = c.walk-walked.ensures.1.request
 
 pub form_by-form-requires : goal.form_by-form-requires
 form_by-form-requires c = c.walk-walked.ensures.1.reply

@@ -12,9 +12,6 @@ use Rattle.line_chains.proofs.Laws.{walked_whole, read_by, of-line, judged-fit}
 use Rattle.line_chains.proofs.read.Goals.{After-walk-walked}
 use Rattle.line_chains.proofs.read.Goals as goal
 
-abbrev judged : tie.After-form-by-arg → tie.After-walk
-judged c = c.before.before.before.before.before.before.before.before.before.before
-
 abbrev request : (c : After-walk-walked) → List Range
 request c = ranges_of c.walk-walked.new.list c.walk-walked.result.chain.request
 
@@ -32,7 +29,7 @@ returns-in-Faulted c =
     )
 
 pub form_by-requires : goal.form_by-requires
-form_by-requires c = (judged c).walk.ensures.1.reply
+form_by-requires c = c.walk-walked.ensures.1.reply
 
 pub returns : goal.returns
 returns c =

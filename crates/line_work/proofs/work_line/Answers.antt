@@ -10,9 +10,6 @@ use Rattle.line_work.proofs.Laws.{turn_up, turn-none, aside_none, aside-both}
 use Rattle.line_work.proofs.work_line.Goals.{After-open_front-at}
 use Rattle.line_work.proofs.work_line.Goals as goal
 
-abbrev cut : tie.After-slot2 invariant-loop decreases-loop → tie.After-open-front invariant-loop decreases-loop
-cut c = c.before.before.before.before.before.before.before
-
 -- a turn is left
 some_left : (c : After-open_front-at) → 0 < c.loop-left.left
 some_left c = c.loop-left-test.true
@@ -68,17 +65,13 @@ pub slice_bounds-work-start : goal.slice_bounds-work-start
 slice_bounds-work-start c = omega arith
 
 pub slice_bounds-work-end : goal.slice_bounds-work-end
-slice_bounds-work-end c =
-    let o = cut c in
-    let t = turn (tested o) in
-    omega (arith, (start t).pre.0, t.loop.inv.4.long, o.open-front.kept.1.0)
+slice_bounds-work-end c = omega (arith, c.requires.0, c.loop-left.invariant.4.long, c.open_front-at.auto.slot)
 
 pub work-at-requires : goal.work-at-requires
 work-at-requires c =
-    let o = cut c in
-    let l = (turn (tested o)).loop in
-    let e = o.open-front.ensures in
-    record { message = rw e.long e.message; inside = rw (e.moved, l.inv.3) l.inv.1.flow.inside }
+    let l = c.loop-left in
+    let e = c.open_front-at.ensures in
+    record { message = rw e.long e.message; inside = rw (e.moved, l.invariant.3) l.invariant.1.flow.inside }
 
 pub overflow_sub-left : goal.overflow_sub-left
 overflow_sub-left c = omega (arith, some_left (goal.at.overflow_sub-left c).After-open_front-at)
