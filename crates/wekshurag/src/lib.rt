@@ -45,8 +45,7 @@ pub struct CallResult {
 
 // Power-up: the card with `ram_len` bytes of memory; beside answer 10, one with no part. The words of its queues
 // may hold anything.
-#[unsafe(no_mangle)]
-pub extern "C" fn wekshurag_card_power_up(
+pub fn wekshurag_card_power_up(
     board: &mut Board,
     description: &Description,
     ram_len: usize,
@@ -61,8 +60,7 @@ pub extern "C" fn wekshurag_card_power_up(
 }
 
 // Whether the interrupt line is raised.
-#[unsafe(no_mangle)]
-pub extern "C" fn wekshurag_card_interrupt_line(live: &Live) -> bool
+pub fn wekshurag_card_interrupt_line(live: &Live) -> bool
     ensures { result ≡ raised live.now.registers }
 {
     let before = *live;
@@ -70,8 +68,7 @@ pub extern "C" fn wekshurag_card_interrupt_line(live: &Live) -> bool
 }
 
 // A read of `width` bytes of the registers at `offset`.
-#[unsafe(no_mangle)]
-pub extern "C" fn wekshurag_card_read(live: &mut Live, offset: u64, width: u64) -> ReadResult
+pub fn wekshurag_card_read(live: &mut Live, offset: u64, width: u64) -> ReadResult
     requires { FitLive live.old }
     ensures { (record { answer = result.answer; value = result.value; live = live.new } ≡ read_live live.old offset width)
         × FitLive live.new }
@@ -86,8 +83,7 @@ pub extern "C" fn wekshurag_card_read(live: &mut Live, offset: u64, width: u64) 
 }
 
 // A write of `value`, `width` bytes wide, to the registers at `offset`.
-#[unsafe(no_mangle)]
-pub extern "C" fn wekshurag_card_write(
+pub fn wekshurag_card_write(
     live: &mut Live,
     offset: u64,
     width: u64,
@@ -108,8 +104,7 @@ pub extern "C" fn wekshurag_card_write(
 }
 
 // The control call: one message of the control queue.
-#[unsafe(no_mangle)]
-pub extern "C" fn wekshurag_card_control(
+pub fn wekshurag_card_control(
     board: &mut Board,
     play_words: &mut [u64],
     capture_words: &mut [u64],
@@ -130,8 +125,7 @@ pub extern "C" fn wekshurag_card_control(
 }
 
 // The play call: payload of a stream of the play queue handed to the host buffer. The backlog is the host's, in bytes.
-#[unsafe(no_mangle)]
-pub extern "C" fn wekshurag_card_play(
+pub fn wekshurag_card_play(
     live: &mut Live,
     words: &mut [u64],
     ram: &mut [u8],
@@ -155,8 +149,7 @@ pub extern "C" fn wekshurag_card_play(
 }
 
 // The capture call: host bytes recorded into the payload of a stream of the capture queue. They are only read.
-#[unsafe(no_mangle)]
-pub extern "C" fn wekshurag_card_capture(
+pub fn wekshurag_card_capture(
     live: &mut Live,
     words: &mut [u64],
     ram: &mut [u8],
@@ -180,8 +173,7 @@ pub extern "C" fn wekshurag_card_capture(
 }
 
 // The event call: the guest is told of an event with this code and data. It counts 0.
-#[unsafe(no_mangle)]
-pub extern "C" fn wekshurag_card_event(
+pub fn wekshurag_card_event(
     board: &mut Board,
     ram: &mut [u8],
     code: u32,
