@@ -1,7 +1,7 @@
 // The card for a monitor in C: the card's entries, over pieces of a card that the monitor keeps and lends
-// (`live`). The header is include/wekshurag.h, whose functions only pass the pieces' addresses. An entry
-// copies the struct out of its borrow, calls the entry of the card that it is named after, and stores the
-// next; its contract is that entry's, whole.
+// (`live`). The header is include/wekshurag.h, whose functions only pass the pieces' addresses; C links them from the
+// archive of `wekshurag_c`. An entry copies the struct out of its borrow, calls the entry of the card that it is named
+// after, and stores the next; its contract is that entry's, whole.
 #![tactic(auto)]
 
 ghost use Rattle.std.specs.Prelude.{◌≡◌};
@@ -45,11 +45,7 @@ pub struct CallResult {
 
 // Power-up: the card with `ram_len` bytes of memory; beside answer 10, one with no part. The words of its queues
 // may hold anything.
-pub fn wekshurag_card_power_up(
-    board: &mut Board,
-    description: &Description,
-    ram_len: usize,
-) -> u8
+pub fn wekshurag_card_power_up(board: &mut Board, description: &Description, ram_len: usize) -> u8
     ensures { (record { answer = result; board = board.new } ≡ powered_board description.now ram_len)
         × Ready board.new }
 {
@@ -83,12 +79,7 @@ pub fn wekshurag_card_read(live: &mut Live, offset: u64, width: u64) -> ReadResu
 }
 
 // A write of `value`, `width` bytes wide, to the registers at `offset`.
-pub fn wekshurag_card_write(
-    live: &mut Live,
-    offset: u64,
-    width: u64,
-    value: u64,
-) -> WriteResult
+pub fn wekshurag_card_write(live: &mut Live, offset: u64, width: u64, value: u64) -> WriteResult
     requires { FitLive live.old }
     ensures { (record { answer = result.answer; rung = result.rung; live = live.new }
         ≡ write_live live.old offset width value)
@@ -173,12 +164,7 @@ pub fn wekshurag_card_capture(
 }
 
 // The event call: the guest is told of an event with this code and data. It counts 0.
-pub fn wekshurag_card_event(
-    board: &mut Board,
-    ram: &mut [u8],
-    code: u32,
-    data: u32,
-) -> CallResult
+pub fn wekshurag_card_event(board: &mut Board, ram: &mut [u8], code: u32, data: u32) -> CallResult
     requires { FitBoard board.old.live board.old.parts }
     ensures { EventsOn board.old code «data» ram.old ram.new (told_board result board.new) }
 {
