@@ -55,7 +55,7 @@ module _ (c : Card) (f : Fit c) where
           (step_of c (Play id host backlog) m ≡ leaves n t.answer t.count (take t.count host') host' m') × Fit n
       play-whole k h =
           let e = (rw is at h) c.parts c.capture_words f.fits in
-          (rw (whole-card c f) at e.0, fits-card _ _ _ _ e.1 (k ∙ f.play_words) f.capture_words)
+          (rw (whole-card c f) at e.0, fits-card _ _ _ _ e.1 (k ∙ f.play-words) f.capture-words)
 
       pub capture-whole : length ws' ≡ length c.capture_words
           → TransfersOn Input id backlog l c.capture_words m host ws' m' host' t
@@ -63,14 +63,14 @@ module _ (c : Card) (f : Fit c) where
           (step_of c (Capture id host backlog) m ≡ leaves n t.answer t.count (take t.count host') [] m') × Fit n
       capture-whole k h =
           let e = (rw is at h) c.parts c.play_words f.fits in
-          (rw (whole-card c f) at e.0, fits-card _ _ _ _ e.1 f.play_words (k ∙ f.capture_words))
+          (rw (whole-card c f) at e.0, fits-card _ _ _ _ e.1 f.play-words (k ∙ f.capture-words))
 
     pub event-whole : (code data' : ℕ) (m m' : List ℕ) (t : EventAnswer) → TellsOn code data' l c.parts m m' t
         → let n = card_in t.live t.parts c.play_words c.capture_words in
         (step_of c (Event code data') m ≡ leaves n t.answer 0 [] [] m') × Fit n
     event-whole code data' m m' t h =
         let e = (rw is at h) c.play_words c.capture_words f.fits in
-        (rw (whole-card c f) at e.0, fits-card _ _ _ _ e.1 f.play_words f.capture_words)
+        (rw (whole-card c f) at e.0, fits-card _ _ _ _ e.1 f.play-words f.capture-words)
 
     pub control-whole : (m m' pw' cw' : List ℕ) (n : Live) (p : Parts) (a : Answer) (count : ℕ)
         → length pw' ≡ length c.play_words
@@ -79,7 +79,7 @@ module _ (c : Card) (f : Fit c) where
         × Fits n p pw' cw'
         → (step_of c Control m ≡ leaves (card_in n p pw' cw') a count [] [] m') × Fit (card_in n p pw' cw')
     control-whole m m' pw' cw' n p a count kp kc h =
-        (rw (whole-card c f) at (rw is at h.0), fits-card n p pw' cw' h.1 (kp ∙ f.play_words) (kc ∙ f.capture_words))
+        (rw (whole-card c f) at (rw is at h.0), fits-card n p pw' cw' h.1 (kp ∙ f.play-words) (kc ∙ f.capture-words))
 
   -- ---- registers
 
@@ -88,7 +88,7 @@ module _ (c : Card) (f : Fit c) where
       (◌≡◌ {A = ReadAnswer} (record { answer = r.answer; value = r.value; card = n }) (read_card c offset width)) × Fit n
   read_whole l is offset width r e = (
     rw (e, is) (laws.read_whole c f.parts.six-streams offset width),
-    rw (e, is) (fits-card _ _ _ _ (read_fits (live_of c) c.parts _ _ f.fits offset width) f.play_words f.capture_words),
+    rw (e, is) (fits-card _ _ _ _ (read_fits (live_of c) c.parts _ _ f.fits offset width) f.play-words f.capture-words),
   )
 
   pub write-whole : (l : Live) → l ≡ live_of c → (offset width v : ℕ) (r : LiveWrite) → r ≡ write_live l offset width v
@@ -96,7 +96,7 @@ module _ (c : Card) (f : Fit c) where
       (◌≡◌ {A = WriteAnswer} (record { answer = r.answer; rung = r.rung; card = n }) (write_card c offset width v)) × Fit n
   write-whole l is offset width v r e = (
     rw (e, is) (laws.write-whole c f.parts.six-streams offset width v),
-    rw (e, is) (fits-card _ _ _ _ (write-fits (live_of c) c.parts _ _ f.fits offset width v) f.play_words f.capture_words),
+    rw (e, is) (fits-card _ _ _ _ (write-fits (live_of c) c.parts _ _ f.fits offset width v) f.play-words f.capture-words),
   )
 
 -- ---- power-up

@@ -201,8 +201,7 @@ fn convert(format: u32, samples: usize, from: &[u8], to: &mut [u8])
 
 // Samples of `from`, in a format of the list, as S16 at the start of `to`. 30: the format is not in the list; 31: `from` does not hold
 // whole samples; 32: `to` has no room for them. A refusal leaves `to` as it was.
-#[unsafe(no_mangle)]
-pub extern "C" fn wekshurag_to_s16(format: u32, from: &[u8], to: &mut [u8]) -> u32
+pub fn wekshurag_to_s16(format: u32, from: &[u8], to: &mut [u8]) -> u32
     ensures { outcome result to.new ≡ converted format from.now to.old }
 {
     let bytes = sample_bytes(format);

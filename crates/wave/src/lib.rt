@@ -422,8 +422,7 @@ pub fn read(file: &[u8]) -> Found
 }
 
 // `header`, for C: the answer.
-#[unsafe(no_mangle)]
-pub extern "C" fn wekshurag_wave_header(
+pub fn wekshurag_wave_header(
     format: u32,
     channels: u32,
     rate: u32,
@@ -438,8 +437,7 @@ pub extern "C" fn wekshurag_wave_header(
 }
 
 // `read`, for C: the answer, and beside 0 in `found` the format, channels, rate, where the data starts and how long it is.
-#[unsafe(no_mangle)]
-pub extern "C" fn wekshurag_wave_read(file: &[u8], found: &mut [u64; 5]) -> u32
+pub fn wekshurag_wave_read(file: &[u8], found: &mut [u64; 5]) -> u32
     ensures { let o = file_read file.now in
         (result ≡ o.answer) × (found.new ≡ told_of o found.old) }
 {

@@ -1,7 +1,7 @@
 // The card for a monitor in C: the card's entries, over pieces of a card that the monitor keeps and lends
-// (`live`). The header is include/wekshurag.h, whose functions only pass the pieces' addresses. An entry
-// copies the struct out of its borrow, calls the entry of the card that it is named after, and stores the
-// next; its contract is that entry's, whole.
+// (`live`). The header is include/wekshurag.h, whose functions only pass the pieces' addresses; C links them from the
+// archive of `wekshurag_c`. An entry copies the struct out of its borrow, calls the entry of the card that it is named
+// after, and stores the next; its contract is that entry's, whole.
 #![tactic(auto)]
 
 ghost use Rattle.std.specs.Prelude.{◌≡◌};
@@ -45,12 +45,7 @@ pub struct CallResult {
 
 // Power-up: the card with `ram_len` bytes of memory; beside answer 10, one with no part. The words of its queues
 // may hold anything.
-#[unsafe(no_mangle)]
-pub extern "C" fn wekshurag_card_power_up(
-    board: &mut Board,
-    description: &Description,
-    ram_len: usize,
-) -> u8
+pub fn wekshurag_card_power_up(board: &mut Board, description: &Description, ram_len: usize) -> u8
     ensures { (record { answer = result; board = board.new } ≡ powered_board description.now ram_len)
         × Ready board.new }
 {
@@ -61,8 +56,7 @@ pub extern "C" fn wekshurag_card_power_up(
 }
 
 // Whether the interrupt line is raised.
-#[unsafe(no_mangle)]
-pub extern "C" fn wekshurag_card_interrupt_line(live: &Live) -> bool
+pub fn wekshurag_card_interrupt_line(live: &Live) -> bool
     ensures { result ≡ raised live.now.registers }
 {
     let before = *live;
@@ -70,8 +64,7 @@ pub extern "C" fn wekshurag_card_interrupt_line(live: &Live) -> bool
 }
 
 // A read of `width` bytes of the registers at `offset`.
-#[unsafe(no_mangle)]
-pub extern "C" fn wekshurag_card_read(live: &mut Live, offset: u64, width: u64) -> ReadResult
+pub fn wekshurag_card_read(live: &mut Live, offset: u64, width: u64) -> ReadResult
     requires { FitLive live.old }
     ensures { (record { answer = result.answer; value = result.value; live = live.new } ≡ read_live live.old offset width)
         × FitLive live.new }
@@ -86,13 +79,7 @@ pub extern "C" fn wekshurag_card_read(live: &mut Live, offset: u64, width: u64) 
 }
 
 // A write of `value`, `width` bytes wide, to the registers at `offset`.
-#[unsafe(no_mangle)]
-pub extern "C" fn wekshurag_card_write(
-    live: &mut Live,
-    offset: u64,
-    width: u64,
-    value: u64,
-) -> WriteResult
+pub fn wekshurag_card_write(live: &mut Live, offset: u64, width: u64, value: u64) -> WriteResult
     requires { FitLive live.old }
     ensures { (record { answer = result.answer; rung = result.rung; live = live.new }
         ≡ write_live live.old offset width value)
@@ -108,8 +95,7 @@ pub extern "C" fn wekshurag_card_write(
 }
 
 // The control call: one message of the control queue.
-#[unsafe(no_mangle)]
-pub extern "C" fn wekshurag_card_control(
+pub fn wekshurag_card_control(
     board: &mut Board,
     play_words: &mut [u64],
     capture_words: &mut [u64],
@@ -130,8 +116,7 @@ pub extern "C" fn wekshurag_card_control(
 }
 
 // The play call: payload of a stream of the play queue handed to the host buffer. The backlog is the host's, in bytes.
-#[unsafe(no_mangle)]
-pub extern "C" fn wekshurag_card_play(
+pub fn wekshurag_card_play(
     live: &mut Live,
     words: &mut [u64],
     ram: &mut [u8],
@@ -155,8 +140,7 @@ pub extern "C" fn wekshurag_card_play(
 }
 
 // The capture call: host bytes recorded into the payload of a stream of the capture queue. They are only read.
-#[unsafe(no_mangle)]
-pub extern "C" fn wekshurag_card_capture(
+pub fn wekshurag_card_capture(
     live: &mut Live,
     words: &mut [u64],
     ram: &mut [u8],
@@ -180,13 +164,7 @@ pub extern "C" fn wekshurag_card_capture(
 }
 
 // The event call: the guest is told of an event with this code and data. It counts 0.
-#[unsafe(no_mangle)]
-pub extern "C" fn wekshurag_card_event(
-    board: &mut Board,
-    ram: &mut [u8],
-    code: u32,
-    data: u32,
-) -> CallResult
+pub fn wekshurag_card_event(board: &mut Board, ram: &mut [u8], code: u32, data: u32) -> CallResult
     requires { FitBoard board.old.live board.old.parts }
     ensures { EventsOn board.old code «data» ram.old ram.new (told_board result board.new) }
 {
