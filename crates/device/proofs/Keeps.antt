@@ -85,7 +85,8 @@ module _ (d : Direction) where
     noted-once :
         (t : ℕ)
         → Dec (t ≡ number h)
-        → handed_of t (h.notes ++ notes_of (number h) (handed_now h) bytes xs) ++ (lost_of t h.losses ++ waiting_of d t (noted d bytes xs h))
+        → handed_of t (h.notes ++ notes_of (number h) (handed_now h) bytes xs)
+        ++ (lost_of t h.losses ++ waiting_of d t (noted d bytes xs h))
         ≡ up_from 0 (length (payload_at d t h))
     unfolding noted waiting handed_now
     noted-once t (yes q) =

@@ -1,7 +1,8 @@
 -- 01, Play, capture, events: a message of a stream queue, what its completion answers, and the steps of a queue seen at one line: moving
 -- and completing its message in work; for either direction and for any way `Q` of keeping the queue. The rules of a whole queue are
 -- `queue_lines`'.
-use Rattle.std.specs.Prelude.{◌≡◌, Bool, true, false, cond, ◌&&◌, ◌||◌, not, List, [], ◌∷◌, ◌++◌, ℕ, ◌+◌, ◌-◌, ◌≤◌, ◌<◌, eqb, leb, ltb, length, take, drop}
+use Rattle.std.specs.Prelude.{◌≡◌, Bool, true, false, cond, ◌&&◌, ◌||◌, not, List, [], ◌∷◌, ◌++◌, ℕ, ◌+◌, ◌-◌, ◌≤◌, ◌<◌, eqb, leb, ltb}
+use Rattle.std.specs.Prelude.{length, take, drop}
 use Rattle.std.proofs.Math.Option.{Option, none, some}
 use Rattle.counts.specs.declared.PageNumber.{PageNumber}
 use Rattle.memory.specs.Bytes.{le}

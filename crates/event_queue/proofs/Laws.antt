@@ -17,7 +17,8 @@ use Rattle.ring.specs.declared.Cause.{Cause}
 use Rattle.ring.specs.declared.Head.{Head}
 use Rattle.ring.specs.declared.Posted.{Posted}
 use Rattle.card.specs.declared.Counters.{Counters}
-use Rattle.rules.specs.Calls.{Result, Ended, Further, refused_with, broke, event_bytes, event_posted, event_room, event_chain, tried, onward}
+use Rattle.rules.specs.Calls.{Result, Ended, Further, refused_with, broke, event_bytes, event_posted, event_room, event_chain, tried}
+use Rattle.rules.specs.Calls.{onward}
 use Rattle.rules.specs.Calls.{event_run}
 use Rattle.device.specs.Device.{Rest, bytes_of, signalled_if, one_taken}
 use Rattle.device.specs.Numbers.{event_queue}

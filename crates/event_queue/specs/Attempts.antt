@@ -57,7 +57,14 @@ attempt_of over left g q p =
 
 -- the queue is broken, or no chain has room
 abbrev pub halted_by : Cause → ℕ → Registers → Counters → Attempt
-halted_by cause left g q = record { ended = true; left = left; answer = broken_answer event_queue cause; registers = broken g; counters = q }
+halted_by cause left g q = record {
+  ended = true;
+  left = left;
+  answer = broken_answer event_queue cause;
+  registers = broken g;
+  counters =
+      q;
+}
 
 abbrev pub without_buffer : Registers → Counters → Attempt
 without_buffer g q = record { ended = true; left = 0; answer = plain no_event_buffer; registers = g; counters = q }

@@ -19,7 +19,8 @@ use Rattle.card.specs.declared.Stream.{Stream}
 use Rattle.device.specs.Device.{Direction, output, input, Device, bytes_of}
 use Rattle.device.specs.Histories.{handed_now, waiting, took, noted, with_entry}
 use Rattle.device.specs.Transfer.{payload_of}
-use Rattle.rules.specs.Calls.{replied, event_allowed, recorded, event_posted, tried, event_run, event_of, read_step, transfer_step, remembering}
+use Rattle.rules.specs.Calls.{replied, event_allowed, recorded, event_posted, tried, event_run, event_of, read_step, transfer_step}
+use Rattle.rules.specs.Calls.{remembering}
 use Rattle.rules.specs.Control.{joined, remap, judged_params, set_params, commanded, decoded_of}
 use Rattle.rules.specs.Lifecycle.{transition}
 use Rattle.queue_lines.specs.Chains.{arrival_of, reading_of}
@@ -163,10 +164,14 @@ pub record Ran (Q : Type 0) : Type 0 where
   pub memory : List ℕ
 
 unfoldable pub runs : {Q : Type 0} (n : Streams) → (Direction → Ops Q) → Device Q → List ℕ → List Request → Ran Q
-unfolding descriptor_at descriptors joined_of enter_of in_table direct le put total places up_from put_at all_inside register_at config_at size_of
-    read_of write_of live signalled broken page_read config_bytes config_value isr_read wrote_features wrote_page wrote_selector wrote_notify
-    stored_status wrote_status found_of head_at posted_at interrupts replied order_of event_allowed recorded event_posted tried event_run event_of
-    read_step transfer_step remembering remap judged_params set_params transition commanded decoded_of served transferred_of release_by payload_of
+unfolding descriptor_at descriptors joined_of enter_of in_table direct le put total places up_from put_at all_inside register_at config_at
+    size_of
+    read_of write_of live signalled broken page_read config_bytes config_value isr_read wrote_features wrote_page wrote_selector
+    wrote_notify
+    stored_status wrote_status found_of head_at posted_at interrupts replied order_of event_allowed recorded event_posted tried event_run
+    event_of
+    read_step transfer_step remembering remap judged_params set_params transition commanded decoded_of served transferred_of release_by
+    payload_of
     bytes_of arrival_of reading_of sum_of times posted next completed opened moved worked lines.transfer_step lines.release_step taking_run
     transfer_run release_run transferred emptied joining bounced beginning handing completing handed_now waiting took noted with_entry
 runs n ops b m [] = record { answers = []; counts = []; state = b; memory = m }

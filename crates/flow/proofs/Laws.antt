@@ -21,7 +21,8 @@ use Rattle.message.specs.Work.{taking_of_message, message_of}
 use Rattle.message.specs.Message.{virtqueue_as, answered_of}
 use Rattle.message.specs.declared.Virtqueue.{Virtqueue}
 use mathlib.Core.Option.{some}
-use Rattle.flow.specs.Flow.{payload_bytes, run_of, advanced_by, ended_by, Busy, FitFlow, ending_of, reaches_of, over_of, job_moved, job_worked}
+use Rattle.flow.specs.Flow.{payload_bytes, run_of, advanced_by, ended_by, Busy, FitFlow, ending_of, reaches_of, over_of, job_moved}
+use Rattle.flow.specs.Flow.{job_worked}
 use Rattle.flow.specs.declared.Flow.{Flow}
 use Rattle.flow.specs.declared.Job.{Job}
 use Rattle.flow.specs.declared.Job.TheVariants.{Transfer, Release}

@@ -19,7 +19,8 @@ use Rattle.device.specs.Device.{Direction, output, input, Rest, Device, queue_fo
 use Rattle.device.specs.Numbers.{control_queue, play_queue}
 use Rattle.device.specs.Transfer.{Shows, Run, begun}
 use Rattle.device.proofs.Cases.{and-false}
-use Rattle.rules.specs.Calls.{Order, ReleaseFirst, Pending, control_head_by, control_found_by, ordered_by, is_running, transfer_step, remembering}
+use Rattle.rules.specs.Calls.{Order, ReleaseFirst, Pending, control_head_by, control_found_by, ordered_by, is_running, transfer_step}
+use Rattle.rules.specs.Calls.{remembering}
 use Rattle.rules.specs.Calls.{untouched, released_on}
 use Rattle.rules.specs.Control.{decoded_of}
 use Rattle.rules.specs.Table.{named}

@@ -11,7 +11,8 @@
 --   its stream that was answered 0, since reset.
 -- The account is fed what power-up is given, then each call's arguments and the memory lent to it. `Demand3` is the claim; the theorem is
 -- `demand-3` of proofs/Demand3.
-use Rattle.std.specs.Prelude.{◌≡◌, Bool, true, false, cond, List, [], ◌∷◌, ◌++◌, map, ℕ, suc, ◌+◌, ◌-◌, ◌%◌, ◌≤◌, ◌<◌, eqb, length, take, get_or}
+use Rattle.std.specs.Prelude.{◌≡◌, Bool, true, false, cond, List, [], ◌∷◌, ◌++◌, map, ℕ, suc, ◌+◌, ◌-◌, ◌%◌, ◌≤◌, ◌<◌, eqb, length, take}
+use Rattle.std.specs.Prelude.{get_or}
 use Rattle.std.proofs.Math.Option.{Option, none, some}
 use Rattle.description.specs.declared.Description.{Description}
 use Rattle.ranges.specs.Ranges.{up_from}

@@ -86,7 +86,8 @@ pub record Table : Type 0 where
       → (served one_output p (asks 0 1 8) room ≡ Reply p (status s_ok ++ take 8 (pcm_item_of 0 s)))
       × (length (status s_ok ++ take 8 (pcm_item_of 0 s)) ≡ 12)
   -- order 1: (0, 1, 0) BAD_MSG; (0, 0, 0) length 4, OK; room 43 for size 40: BAD_MSG
-  pub no_size : (p : Parts) (s : Stream) (room : ℕ) → p.streams ≡ s ∷ [] → served one_output p (asks 0 1 0) room ≡ Reply p (status s_bad_msg)
+  pub no_size : (p : Parts) (s : Stream) (room : ℕ) → p.streams ≡ s ∷ [] → served one_output p (asks 0 1 0) room
+      ≡ Reply p (status s_bad_msg)
   pub no-size-no-item :
       (p : Parts) (s : Stream) (room : ℕ) → p.streams ≡ s ∷ [] → 4 ≤ room
       → (served one_output p (asks 0 0 0) room ≡ Reply p (status s_ok)) × (length (status s_ok) ≡ 4)

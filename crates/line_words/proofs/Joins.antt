@@ -13,7 +13,8 @@ use Rattle.line_words.specs.Slots.{slot_words, slot_of, chain_in, marks_in, ring
 use Rattle.line_words.proofs.Lines.{line_at, line_set, slots-fit}
 use Rattle.line_words.proofs.Parts.{with_slot, slot-room}
 
-pub pushed-by : (head : ℕ) (s s' ring : List ℕ) (line : Line) → chain_in s' ≡ chain_in s → message_in (marks_in s') ≡ message_in (marks_in s)
+pub pushed-by : (head : ℕ) (s s' ring : List ℕ) (line : Line) → chain_in s' ≡ chain_in s → message_in (marks_in s')
+    ≡ message_in (marks_in s)
     → line_in (marks_in s') ≡ line → ring_in s' ≡ ring → heads_in ring line ≡ heads_in (ring_in s) (line_in (marks_in s)) ++ head ∷ []
     → FitLine (length ring) line → Pushed head s s'
 unfolding line_of
@@ -29,7 +30,8 @@ module _ (v : Virtqueue) (i : ℕ) (ws : List ℕ) (o : Open v i ws) where
   pub open-inside : slot_words (queue_size v) * i + slot_words (queue_size v) ≤ length ws
   open-inside = let e = slot-room (slot_words (queue_size v)) i v.streams o.there in omega (arith, e, o.words)
 
-  pub joined_by : (head : ℕ) (ys : List ℕ) → length ys ≡ slot_words (queue_size v) → Pushed head (slot_of (slot_words (queue_size v)) ws i) ys
+  pub joined_by : (head : ℕ) (ys : List ℕ) → length ys ≡ slot_words (queue_size v)
+      → Pushed head (slot_of (slot_words (queue_size v)) ws i) ys
       → Joined v i head ws (with_slot (slot_words (queue_size v)) i ws ys)
   unfolding queue_in
   joined_by head ys l p =

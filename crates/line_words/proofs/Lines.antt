@@ -54,7 +54,8 @@ module _ (N n : ℕ) (ws : List ℕ) where
       → lines_of N n (with_slot (slot_words N) i ws ys) ≡ set (lines_of N n ws) i (line_of ys)
   unfolding lines_of
   line_set i ys room l =
-      map-one (λ (j : ℕ). line_of (slot_of (slot_words N) ws j)) (λ (j : ℕ). line_of (slot_of (slot_words N) (with_slot (slot_words N) i ws ys) j))
+      map-one (λ (j : ℕ). line_of (slot_of (slot_words N) ws j))
+      (λ (j : ℕ). line_of (slot_of (slot_words N) (with_slot (slot_words N) i ws ys) j))
       0 n i i (omega arith) (λ j o. ap line_of (slot-other (slot_words N) i ws ys room l j o))
       ∙ ap (λ z. set (map (λ (j : ℕ). line_of (slot_of (slot_words N) ws j)) (up_from 0 n)) i (line_of z))
       (slot-here (slot_words N) i ws ys room l)

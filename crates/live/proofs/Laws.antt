@@ -267,7 +267,8 @@ unfolding powered_board powered_of
 powered-dropped d len = by (lawful d) where
   by : (b : Bool)
       → let p : Powered =
-      cond b (record { answer = done; card = card_of (parts_at_power d) len }) (record { answer = bad_description; card = card_of no_parts 0 }) in
+      cond b (record { answer = done; card = card_of (parts_at_power d) len })
+      (record { answer = bad_description; card = card_of no_parts 0 }) in
       (p.card.play_dropped ≡ true) × (p.card.capture_dropped ≡ true) × (p.card.queues ≡ replicate 4 no_counters)
   by true = (refl, refl, refl)
   by false = (refl, refl, refl)

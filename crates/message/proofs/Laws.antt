@@ -11,7 +11,8 @@ use Rattle.chain.specs.declared.Fault.{Fault}
 use Rattle.counts.specs.declared.PageNumber.{PageNumber}
 use Rattle.registers.specs.Map.{size_of}
 use Rattle.ring.specs.Rules.{post_of}
-use Rattle.ranges.proofs.Laws.{put_at-take, ranges_of-none, sound_none, ranges_in-more, up_from-add, drop-up_from, total-append, places-append}
+use Rattle.ranges.proofs.Laws.{put_at-take, ranges_of-none, sound_none, ranges_in-more, up_from-add, drop-up_from, total-append}
+use Rattle.ranges.proofs.Laws.{places-append}
 use Rattle.ranges.proofs.Laws.{length-places}
 use Rattle.message.specs.Message.{answered_of, answered_length, FitTaken}
 use Rattle.message.specs.declared.Form.TheVariants.{Unwalked}
@@ -91,7 +92,8 @@ status-take m as' code latency = put_at-take 8 m as' (status_bytes code latency)
 -- a status in the reply's last eight bytes, then the used entry, is an answer
 pub posted-answer : (d : rules.Direction) (m : List ℕ) (page : PageNumber) (completed : ℕ) (head : DescriptorNumber) (reply : List Range)
     (code latency recorded : ℕ)
-    → post_of (status_in_reply (some code) latency reply m) page (size_of (rules.queue_number d)) completed head (answered_length d recorded)
+    → post_of (status_in_reply (some code) latency reply m) page (size_of (rules.queue_number d)) completed head
+    (answered_length d recorded)
     ≡ answered_of d m page completed head.0 reply (some code) latency recorded
 unfolding post_of answered_of
 posted-answer rules.output m page completed head reply code latency recorded = refl

@@ -319,5 +319,6 @@ module _ (v : Virtqueue) (i : ℕ) (call : Ending) (host m₀ : List ℕ) (h₀ 
       → Ordered (line_at h i).story
   acts-order (taken s) k = takes-order s k
   acts-order (reads {m = m} {h = h} {head = head} s o e) k = begun-order d i h (acts-order s k) (reading_of v i m head)
-  acts-order (moves {m = m} {h = h} {xs = xs} {rest = rest} s c o e z q) k = handed-order d i h (acts-order s k) (bytes_moved d xs rest m) xs
+  acts-order (moves {m = m} {h = h} {xs = xs} {rest = rest} s c o e z q) k =
+      handed-order d i h (acts-order s k) (bytes_moved d xs rest m) xs
   acts-order (ends {h = h} {e = e} s f due) k = ended-order d i h (acts-order s k) e v.latency

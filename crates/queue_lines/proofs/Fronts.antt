@@ -71,7 +71,8 @@ work-busy s m e = go (free s) e
 
 -- ---- the first that was not read
 
-next-head : (n : ℕ) (l : List Taken) (head : ℕ) → take 1 (heads_of (drop n l)) ≡ head ∷ [] → (n < length l) × (get_or (heads_of l) n 0 ≡ head)
+next-head : (n : ℕ) (l : List Taken) (head : ℕ) → take 1 (heads_of (drop n l)) ≡ head ∷ [] → (n < length l)
+    × (get_or (heads_of l) n 0 ≡ head)
 next-head zero [] head e = absurd (omega (arith, ap length e))
 next-head zero (x ∷ l) head e = (omega arith, ap (λ (l : List ℕ). get_or l 0 0) e)
 next-head (suc n) [] head e = absurd (omega (arith, ap length e))

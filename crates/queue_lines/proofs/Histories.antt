@@ -100,7 +100,8 @@ module _ (d : Direction) where
   noted-shown :
       (l : Line) (bytes xs : List ℕ)
       → free l.story ≡ false
-      → record { begun = further (length xs) (shown_line l).begun; heads = (shown_line l).heads } ≡ shown_line (with_story (noted d bytes xs) l)
+      → record { begun = further (length xs) (shown_line l).begun; heads = (shown_line l).heads }
+      ≡ shown_line (with_story (noted d bytes xs) l)
   unfolding shown_line noted
   noted-shown l bytes xs e = line_same (noted-work d l.story bytes xs e) refl
 
@@ -182,7 +183,8 @@ module _ (d : Direction) where
             is-work h i m front,
           )
 
-    bounce-same : (h : History) (t : Taking) (latency : ℕ) → (counters_of d n).bounce t latency (queue_of h) ≡ queue_of (bounced d t latency h)
+    bounce-same : (h : History) (t : Taking) (latency : ℕ) → (counters_of d n).bounce t latency (queue_of h)
+        ≡ queue_of (bounced d t latency h)
     unfolding queue_of bounced
     bounce-same h t latency = simp (length-append, next-wrap)
 

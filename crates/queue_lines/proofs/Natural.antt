@@ -423,7 +423,8 @@ module _ {H Q : Type 0} (v : Virtqueue) (two : Pair H Q v.direction v.streams) w
     unfolding transferred
     transferred-same host =
         rw (found-same, begun-same host)
-        (on_found-same (Right w i host) (transfer_run A v i) (transfer_run D v i) (transfer_run-same w i host) (found A v q m) (begun q m host)
+        (on_found-same (Right w i host) (transfer_run A v i) (transfer_run D v i) (transfer_run-same w i host) (found A v q m)
+        (begun q m host)
         (begun-right host))
 
     pub emptied-same : emptied D v i (f q) m ≡ lower (emptied A v i q m)
@@ -444,7 +445,8 @@ module _ {H Q : Type 0} (v : Virtqueue) (two : Pair H Q v.direction v.streams) w
     pub transferred-keeps : (host : List ℕ) → Right w i host (transferred A v i q m host)
     unfolding transferred
     transferred-keeps host =
-        on_found-keeps (also i w) host (transfer_run A v i) (transfer_run-keeps w i host) (found A v q m) (begun q m host) (begun-right host)
+        on_found-keeps (also i w) host (transfer_run A v i) (transfer_run-keeps w i host) (found A v q m) (begun q m host)
+        (begun-right host)
 
     pub emptied-keeps : Fine (λ bytes. w) [] (emptied A v i q m)
     unfolding emptied

@@ -64,7 +64,8 @@ module _ (d : Direction) (n : ℕ) (w : ℕ → List ℕ) (h : History) (g : Goo
       sym (sum_of-ones h.takings) ∙ sym e
       ∙ ap (λ k. k + sum_of (λ (l : Line). sum_of (λ (x : Taken). 1) (standing l)) h.lines) (sum_of-ones h.entries)
       ∙ ap (λ k. length h.entries + k)
-      (sum_of-same (λ (l : Line). sum_of (λ (x : Taken). 1) (standing l)) (λ (l : Line). length (standing l)) (λ l. sum_of-ones (standing l))
+      (sum_of-same (λ (l : Line). sum_of (λ (x : Taken). 1) (standing l)) (λ (l : Line). length (standing l))
+      (λ l. sum_of-ones (standing l))
       h.lines)
 
   -- of the card: taken − completed modulo 65,536 is the number in line, where that fits

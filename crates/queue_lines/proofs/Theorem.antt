@@ -88,7 +88,8 @@ module _ (v : Virtqueue) (i : ℕ) (said : ℕ → List ℕ) (h : History) (m : 
     transfer-done : Done v i finished m h (also i said) host (transferred ops v i h m host)
     unfolding transferred
     transfer-done =
-        found-done finished (also i said) host (transfer_run ops v i) (transfer_run-done v i m h said host) (found ops v h m) (begun h m host)
+        found-done finished (also i said) host (transfer_run ops v i) (transfer_run-done v i m h said host) (found ops v h m)
+        (begun h m host)
         (record {
           fine = begun-right v (pair v) said i h m good host;
           takes = start;

@@ -44,7 +44,8 @@ module _ (v : Virtqueue) (i : ℕ) (said : ℕ → List ℕ) (h : History) (m : 
       by_cond P (eqb v.page.0 0) (λ e. omega arith)
       (λ e.
       by_cond P (ltb (length m) (base_of v.page + end_at (queue_size v))) (λ e. omega arith)
-      (λ e. by_cond P (ltb (queue_size v) (new + ops.in_work h)) (λ e. omega arith) (λ e. ltb-false (queue_size v) (new + ops.in_work h) e)))
+      (λ e. by_cond P (ltb (queue_size v) (new + ops.in_work h)) (λ e. omega arith)
+      (λ e. ltb-false (queue_size v) (new + ops.in_work h) e)))
 
   found-few :
       (run : ℕ → Run History → Run History) (s : Run History)

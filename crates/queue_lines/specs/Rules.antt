@@ -9,7 +9,8 @@ use Rattle.ring.specs.declared.Head.{Head}
 use Rattle.ring.specs.declared.Stop.{Stop}
 use Rattle.device.specs.Answers.{going}
 use Rattle.device.specs.Device.{Taking, Ending, finished, released, ill_formed, Message}
-use Rattle.device.specs.Transfer.{Run, begun, is_nil, is_well, payload_of, status_of, status_in_reply, used_length, memory_moved, bytes_moved}
+use Rattle.device.specs.Transfer.{Run, begun, is_nil, is_well, payload_of, status_of, status_in_reply, used_length, memory_moved}
+use Rattle.device.specs.Transfer.{bytes_moved}
 use Rattle.queue_lines.specs.Chains.{Virtqueue, queue_size, Arrival, in_line, at_once, arrival_of, reading_of}
 
 -- the one loop: a step, so many times

@@ -49,7 +49,8 @@ module _ (p : Parts) (f : FitParts p) (request : List ℕ) where
     remap-refused g = rw (jack-total p f, h, jack-at p (rules.word request 1) (ltb-true _ _ h), g)
 
     pub remap-there : rules.remappable (get_or p.jacks (rules.word request 1) rules.no_jack) ≡ true
-        → rules.remap (parts_of p) request ≡ rules.remap_at (parts_of p) (rules.word request 1) (rules.word request 2) (rules.word request 3)
+        → rules.remap (parts_of p) request ≡ rules.remap_at (parts_of p) (rules.word request 1) (rules.word request 2)
+        (rules.word request 3)
     unfolding rules.remap
     remap-there g = rw (jack-total p f, h, jack-at p (rules.word request 1) (ltb-true _ _ h), g)
 

@@ -1,5 +1,6 @@
 -- Ring facts, each once over N, the number of descriptors: where the parts lie, the counters, and what reads back after a completion.
-use Rattle.std.proofs.Common.{◌≡◌, ℕ, ◌+◌, ◌-◌, ◌*◌, ◌%◌, ◌^◌, ◌<◌, ◌≤◌, Bool, true, false, not, ltb, leb, List, length, refl, ◌∙◌, inl, inr, mod-lt, arith, le-ltb, lt-ltb, ne_eqb, leb-false, leb-true}
+use Rattle.std.proofs.Common.{◌≡◌, ℕ, ◌+◌, ◌-◌, ◌*◌, ◌%◌, ◌^◌, ◌<◌, ◌≤◌, Bool, true, false, not, ltb, leb, List, length, refl, ◌∙◌, inl}
+use Rattle.std.proofs.Common.{inr, mod-lt, arith, le-ltb, lt-ltb, ne_eqb, leb-false, leb-true}
 use native.Mathlib.Nat.{mod-mod_of_dvd, dvd_of_mod-eq-zero, mul-mod_right}
 use Rattle.counts.specs.declared.PageNumber.{PageNumber}
 use Rattle.counts.specs.declared.DescriptorNumber.{DescriptorNumber}
@@ -7,7 +8,8 @@ use Rattle.memory.specs.Bytes.{le, inside_of}
 use Rattle.memory.proofs.Laws.{length-put, le-put, le-put-other}
 use Rattle.ranges.specs.declared.Range.{Range}
 use Rattle.ranges.proofs.Laws.{length-put_at}
-use Rattle.ring.specs.Layout.{used_at, end_at, available_flags_at, available_index_at, ring_place_at, used_index_at, used_head_at, used_length_at}
+use Rattle.ring.specs.Layout.{used_at, end_at, available_flags_at, available_index_at, ring_place_at, used_index_at, used_head_at}
+use Rattle.ring.specs.Layout.{used_length_at}
 use Rattle.ring.specs.Rules.{new_of, entries_of, next_of, posted_at, posted_of, post_of, completed_of}
 use Rattle.ring.specs.declared.Cause.{Cause}
 use Rattle.ring.specs.declared.Check.{Check}

@@ -32,7 +32,8 @@ index_of m page N = le 2 m (base_of page + available_index_at N)
 -- "Base 0: the queue is idle". "A queue is broken if its region passes the end of RAM": judged before the entries
 unfoldable pub found_of : List ℕ → PageNumber → ℕ → ℕ → ℕ → Check
 found_of m page N new in_work =
-    cond (page.0 == 0) Check.Idle (cond (nat_lt (length m) (base_of page + end_at N)) (Check.Broken Cause.Region) (entries_of N new in_work))
+    cond (page.0 == 0) Check.Idle (cond (nat_lt (length m) (base_of page + end_at N)) (Check.Broken Cause.Region)
+    (entries_of N new in_work))
 
 abbrev pub check_of : List ℕ → PageNumber → ℕ → ℕ → ℕ → Check
 check_of m page N taken in_work = found_of m page N (new_of (index_of m page N) taken) in_work

@@ -7,7 +7,8 @@ use native.Mathlib.Decide.{ℕ_discrete}
 use borrow.Author.Tests.{ne_eqb, eq-eqb}
 use lib.Dec.{eqb, leb, ltb}
 use Rattle.registers.specs.Map.{register_at, config_at}
-use Rattle.registers.specs.Rules.{write_of, write_register, wrote_features, wrote_page, wrote_selector, wrote_notify, wrote_status, driver_ok}
+use Rattle.registers.specs.Rules.{write_of, write_register, wrote_features, wrote_page, wrote_selector, wrote_notify, wrote_status}
+use Rattle.registers.specs.Rules.{driver_ok}
 use Rattle.registers.specs.Rules.{wrote, with_page}
 use Rattle.registers.specs.declared.Effect.{Effect}
 use Rattle.registers.specs.declared.Registers.{Registers}

@@ -18,8 +18,10 @@ use Rattle.register_map.specs.declared.Register.TheVariants.{HostFeatures, Guest
 use Rattle.register_map.specs.declared.Register.TheVariants.{Status, Isr, DeviceConfig, Absent}
 use Rattle.registers.specs.Answers.{done, no_queue, plain}
 use Rattle.registers.specs.Map.{size_of}
-use Rattle.registers.specs.Rules.{read_of, write_of, read_register, write_register, live, has_bit, signalled, broken, isr_read, only_offered}
-use Rattle.registers.specs.Rules.{wrote_features, wrote_page, wrote_selector, wrote_notify, wrote_status, fitting, stored_status, features_ok}
+use Rattle.registers.specs.Rules.{read_of, write_of, read_register, write_register, live, has_bit, signalled, broken, isr_read}
+use Rattle.registers.specs.Rules.{only_offered}
+use Rattle.registers.specs.Rules.{wrote_features, wrote_page, wrote_selector, wrote_notify, wrote_status, fitting, stored_status}
+use Rattle.registers.specs.Rules.{features_ok}
 use Rattle.registers.specs.Rules.{driver_ok}
 use Rattle.registers.specs.declared.Config.{Config}
 use Rattle.registers.specs.declared.Effect.{Effect}

@@ -25,7 +25,8 @@ use Rattle.card.specs.declared.Params.{Params}
 use Rattle.card.specs.declared.Stream.{Stream}
 use Rattle.rules.specs.Calls.{Order, Done, ReleaseFirst, Pending, Result, Tried, Ended, Further, Sent, replied, acted}
 use Rattle.rules.specs.Calls.{ended_on, ordered_by, read_message_by, control_head_by}
-use Rattle.rules.specs.Calls.{control_found_by, order_by, released_on, Step, recorded, with_connected, event_posted, event_chain, event_head}
+use Rattle.rules.specs.Calls.{control_found_by, order_by, released_on, Step, recorded, with_connected, event_posted, event_chain}
+use Rattle.rules.specs.Calls.{event_head}
 use Rattle.rules.specs.Calls.{tried, onward, event_run, event_found, event_of, indirect, event_room, event_allowed}
 use Rattle.rules.specs.Control.{Parts, Served, Reply, Release, parts_in, passing, refusal, word, remapped_to, with_defconf, with_state}
 use Rattle.rules.specs.Control.{with_params, jack_in, stream_in, no_jack, remap, remap_at, spaced, listed_in, roomy, four_bits}

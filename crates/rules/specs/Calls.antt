@@ -29,7 +29,8 @@ use Rattle.device.specs.Answers.{broken_answer, by_stop}
 use Rattle.rules.specs.Control.{Parts, Served, Reply, Release, parts_in, with_parts, status, no_jack, with_state, with_backlog}
 use Rattle.rules.specs.Control.{with_stream}
 use Rattle.device.specs.Device.{Direction, output, input, queue_number, Rest, Device}
-use Rattle.device.specs.Device.{with_queue, with_registers, with_jacks, with_control, with_event, page_of, stream_at, signalled_if, one_taken}
+use Rattle.device.specs.Device.{with_queue, with_registers, with_jacks, with_control, with_event, page_of, stream_at, signalled_if}
+use Rattle.device.specs.Device.{one_taken}
 use Rattle.device.specs.Device.{one_completed, bytes_of}
 use Rattle.device.specs.Numbers.{control_queue, event_queue, jack_connected, jack_disconnected, pcm_xrun, s_ok, s_bad_msg}
 use Rattle.device.specs.Transfer.{Transferred}
@@ -177,7 +178,8 @@ module _ (serve : Parts → List ℕ → ℕ → Served) where
   control_found_by r m Check.Idle = Done (refused_with done r m)
   control_found_by r m (Check.Broken cause) = Done (broke control_queue cause r m)
   control_found_by r m (Check.New zero) = Done (refused_with done r m)
-  control_found_by r m (Check.New (suc n)) = control_head_by r m (head_of m (page_of r control_queue) (size_of control_queue) r.control.taken)
+  control_found_by r m (Check.New (suc n)) = control_head_by r m
+      (head_of m (page_of r control_queue) (size_of control_queue) r.control.taken)
 
   -- "Control: 1, 5, 9."
   abbrev pub order_by : Rest → List ℕ → Order

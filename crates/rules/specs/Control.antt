@@ -1,6 +1,7 @@
 -- 01, Control messages: what a request asks and is answered. The described parts and the request decide it alone; RELEASE,
 -- whose stream's queue comes first, is told apart.
-use Rattle.std.specs.Prelude.{Bool, cond, ◌&&◌, ◌||◌, not, List, [], ◌∷◌, ◌++◌, map, ℕ, suc, ◌+◌, ◌*◌, ◌/◌, ◌%◌, ◌^◌, eqb, leb, ltb, length, get_or, set, take, drop, replicate}
+use Rattle.std.specs.Prelude.{Bool, cond, ◌&&◌, ◌||◌, not, List, [], ◌∷◌, ◌++◌, map, ℕ, suc, ◌+◌, ◌*◌, ◌/◌, ◌%◌, ◌^◌, eqb, leb, ltb}
+use Rattle.std.specs.Prelude.{length, get_or, set, take, drop, replicate}
 use Rattle.std.proofs.Math.Option.{Option, none, some}
 use Rattle.description.specs.declared.MapInfo.{MapInfo}
 use Rattle.description.specs.declared.StreamInfo.{StreamInfo}
@@ -12,7 +13,8 @@ use Rattle.card.specs.declared.Params.{Params}
 use Rattle.card.specs.declared.Stream.{Stream}
 use Rattle.rules.specs.Lifecycle.{transition}
 use Rattle.device.specs.Device.{Rest, with_streams, bytes_of}
-use Rattle.device.specs.Numbers.{jack_info, jack_remap, pcm_info, pcm_set_params, pcm_prepare, pcm_release, pcm_start, pcm_stop, chmap_info, s_ok}
+use Rattle.device.specs.Numbers.{jack_info, jack_remap, pcm_info, pcm_set_params, pcm_prepare, pcm_release, pcm_start, pcm_stop}
+use Rattle.device.specs.Numbers.{chmap_info, s_ok}
 use Rattle.device.specs.Numbers.{s_bad_msg, s_not_supp}
 use Rattle.rules.specs.declared.Asked.{Asked}
 use Rattle.rules.specs.declared.Asked.TheVariants.{Information, Remap, Pcm}
@@ -276,7 +278,8 @@ set_by p id state params code =
     cond (eqb code s_ok) (Reply (with_stream_in id (with_params state params (stream_in p id)) p) (status s_ok)) (refusal p code)
 
 unfoldable pub set_params : Parts → ℕ → ℕ → List ℕ → Served
-set_params p id state request = set_by p id state (params_of request) (judged_params (stream_in p id).info (params_of request) (le 1 request 23))
+set_params p id state request = set_by p id state (params_of request)
+    (judged_params (stream_in p id).info (params_of request) (le 1 request 23))
 
 -- a lawful command of a stream that is there, and the state that it leads to. A RELEASE leads there once the stream's queue is empty.
 abbrev pub obeyed : Parts → Command → ℕ → ℕ → List ℕ → Served

@@ -168,8 +168,12 @@ walk-smaller c =
 
 pub walk-preserved : goal.walk-preserved
 walk-preserved c =
-    let l = c.loop-left in
-    (l.invariant.0, l.invariant.1, lent (goal.at.walk-preserved c).At-loop-left, rw c.of-number.ensures (rest-entered (goal.at.walk-preserved c).After-enter Whole c.in_default.is))
+    let l = c.loop-left in (
+      l.invariant.0,
+      l.invariant.1,
+      lent (goal.at.walk-preserved c).At-loop-left,
+      rw c.of-number.ensures (rest-entered (goal.at.walk-preserved c).After-enter Whole c.in_default.is),
+    )
 
 pub joined-step-requires : goal.joined-step-requires
 joined-step-requires c =
@@ -212,7 +216,8 @@ returns-then-left-eq0 c =
     let l = c.loop-left in
     let a = c.args in
     record {
-      outcome = sym (onwards-none a.m.now a.indirect l.deeper l.left _ _ _ _ c.if-left-eq0.true) ∙ trail (goal.at.returns-then-left-eq0 c).At-loop-left;
+      outcome = sym (onwards-none a.m.now a.indirect l.deeper l.left _ _ _ _ c.if-left-eq0.true)
+          ∙ trail (goal.at.returns-then-left-eq0 c).At-loop-left;
       sound = l.invariant.0;
     }
 

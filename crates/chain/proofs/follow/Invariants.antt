@@ -14,7 +14,8 @@ invariant-loop-left l =
     × (length l.list ≡ length l.initial.list)
     × (onwards l.m l.indirect l.deeper l.left (descriptors l.m l.at.0 l.count) l.number.0 (ranges_of l.list l.chain.request)
     (ranges_of l.list l.chain.reply)
-    ≡ onwards l.m l.indirect l.initial.deeper l.initial.left (descriptors l.m l.initial.at.0 l.initial.count) l.initial.number.0 (ranges_of l.initial.list l.initial.chain.request)
+    ≡ onwards l.m l.indirect l.initial.deeper l.initial.left (descriptors l.m l.initial.at.0 l.initial.count) l.initial.number.0
+    (ranges_of l.initial.list l.initial.chain.request)
     (ranges_of l.initial.list l.initial.chain.reply))
     × (l.deeper ≡ l.initial.deeper)
 

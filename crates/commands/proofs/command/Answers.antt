@@ -56,7 +56,8 @@ bounds-parts-i c = omega (arith, few c)
 pub returns-in_default-lifecycle : goal.returns-in_default-lifecycle
 returns-in_default-lifecycle c =
     let a = c.args in
-    let unlawful = led (goal.at.returns-in_default-lifecycle c).In-There none (led-nowhere _ (sym c.lifecycle.ensures.0 ∙ c.in_default-lifecycle.is)) in
+    let unlawful = led (goal.at.returns-in_default-lifecycle c).In-There none
+    (led-nowhere _ (sym c.lifecycle.ensures.0 ∙ c.in_default-lifecycle.is)) in
     rw (command-led a.parts c.requires a.asked a.request.now (found (goal.at.returns-in_default-lifecycle c).In-There).0 none unlawful)
     (serves-same _ a.pending a.parts _ _ _ _ c.requires c.answer-in_default-lifecycle.ensures)
 
@@ -69,5 +70,8 @@ returns c =
     let a = c.args in
     let state = c.in-To.state in
     let lawful = led (goal.at.returns c).In-There (some state) (led-to _ state (sym c.lifecycle.ensures.0 ∙ c.in-To.is)) in
-    rw (command-led a.parts c.requires a.asked a.request.now (found (goal.at.returns c).In-There).0 (some state) lawful, ← (found (goal.at.returns c).In-There).1)
+    rw (
+      command-led a.parts c.requires a.asked a.request.now (found (goal.at.returns c).In-There).0 (some state) lawful,
+      ← (found (goal.at.returns c).In-There).1,
+    )
     c.obey.ensures

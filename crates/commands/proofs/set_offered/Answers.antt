@@ -9,7 +9,8 @@ use Rattle.description.specs.declared.StreamInfo.{StreamInfo}
 use Rattle.rules.proofs.Parts.{stream_at_lem}
 use Rattle.reply.proofs.Laws.{serves-same, serves-stream}
 use Rattle.requests.proofs.Laws.{check-passed, check-failed}
-use Rattle.commands.proofs.set_offered.Goals.{In-Passed, In-Passed-are_channels_offered, In-Passed-are_features_offered, In-Passed-is_format_offered, In-Passed-is_framed, In-Passed-is_rate_offered, Start}
+use Rattle.commands.proofs.set_offered.Goals.{In-Passed, In-Passed-are_channels_offered, In-Passed-are_features_offered}
+use Rattle.commands.proofs.set_offered.Goals.{In-Passed-is_format_offered, In-Passed-is_framed, In-Passed-is_rate_offered, Start}
 use Rattle.commands.proofs.set_offered.Goals as goal
 
 -- what the stream that the request names offers

@@ -39,7 +39,8 @@ returns-in_default-is_sized c =
     let a = c.args in
     let unsized : sized (params_of a.request.now) ≡ false = rw c.params_in-p.ensures at
     (check-failed (sized c.params_in-p.result) (sym c.is_sized.ensures ∙ c.in_default-is_sized.is)) in
-    rw (unpadding (goal.at.returns-in_default-is_sized c).In-Passed, unsized) (serves-same _ a.pending a.parts _ _ _ _ c.requires.0 c.answer-in_default-is_sized.ensures)
+    rw (unpadding (goal.at.returns-in_default-is_sized c).In-Passed, unsized)
+    (serves-same _ a.pending a.parts _ _ _ _ c.requires.0 c.answer-in_default-is_sized.ensures)
 
 pub is_periodic-requires : goal.is_periodic-requires
 is_periodic-requires c =
@@ -52,7 +53,11 @@ returns-in_default-is_periodic c =
     let broken : periodic (params_of a.request.now) ≡ false = rw c.params_in-p.ensures at
     (check-failed (periodic c.params_in-p.result)
     (sym c.is_periodic.ensures ∙ c.in_default-is_periodic.is)) in
-    rw (unpadding (goal.at.returns-in_default-is_periodic c).In-Passed, sizes-asked (goal.at.returns-in_default-is_periodic c).In-Passed-is_sized, broken)
+    rw (
+      unpadding (goal.at.returns-in_default-is_periodic c).In-Passed,
+      sizes-asked (goal.at.returns-in_default-is_periodic c).In-Passed-is_sized,
+      broken,
+    )
     (serves-same _ a.pending a.parts _ _ _ _ c.requires.0 c.answer-in_default-is_periodic.ensures)
 
 pub returns : goal.returns

@@ -60,7 +60,8 @@ known c =
 pub returns-in_default : goal.returns-in_default
 unfolding served
 returns-in_default c n p room =
-    let unknown : decoded_of (word (whole (goal.at.returns-in_default c).Start) 0) ≡ Unknown = rw (← (code_is (goal.at.returns-in_default c).After-number32))
+    let unknown : decoded_of (word (whole (goal.at.returns-in_default c).Start) 0) ≡ Unknown =
+    rw (← (code_is (goal.at.returns-in_default c).After-number32))
     (sym c.decode.ensures ∙ c.in_default.is) in
     rw unknown (record { bytes = _; same = refl; completes = c.complete.ensures })
 
@@ -70,13 +71,19 @@ returns-in_default-is_laid_out c n p room =
     let short : leb (layout_of c.in-Known.asked) (length (whole (goal.at.returns-in_default-is_laid_out c).Start)) ≡ false =
     rw (length-request c.args.m.now _ c.args.request c.requires.0)
     (check-failed _ (sym c.is_laid_out.ensures ∙ c.in_default-is_laid_out.is)) in
-    rw (known (goal.at.returns-in_default-is_laid_out c).In-Known, short) (record { bytes = _; same = refl; completes = c.complete-in_default-is_laid_out.ensures })
+    rw (known (goal.at.returns-in_default-is_laid_out c).In-Known, short)
+    (record { bytes = _; same = refl; completes = c.complete-in_default-is_laid_out.ensures })
 
 pub returns : goal.returns
 unfolding served
 returns c =
     let asked = c.in-Known.asked in
-    let long : leb (layout_of asked) (length (whole (goal.at.returns c).Start)) ≡ true = rw (length-request c.args.m.now _ c.args.request c.requires.0)
+    let long : leb (layout_of asked) (length (whole (goal.at.returns c).Start)) ≡ true =
+    rw (length-request c.args.m.now _ c.args.request c.requires.0)
     (check-passed _ (sym c.is_laid_out.ensures ∙ c.in-Passed.is)) in
     rw c.read_as.ensures
-    (reads_as _ _ _ _ _ asked (λ n p room. rw (known (goal.at.returns c).In-Known, long, answers_agree p _ (whole (goal.at.returns c).Start) (agree (goal.at.returns c).After-number32) n asked room)))
+    (reads_as _ _ _ _ _ asked (λ n p room. rw (
+      known (goal.at.returns c).In-Known,
+      long,
+      answers_agree p _ (whole (goal.at.returns c).Start) (agree (goal.at.returns c).After-number32) n asked room,
+    )))

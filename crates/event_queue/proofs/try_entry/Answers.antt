@@ -26,7 +26,8 @@ returns-then-room c =
     let room = rw (c.indirect-indirect.ensures, c.if-room.true) at c.room_at-room.ensures in
     rw c.counted.ensures.0 (
       tried-delivered a.code a.«data» a.left a.registers a.counters a.m.now _ d.result d.new.m
-          (ranges_of c.room_at-room.new.list c.room_at-room.result.reply) (head_at (goal.at.returns-then-room c).After-room_at-room, room) d.ensures,
+          (ranges_of c.room_at-room.new.list c.room_at-room.result.reply) (head_at (goal.at.returns-then-room c).After-room_at-room, room)
+          d.ensures,
       rw c.counted.ensures.0 at c.counted.ensures.1,
       refl,
     )
@@ -47,7 +48,8 @@ returns-else-room c =
     let d = c.pass_over-posted in
     let room = rw (c.indirect-indirect.ensures, c.if-room.false) at c.room_at-room.ensures in
     rw c.counted-in-At.ensures.0 (
-      tried-passed a.code a.«data» a.left a.registers a.counters a.m.now _ d.result d.new.m (head_at (goal.at.returns-else-room c).After-room_at-room, room)
+      tried-passed a.code a.«data» a.left a.registers a.counters a.m.now _ d.result d.new.m
+          (head_at (goal.at.returns-else-room c).After-room_at-room, room)
           d.ensures,
       rw c.counted-in-At.ensures.0 at c.counted-in-At.ensures.1,
       refl,

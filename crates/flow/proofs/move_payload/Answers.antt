@@ -23,7 +23,8 @@ share_at_After_least_n s d =
 number : (c : After-least-n) → c.least-n.result ≡ share_at_After_least_n c c.args.q.direction
 number c = rw (← c.waiting.ensures) c.least-n.ensures
 
-fits_after : (c : After-least-n) → let a = c.args in FitFlow (length a.m.now) (length a.host.now) a.list.now (advanced_by c.least-n.result a.f)
+fits_after : (c : After-least-n) → let a = c.args in FitFlow (length a.m.now) (length a.host.now) a.list.now
+    (advanced_by c.least-n.result a.f)
 fits_after c =
     moved_fit (direction_of c.args.q.direction) _ _ _ c.args.f c.least-n.result c.requires.0 c.requires.1 (number c)
 
@@ -31,7 +32,8 @@ pub advanced-requires : goal.advanced-requires
 advanced-requires c = let g = fits_after (goal.at.advanced-requires c).After-least-n in (g.message.moved, omega (arith, g.inside))
 
 pub advanced-requires-in-Input : goal.advanced-requires-in-Input
-advanced-requires-in-Input c = let g = fits_after (goal.at.advanced-requires-in-Input c).After-least-n in (g.message.moved, omega (arith, g.inside))
+advanced-requires-in-Input c = let g = fits_after (goal.at.advanced-requires-in-Input c).After-least-n in
+    (g.message.moved, omega (arith, g.inside))
 
 pub returns-in-Output : goal.returns-in-Output
 returns-in-Output c =
@@ -42,7 +44,8 @@ returns-in-Output c =
         run =
             rw (c.advanced.ensures, c.gather.ensures, told)
             (handed-on a.q a.list.now a.m.now a.host.now a.f c.least-n.result c.requires.0 c.requires.1.inside
-            c.requires.1.message.request (number (goal.at.returns-in-Output c).After-least-n ∙ ap (share (goal.at.returns-in-Output c).Start) told));
+            c.requires.1.message.request (number (goal.at.returns-in-Output c).After-least-n
+            ∙ ap (share (goal.at.returns-in-Output c).Start) told));
         fit = rw c.advanced.ensures (fits_after (goal.at.returns-in-Output c).After-least-n);
         long = refl;
         host-long = c.gather.auto.dst;
@@ -60,7 +63,8 @@ returns-in-Input c =
         run =
             rw (c.advanced-in-Input.ensures, c.scatter.ensures, told)
             (filled a.q a.list.now a.m.now a.host.now a.f c.least-n.result c.requires.0 c.requires.1.inside
-            c.requires.1.message.reply (number (goal.at.returns-in-Input c).After-least-n ∙ ap (share (goal.at.returns-in-Input c).Start) told));
+            c.requires.1.message.reply (number (goal.at.returns-in-Input c).After-least-n
+            ∙ ap (share (goal.at.returns-in-Input c).Start) told));
         fit = rw c.advanced-in-Input.ensures (fits_after (goal.at.returns-in-Input c).After-least-n);
         long = c.scatter.auto.m;
         host-long = refl;

@@ -48,8 +48,11 @@ returns-then-not-is_over c =
     let a = c.args in
     let g = c.move_for-g.ensures in
     record {
-      run = job-later a.job (virtqueue_in a.q) a.list.now a.m.now a.host.now a.f (in_reach (goal.at.returns-then-not-is_over c).After-move_for-g) (in-work (goal.at.returns-then-not-is_over c).After-move_for-g) _ _
-          c.move_for-g.result g.steps.run g.busy (still-fit (goal.at.returns-then-not-is_over c).After-move_for-g) (sym c.is_over.ensures ∙ c.if-not-is_over.true);
+      run = job-later a.job (virtqueue_in a.q) a.list.now a.m.now a.host.now a.f
+          (in_reach (goal.at.returns-then-not-is_over c).After-move_for-g) (in-work (goal.at.returns-then-not-is_over c).After-move_for-g)
+          _ _
+          c.move_for-g.result g.steps.run g.busy (still-fit (goal.at.returns-then-not-is_over c).After-move_for-g)
+          (sym c.is_over.ensures ∙ c.if-not-is_over.true);
       fit = g.steps.fit;
       long = g.steps.long;
       host-long = g.steps.host-long;
@@ -66,7 +69,8 @@ returns c =
     let t = c.end_message.ensures.steps in
     record {
       run = t.run _
-          ∙ job-over a.job (virtqueue_in a.q) a.list.now a.m.now a.host.now a.f (in_reach (goal.at.returns c).After-move_for-g) (in-work (goal.at.returns c).After-move_for-g) _ _
+          ∙ job-over a.job (virtqueue_in a.q) a.list.now a.m.now a.host.now a.f (in_reach (goal.at.returns c).After-move_for-g)
+          (in-work (goal.at.returns c).After-move_for-g) _ _
           c.move_for-g.result g.steps.run g.busy (still-fit (goal.at.returns c).After-move_for-g)
           (sym c.is_over.ensures ∙ c.if-not-is_over.false);
       fit = fit-beside _ _ _ _ c.end_message.result (rw g.steps.long at t.message) t.moved g.steps.fit.inside;

@@ -13,8 +13,7 @@ copy-requires c = let h = c.well_formed in ?
 
 pub returns : goal.returns
 returns c =
-    let e : length c.args.map.positions ≡ 18 = ? in
-    (
+    let e : length c.args.map.positions ≡ 18 = ? in (
       rw (c.copy.ensures, c.set32.ensures) (map-bytes c.args.map e),
       length-map_item c.args.map e,
     )

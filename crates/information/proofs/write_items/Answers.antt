@@ -92,16 +92,19 @@ pub jack_item-item-requires : goal.jack_item-item-requires
 jack_item-item-requires c = omega arith
 
 pub offset_bounds-parts-i-in-Streams : goal.offset_bounds-parts-i-in-Streams
-offset_bounds-parts-i-in-Streams c = let few = rw c.in-Streams.is at (inside (goal.at.offset_bounds-parts-i-in-Streams c).In-loop-left) in omega (arith, few)
+offset_bounds-parts-i-in-Streams c = let few = rw c.in-Streams.is at (inside (goal.at.offset_bounds-parts-i-in-Streams c).In-loop-left) in
+    omega (arith, few)
 
 pub bounds-parts-i-in-Streams : goal.bounds-parts-i-in-Streams
-bounds-parts-i-in-Streams c = let few = rw c.in-Streams.is at (inside (goal.at.bounds-parts-i-in-Streams c).In-loop-left) in omega (arith, few)
+bounds-parts-i-in-Streams c = let few = rw c.in-Streams.is at (inside (goal.at.bounds-parts-i-in-Streams c).In-loop-left) in
+    omega (arith, few)
 
 pub pcm_item-item-requires : goal.pcm_item-item-requires
 pcm_item-item-requires c = omega arith
 
 pub offset_bounds-parts-i-in-Maps : goal.offset_bounds-parts-i-in-Maps
-offset_bounds-parts-i-in-Maps c = let few = rw c.in-Maps.is at (inside (goal.at.offset_bounds-parts-i-in-Maps c).In-loop-left) in omega (arith, few)
+offset_bounds-parts-i-in-Maps c = let few = rw c.in-Maps.is at (inside (goal.at.offset_bounds-parts-i-in-Maps c).In-loop-left) in
+    omega (arith, few)
 
 pub bounds-parts-i-in-Maps : goal.bounds-parts-i-in-Maps
 bounds-parts-i-in-Maps c = let few = rw c.in-Maps.is at (inside (goal.at.bounds-parts-i-in-Maps c).In-loop-left) in omega (arith, few)
@@ -114,8 +117,10 @@ slice_bounds-write_item-end c = omega (arith, (made (goal.at.slice_bounds-write_
 
 pub write_item-requires : goal.write_item-requires
 write_item-requires c =
-    let natural = c.natural_size-natural.ensures.1 in
-    (omega (arith, room (goal.at.write_item-requires c).In-loop-left), omega (arith, natural, (made (goal.at.write_item-requires c).Joined-l).0))
+    let natural = c.natural_size-natural.ensures.1 in (
+      omega (arith, room (goal.at.write_item-requires c).In-loop-left),
+      omega (arith, natural, (made (goal.at.write_item-requires c).Joined-l).0),
+    )
 
 pub overflow_add-at : goal.overflow_add-at
 overflow_add-at c = omega (arith, room (goal.at.overflow_add-at c).In-loop-left)

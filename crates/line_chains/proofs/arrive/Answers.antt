@@ -52,7 +52,8 @@ pub returns-in-InLine : goal.returns-in-InLine
 returns-in-InLine c =
     let a = c.args in
     let v = virtqueue_of a.q in (
-      in-line v a.m.now a.head.0 (request (goal.at.returns-in-InLine c).After-walk-walked) (reply (goal.at.returns-in-InLine c).After-walk-walked) _ (ap place_in (sym c.in-InLine.is) ∙ c.place_of.ensures)
+      in-line v a.m.now a.head.0 (request (goal.at.returns-in-InLine c).After-walk-walked)
+          (reply (goal.at.returns-in-InLine c).After-walk-walked) _ (ap place_in (sym c.in-InLine.is) ∙ c.place_of.ensures)
           ∙ arrived-by v a.m.now a.head.0 _ (whole-walk (goal.at.returns-in-InLine c).After-place_of),
       tt,
     )
@@ -62,7 +63,8 @@ returns-in-Nowhere c =
     let a = c.args in
     let v = virtqueue_of a.q in (
       rw c.form_by-form.ensures
-          (at-once v a.m.now a.head.0 (request (goal.at.returns-in-Nowhere c).After-walk-walked) (reply (goal.at.returns-in-Nowhere c).After-walk-walked)
+          (at-once v a.m.now a.head.0 (request (goal.at.returns-in-Nowhere c).After-walk-walked)
+          (reply (goal.at.returns-in-Nowhere c).After-walk-walked)
           (ap place_in (sym c.in-Nowhere.is) ∙ c.place_of.ensures)
           ∙ arrived-by v a.m.now a.head.0 _ (whole-walk (goal.at.returns-in-Nowhere c).After-place_of)),
       judged-fit a.m.now c.walk-walked.new.list c.walk-walked.result.chain _ a.head false c.walk-walked.ensures.1 c.form_by-form.ensures

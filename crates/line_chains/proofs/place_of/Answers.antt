@@ -18,11 +18,20 @@ pub returns-then-not-all_inside : goal.returns-then-not-all_inside
 returns-then-not-all_inside c = rw (sym c.all_inside.ensures ∙ c.if-not-all_inside.true)
 
 pub returns-then-request-lt4 : goal.returns-then-request-lt4
-returns-then-request-lt4 c = rw (lies-inside (goal.at.returns-then-request-lt4 c).Else-not-all_inside, ← c.requires, lt-leb _ _ c.if-request-lt4.true)
+returns-then-request-lt4 c = rw (
+  lies-inside (goal.at.returns-then-request-lt4 c).Else-not-all_inside,
+  ← c.requires,
+  lt-leb _ _ c.if-request-lt4.true,
+)
 
 pub returns-then-id-q : goal.returns-then-id-q
 returns-then-id-q c =
-    rw (lies-inside (goal.at.returns-then-id-q c).Else-not-all_inside, long-enough (goal.at.returns-then-id-q c).After-stream_id-id, ← c.stream_id-id.ensures, lt-leb _ _ c.if-id-q.true)
+    rw (
+      lies-inside (goal.at.returns-then-id-q c).Else-not-all_inside,
+      long-enough (goal.at.returns-then-id-q c).After-stream_id-id,
+      ← c.stream_id-id.ensures,
+      lt-leb _ _ c.if-id-q.true,
+    )
 
 pub returns-then-id-q-2 : goal.returns-then-id-q-2
 returns-then-id-q-2 c =

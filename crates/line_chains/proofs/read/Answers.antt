@@ -37,9 +37,11 @@ returns c =
     let g = c.walk-walked.ensures.1 in
     let v = virtqueue_of a.q in
     let i = c.is_of_line-sound in (
-      of-line v a.m.now a.head.0 (request (goal.at.returns c).After-walk-walked) (reply (goal.at.returns c).After-walk-walked) a.line _ _ i.result c.form_by.result g.request
+      of-line v a.m.now a.head.0 (request (goal.at.returns c).After-walk-walked) (reply (goal.at.returns c).After-walk-walked) a.line _ _
+          i.result c.form_by.result g.request
           g.reply i.ensures c.form_by.ensures
-          ∙ read_by v a.m.now a.head.0 a.line (whole (request (goal.at.returns c).After-walk-walked) (reply (goal.at.returns c).After-walk-walked))
+          ∙ read_by v a.m.now a.head.0 a.line (whole (request (goal.at.returns c).After-walk-walked)
+          (reply (goal.at.returns c).After-walk-walked))
           (walked_whole c.walk-walked.new.list c.walk-walked.result _
           c.in_default.is c.walk-walked.ensures.0),
       judged-fit a.m.now c.walk-walked.new.list c.walk-walked.result.chain _ a.head i.result g c.form_by.ensures

@@ -38,7 +38,8 @@ vacate-requires c =
     let a = c.args in
     let e = between (c.slot_words-size.result * a.line) c.slot_words-size.result in
     let bounds = size_in (direction_of a.q.queue.direction) in
-    rw (e, c.slot_words-size.ensures, slot-long _ _ a.words.now (inside (goal.at.vacate-requires c).After-slot_words-size)) (omega (arith, bounds.0), omega (arith, bounds.1))
+    rw (e, c.slot_words-size.ensures, slot-long _ _ a.words.now (inside (goal.at.vacate-requires c).After-slot_words-size))
+    (omega (arith, bounds.0), omega (arith, bounds.1))
 
 pub returns : goal.returns
 unfolding slot_of
@@ -49,4 +50,5 @@ returns c =
     let l : length c.vacate.new.slot ≡ slot_words (queue_size v) =
     rw (e, c.slot_words-size.ensures) at c.vacate.auto.slot
     ∙ slot-long (slot_words (queue_size v)) a.line a.words.now (inside (goal.at.returns c).After-slot_words-size) in
-    rw (e, c.slot_words-size.ensures) (vacates-by v a.line a.words.now c.vacate.new.slot (inside (goal.at.returns c).After-slot_words-size) l c.vacate.ensures)
+    rw (e, c.slot_words-size.ensures) (vacates-by v a.line a.words.now c.vacate.new.slot
+    (inside (goal.at.returns c).After-slot_words-size) l c.vacate.ensures)

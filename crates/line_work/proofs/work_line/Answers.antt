@@ -91,7 +91,8 @@ loop-left-preserved c =
           c.open_front-at.new.slot c.open_front-at.new.m c.open_front-at.result
           c.work-at.new.m c.work-at.new.host c.work-at.result
           (sym c.reaches.ensures ∙ c.if-not-reaches.false) (e.run l.host) t.run)
-          ∙ sym (times_more (job_step a.job v a.line) l.left (l.left - 1) _ (omega (arith, some_left (goal.at.loop-left-preserved c).After-open_front-at)))
+          ∙ sym (times_more (job_step a.job v a.line) l.left (l.left - 1) _
+          (omega (arith, some_left (goal.at.loop-left-preserved c).After-open_front-at)))
           ∙ l.invariant.0 lines there,
       record { flow = rw (e.long, l.invariant.2, l.invariant.3) at t.fit; line = rw e.aside.ring e.line },
       t.long ∙ e.long ∙ l.invariant.2,

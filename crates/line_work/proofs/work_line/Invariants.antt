@@ -14,7 +14,8 @@ invariant-loop-left l =
     let v = virtqueue_of l.q in
     ((lines : List Line) → l.line < length lines
     → times (job_step l.job v l.line) l.left (lifted lines l.line (station_of l.slot l.at l.m l.host))
-    ≡ times (job_step l.job v l.line) l.initial.left (lifted lines l.line (station_of l.initial.slot l.initial.at l.initial.m l.initial.host)))
+    ≡ times (job_step l.job v l.line) l.initial.left (lifted lines l.line
+    (station_of l.initial.slot l.initial.at l.initial.m l.initial.host)))
     × FitFront (length l.initial.m) (length l.initial.host) l.slot l.at
     × (length l.m ≡ length l.initial.m)
     × (length l.host ≡ length l.initial.host)

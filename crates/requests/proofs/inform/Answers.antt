@@ -57,7 +57,8 @@ returns-in_default-is_listed c =
     (check-failed
     (listed_in (items_in a.l (parts_now a.live a.parts)) c.number32-start.result c.number32-count.result)
     (sym c.is_listed.ensures ∙ c.in_default-is_listed.is)) in
-    rw (sized (goal.at.returns-in_default-is_listed c).In-Passed, absent) (record { bytes = _; same = refl; completes = c.complete-in_default-is_listed.ensures })
+    rw (sized (goal.at.returns-in_default-is_listed c).In-Passed, absent)
+    (record { bytes = _; same = refl; completes = c.complete-in_default-is_listed.ensures })
 
 pub returns-in_default-is_roomy : goal.returns-in_default-is_roomy
 returns-in_default-is_roomy c =
@@ -66,7 +67,11 @@ returns-in_default-is_roomy c =
     rw (← c.number32-count.ensures, ← c.number32-size.ensures)
     (check-failed (roomy c.number32-count.result c.number32-size.result a.room)
     (sym c.is_roomy.ensures ∙ c.in_default-is_roomy.is)) in
-    rw (sized (goal.at.returns-in_default-is_roomy c).In-Passed, there-asked (goal.at.returns-in_default-is_roomy c).In-Passed-is_listed, narrow)
+    rw (
+      sized (goal.at.returns-in_default-is_roomy c).In-Passed,
+      there-asked (goal.at.returns-in_default-is_roomy c).In-Passed-is_listed,
+      narrow,
+    )
     (record { bytes = _; same = refl; completes = c.complete-in_default-is_roomy.ensures })
 
 pub list_items-requires : goal.list_items-requires

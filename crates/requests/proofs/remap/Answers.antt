@@ -52,7 +52,8 @@ bounds-parts-i c = omega (arith, few c)
 pub returns-in_default-is_remappable : goal.returns-in_default-is_remappable
 returns-in_default-is_remappable c =
     let a = c.args in
-    let lacking = tested (goal.at.returns-in_default-is_remappable c).In-There false (check-failed _ (sym c.is_remappable.ensures ∙ c.in_default-is_remappable.is)) in
+    let lacking = tested (goal.at.returns-in_default-is_remappable c).In-There false
+    (check-failed _ (sym c.is_remappable.ensures ∙ c.in_default-is_remappable.is)) in
     rw (remap-refused a.parts c.requires a.request.now (found (goal.at.returns-in_default-is_remappable c).In-There).0 lacking)
     (serves-same _ a.pending a.parts _ _ _ _ c.requires c.answer-in_default-is_remappable.ensures)
 

@@ -41,7 +41,11 @@ overflow_add-remapped c =
 pub overflow_add-remapped-2 : goal.overflow_add-remapped-2
 overflow_add-remapped-2 c =
     let a = c.args in
-    omega (arith, leb-true a.association 15 (associated (goal.at.overflow_add-remapped-2 c).In-Passed), leb-true a.sequence 15 (sequenced (goal.at.overflow_add-remapped-2 c).In-Passed-has_four_bits))
+    omega (
+      arith,
+      leb-true a.association 15 (associated (goal.at.overflow_add-remapped-2 c).In-Passed),
+      leb-true a.sequence 15 (sequenced (goal.at.overflow_add-remapped-2 c).In-Passed-has_four_bits),
+    )
 
 pub returns : goal.returns
 returns c =

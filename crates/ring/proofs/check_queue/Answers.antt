@@ -44,7 +44,11 @@ returns-then-number-eq0 c = rw (eq-eqb _ _ (sym c.number.ensures ∙ c.if-number
 pub returns-then-not-inside : goal.returns-then-not-inside
 unfolding found_of
 returns-then-not-inside c =
-    rw (ne_eqb _ _ (λ h. c.if-number-eq0.false (c.number.ensures ∙ h)), region-judged (goal.at.returns-then-not-inside c).After-inside, c.if-not-inside.true)
+    rw (
+      ne_eqb _ _ (λ h. c.if-number-eq0.false (c.number.ensures ∙ h)),
+      region-judged (goal.at.returns-then-not-inside c).After-inside,
+      c.if-not-inside.true,
+    )
 
 pub returns-then-size-new : goal.returns-then-size-new
 returns-then-size-new c = rw (entries-judged (goal.at.returns-then-size-new c).After-new_entries-new, lt-ltb _ _ c.if-size-new.true)

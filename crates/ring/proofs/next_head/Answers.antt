@@ -13,7 +13,11 @@ number_read c = c.get16-number.ensures
 
 pub returns-then-number-size : goal.returns-then-number-size
 unfolding head_at
-returns-then-number-size c = rw (c.of.ensures, ← (number_read (goal.at.returns-then-number-size c).After-get16-number), lt-ltb _ _ c.if-number-size.true)
+returns-then-number-size c = rw (
+  c.of.ensures,
+  ← (number_read (goal.at.returns-then-number-size c).After-get16-number),
+  lt-ltb _ _ c.if-number-size.true,
+)
 
 pub returns : goal.returns
 unfolding head_at
