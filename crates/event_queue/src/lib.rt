@@ -12,7 +12,8 @@ ghost use Rattle.ring.specs.Rules.{base_of, completion};
 ghost use Rattle.rules.specs.Calls.{event_room, event_bytes, tried, event_run};
 ghost use Rattle.device.specs.Device.{Rest};
 ghost use Rattle.device.specs.Numbers.{event_queue};
-ghost use Rattle.event_queue.specs.Attempts.{holding, room_in, posting_of, attempt_of, halted_by, without_buffer, sent_in, tried_in, sent_of};
+ghost use Rattle.event_queue.specs.Attempts.{holding, room_in, posting_of, attempt_of, halted_by, without_buffer, sent_in};
+ghost use Rattle.event_queue.specs.Attempts.{tried_in, sent_of};
 
 use card::Counters;
 use counts::{DescriptorNumber, PageNumber};
