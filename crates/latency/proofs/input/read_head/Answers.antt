@@ -3,5 +3,8 @@ use Rattle.latency.proofs.input.read_head.Goals as goal
 
 pub returns : goal.returns
 returns c =
-    let bytes = c.slice_known-2-1.given in
-    (c.read_full-count.ensures.0, (λ i. (bytes i).fits, c.open.ensures))
+    record {
+      count_in_bounds = c.read_full-count.ensures.0;
+      bytes = λ i. (c.slice_known-2-1.given i).fits;
+      input_value = c.open.ensures;
+    }

@@ -13,7 +13,7 @@ head c =
     let n = c.read_head-first.result.count in
     let e = c.read_head-first.ensures in
     let after = c.read_head-first.new.buffer in
-    record { read = take n after; bytes = bytes-taken n after e.1.0; long = rw length-take (omega (arith, e.0)); same = e.1.1 }
+    record { read = take n after; bytes = bytes-taken n after e.bytes; long = rw length-take (omega (arith, e.count_in_bounds)); same = e.input_value }
 
 eight : (c : After-read_head-first) → 8 ≤ c.read_head-first.result.count → Head c.read_head-first.result.input 8
 eight c h =

@@ -12,12 +12,11 @@ use Rattle.latency.proofs.input.read_records.Goals.{After-read_block-turn}
 use Rattle.latency.proofs.input.read_records.Goals as goal
 
 -- what one block more leaves
-record Next (c : tie.After-read-block invariant-loop decreases-loop) : Type 0 where
-  behind : Behind c.before.before.before.before.before.before.args.opened c.read-block.result.input
-  whole : 65536 ≤ c.read-block.result.count → length behind.read % 8 ≡ 0
-  buffer : 65536 ≡ length c.read-block.new.1.0
-  bytes : c.read-block.result.input.bytes
-      ≡ (c.before.before.before.before.loop.input.bytes + c.read-block.result.count) % 2 ^ 64
+record Next (c : After-read_block-turn) : Type 0 where
+  behind : Behind c.args.opened c.read_block-turn.result.input
+  whole : 65536 ≤ c.read_block-turn.result.count → length behind.read % 8 ≡ 0
+  buffer : 65536 ≡ length c.read_block-turn.new.buffer
+  bytes : c.read_block-turn.result.input.bytes ≡ (c.loop-input.input.bytes + c.read_block-turn.result.count) % 2 ^ 64
 
 next : (c : After-read_block-turn) → Next c
 next c =
@@ -25,15 +24,15 @@ next c =
     let r = c.read_block-turn.result in
     let e = c.read_block-turn.ensures in
     let after = c.read_block-turn.new.buffer in
-    let long : length (take r.count after) ≡ r.count = rw length-take (omega (arith, e.0)) in
+    let long : length (take r.count after) ≡ r.count = rw length-take (omega (arith, e.count_in_bounds)) in
     let kept : 65536 ≡ length after = l.invariant.0 ∙ sym c.read_block-turn.auto.buffer in
     let more = behind_more _ l.input r.input c.requires l.invariant.1 l.invariant.2
-    c.loop-input-test.true (take r.count after) (bytes-taken r.count after e.1.0) (omega (arith, e.0)) e.1.1 in
+    c.loop-input-test.true (take r.count after) (bytes-taken r.count after e.bytes) (omega (arith, e.count_in_bounds)) e.input_value in
     record {
       behind = more.0;
-      whole = λ h. omega (arith, more.1, e.0, l.invariant.2);
+      whole = λ h. omega (arith, more.1, e.count_in_bounds, l.invariant.2);
       buffer = kept;
-      bytes = ap (λ (x : Input). x.bytes) e.1.1 ∙ rw long;
+      bytes = ap (λ (x : Input). x.bytes) e.input_value ∙ rw long;
     }
 
 pub large_buffer-buffer-requires : goal.large_buffer-buffer-requires
@@ -51,7 +50,11 @@ pub read_block-turn-requires : goal.read_block-turn-requires
 read_block-turn-requires c = omega arith
 
 pub returns-then-turn-lt-BLOCK : goal.returns-then-turn-lt-BLOCK
-returns-then-turn-lt-BLOCK c = ((next (goal.at.returns-then-turn-lt-BLOCK c).After-read_block-turn).behind, inl c.if-turn-lt-BLOCK.true)
+returns-then-turn-lt-BLOCK c =
+    record {
+      behind = (next (goal.at.returns-then-turn-lt-BLOCK c).After-read_block-turn).behind;
+      last = inl c.if-turn-lt-BLOCK.true;
+    }
 
 pub loop-input-smaller : goal.loop-input-smaller
 loop-input-smaller c =
@@ -64,4 +67,4 @@ loop-input-preserved c =
     (n.buffer, n.behind, n.whole c.if-turn-lt-BLOCK.false)
 
 pub returns : goal.returns
-returns c = (c.loop-input.invariant.1, inr c.loop-input-test.false)
+returns c = record { behind = c.loop-input.invariant.1; last = inr c.loop-input-test.false }
