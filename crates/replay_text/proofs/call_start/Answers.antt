@@ -16,14 +16,13 @@ pub with_number-requires : goal.with_number-requires
 with_number-requires c = omega arith
 
 pub returns : goal.returns
-returns c =
-    (
-      rw (
-        c.with_number.ensures.0,
-        c.with_number-counted.ensures.0,
-        c.with_number-answered.ensures.0,
-        c.with_number-numbered.ensures.0,
-        c.empty.ensures.0,
-      ) (simp with-then),
-      omega arith,
-    )
+returns c = (
+  rw (
+    c.with_number.ensures.0,
+    c.with_number-counted.ensures.0,
+    c.with_number-answered.ensures.0,
+    c.with_number-numbered.ensures.0,
+    c.empty.ensures.0,
+  ) (simp with-then),
+  omega arith,
+)
