@@ -1,5 +1,5 @@
 -- Laws of comparing: a turn of the loop, and what the test says of the bytes.
-use mathlib.Core.Path.{◌≡◌, refl, ap}
+use mathlib.Core.Path.{◌≡◌, refl, ap, subst}
 use mathlib.Core.Bool.{true, false, ◌&&◌}
 use mathlib.Core.List.{List, [], ◌∷◌, ◌++◌, append_assoc}
 use Prim.Native.Nat.{ℕ, suc, ◌+◌, ◌≤◌, ◌<◌}
@@ -44,7 +44,10 @@ holds-behind p (x ∷ s) =
     let e : length (p ++ (x ∷ [])) ≡ length p + 1 = length-append p (x ∷ []) in
     let h = holds-behind (p ++ (x ∷ [])) s in
     let a : p ++ (x ∷ []) ++ s ≡ p ++ (x ∷ s) = append_assoc p (x ∷ []) s in
-    rw (get_or-append_seam p x s 0, eq-eqb x x refl, ← e, ← a) h
+    let long : holds (p ++ (x ∷ s)) (length (p ++ (x ∷ []))) s ≡ true =
+    subst (λ (f : List ℕ). holds f (length (p ++ (x ∷ []))) s ≡ true) a h in
+    let next : holds (p ++ (x ∷ s)) (length p + 1) s ≡ true = subst (λ (n : ℕ). holds (p ++ (x ∷ s)) n s ≡ true) e long in
+    rw (get_or-append_seam p x s 0, eq-eqb x x refl) next
 
 pub holds-there : (file : List ℕ) (at : ℕ) (s : List ℕ) → at + length s ≤ length file → holds file at s ≡ true
     → take (length s) (drop at file) ≡ s

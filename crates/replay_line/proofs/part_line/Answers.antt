@@ -25,143 +25,72 @@ behind2 s = cond (begins (bytes "out ") s) (stream_form s 3 false) (behind3 s)
 abbrev behind1 : List ℕ → Line
 behind1 s = cond (begins (bytes "map ") s) (map_form s) (behind2 s)
 
--- the line, from behind a word that it does not begin with
-abbrev text1 : (c : Else-starts_with) → List ℕ
-text1 c = c.args.s.now
-
--- the line, from behind a word that it does not begin with
-abbrev text1_at_Else_starts_with_2 : (c : Else-starts_with-2) → List ℕ
-text1_at_Else_starts_with_2 c = c.args.s.now
-
-abbrev text2 : (c : Else-starts_with-2) → List ℕ
-text2 c = text1_at_Else_starts_with_2 c
-
--- the line, from behind a word that it does not begin with
-abbrev text1_at_Else_starts_with_3 : (c : Else-starts_with-3) → List ℕ
-text1_at_Else_starts_with_3 c = c.args.s.now
-
-abbrev text2_at_Else_starts_with_3 : (c : Else-starts_with-3) → List ℕ
-text2_at_Else_starts_with_3 c = text1_at_Else_starts_with_3 c
-
-abbrev text3 : (c : Else-starts_with-3) → List ℕ
-text3 c = text2_at_Else_starts_with_3 c
-
-abbrev text2_at_Else_starts_with_4 : (c : Else-starts_with-4) → List ℕ
-text2_at_Else_starts_with_4 c = text1_at_Else_starts_with_4 c
-
-abbrev text3_at_Else_starts_with_4 : (c : Else-starts_with-4) → List ℕ
-text3_at_Else_starts_with_4 c = text2_at_Else_starts_with_4 c
-
-abbrev text4 : (c : Else-starts_with-4) → List ℕ
-text4 c = text3_at_Else_starts_with_4 c
-
-abbrev text3_at_Else_starts_with_5 : (c : Else-starts_with-5) → List ℕ
-text3_at_Else_starts_with_5 c = text2_at_Else_starts_with_5 c
-
-abbrev text4_at_Else_starts_with_5 : (c : Else-starts_with-5) → List ℕ
-text4_at_Else_starts_with_5 c = text3_at_Else_starts_with_5 c
-
-abbrev text5 : (c : Else-starts_with-5) → List ℕ
-text5 c = text4_at_Else_starts_with_5 c
-
--- there the line is what the definition says behind the word
-past1 : (c : Else-starts_with) → part_line (text1 c) ≡ behind1 (text1 c)
+-- behind a word that the line does not begin with, the line is what the definition says there
+past1 : (c : Else-starts_with) → part_line c.args.s.now ≡ behind1 c.args.s.now
 unfolding part_line
 past1 c = rw (sym c.starts_with.ensures ∙ c.if-starts_with.false)
 
--- there the line is what the definition says behind the word
-past1_at_Else_starts_with_2 : (c : Else-starts_with-2) → part_line (text1_at_Else_starts_with_2 c) ≡ behind1 (text1_at_Else_starts_with_2 c)
+past2 : (c : Else-starts_with-2) → part_line c.args.s.now ≡ behind2 c.args.s.now
 unfolding part_line
-past1_at_Else_starts_with_2 c = rw (sym c.starts_with.ensures ∙ c.if-starts_with.false)
+past2 c =
+    rw (
+      sym c.starts_with.ensures ∙ c.if-starts_with.false,
+      sym c.starts_with-2.ensures ∙ c.if-starts_with-2.false,
+    )
 
-past2 : (c : Else-starts_with-2) → part_line (text2 c) ≡ behind2 (text2 c)
-past2 c = past1_at_Else_starts_with_2 c ∙ rw (sym c.starts_with-2.ensures ∙ c.if-starts_with-2.false)
-
--- there the line is what the definition says behind the word
-past1_at_Else_starts_with_3 : (c : Else-starts_with-3) → part_line (text1_at_Else_starts_with_3 c) ≡ behind1 (text1_at_Else_starts_with_3 c)
+past3 : (c : Else-starts_with-3) → part_line c.args.s.now ≡ behind3 c.args.s.now
 unfolding part_line
-past1_at_Else_starts_with_3 c = rw (sym c.starts_with.ensures ∙ c.if-starts_with.false)
+past3 c =
+    rw (
+      sym c.starts_with.ensures ∙ c.if-starts_with.false,
+      sym c.starts_with-2.ensures ∙ c.if-starts_with-2.false,
+      sym c.starts_with-3.ensures ∙ c.if-starts_with-3.false,
+    )
 
-past2_at_Else_starts_with_3 : (c : Else-starts_with-3) → part_line (text2_at_Else_starts_with_3 c) ≡ behind2 (text2_at_Else_starts_with_3 c)
-past2_at_Else_starts_with_3 c = past1_at_Else_starts_with_3 c ∙ rw (sym c.starts_with-2.ensures ∙ c.if-starts_with-2.false)
+past4 : (c : Else-starts_with-4) → part_line c.args.s.now ≡ behind4 c.args.s.now
+unfolding part_line
+past4 c =
+    rw (
+      sym c.starts_with.ensures ∙ c.if-starts_with.false,
+      sym c.starts_with-2.ensures ∙ c.if-starts_with-2.false,
+      sym c.starts_with-3.ensures ∙ c.if-starts_with-3.false,
+      sym c.starts_with-4.ensures ∙ c.if-starts_with-4.false,
+    )
 
-past3 : (c : Else-starts_with-3) → part_line (text3 c) ≡ behind3 (text3 c)
-past3 c = past2_at_Else_starts_with_3 c ∙ rw (sym c.starts_with-3.ensures ∙ c.if-starts_with-3.false)
-
-past2_at_Else_starts_with_4 : (c : Else-starts_with-4) → part_line (text2_at_Else_starts_with_4 c) ≡ behind2 (text2_at_Else_starts_with_4 c)
-past2_at_Else_starts_with_4 c = past1_at_Else_starts_with_4 c ∙ rw (sym c.starts_with-2.ensures ∙ c.if-starts_with-2.false)
-
-past3_at_Else_starts_with_4 : (c : Else-starts_with-4) → part_line (text3_at_Else_starts_with_4 c) ≡ behind3 (text3_at_Else_starts_with_4 c)
-past3_at_Else_starts_with_4 c = past2_at_Else_starts_with_4 c ∙ rw (sym c.starts_with-3.ensures ∙ c.if-starts_with-3.false)
-
-past4 : (c : Else-starts_with-4) → part_line (text4 c) ≡ behind4 (text4 c)
-past4 c = past3_at_Else_starts_with_4 c ∙ rw (sym c.starts_with-4.ensures ∙ c.if-starts_with-4.false)
-
-past3_at_Else_starts_with_5 : (c : Else-starts_with-5) → part_line (text3_at_Else_starts_with_5 c) ≡ behind3 (text3_at_Else_starts_with_5 c)
-past3_at_Else_starts_with_5 c = past2_at_Else_starts_with_5 c ∙ rw (sym c.starts_with-3.ensures ∙ c.if-starts_with-3.false)
-
-past4_at_Else_starts_with_5 : (c : Else-starts_with-5) → part_line (text4_at_Else_starts_with_5 c) ≡ behind4 (text4_at_Else_starts_with_5 c)
-past4_at_Else_starts_with_5 c = past3_at_Else_starts_with_5 c ∙ rw (sym c.starts_with-4.ensures ∙ c.if-starts_with-4.false)
-
-past5 : (c : Else-starts_with-5) → part_line (text5 c) ≡ behind5 (text5 c)
-past5 c = past4_at_Else_starts_with_5 c ∙ rw (sym c.starts_with-5.ensures ∙ c.if-starts_with-5.false)
-
-pub starts_with-requires : goal.starts_with-requires
-starts_with-requires c = tt
-
-pub jack_form-requires : goal.jack_form-requires
-jack_form-requires c = tt
+past5 : (c : Else-starts_with-5) → part_line c.args.s.now ≡ behind5 c.args.s.now
+unfolding part_line
+past5 c =
+    rw (
+      sym c.starts_with.ensures ∙ c.if-starts_with.false,
+      sym c.starts_with-2.ensures ∙ c.if-starts_with-2.false,
+      sym c.starts_with-3.ensures ∙ c.if-starts_with-3.false,
+      sym c.starts_with-4.ensures ∙ c.if-starts_with-4.false,
+      sym c.starts_with-5.ensures ∙ c.if-starts_with-5.false,
+    )
 
 pub returns-then-starts_with : goal.returns-then-starts_with
 unfolding part_line
 returns-then-starts_with c = rw (sym c.starts_with.ensures ∙ c.if-starts_with.true) c.jack_form.ensures
-
-pub starts_with-requires-2 : goal.starts_with-requires-2
-starts_with-requires-2 c = tt
-
-pub map_form-requires : goal.map_form-requires
-map_form-requires c = tt
 
 pub returns-then-starts_with-2 : goal.returns-then-starts_with-2
 returns-then-starts_with-2 c =
     rw (past1 (goal.at.returns-then-starts_with-2 c).Else-starts_with, sym c.starts_with-2.ensures ∙ c.if-starts_with-2.true)
     c.map_form.ensures
 
-pub starts_with-requires-3 : goal.starts_with-requires-3
-starts_with-requires-3 c = tt
-
-pub stream_form-requires : goal.stream_form-requires
-stream_form-requires c = tt
-
 pub returns-then-starts_with-3 : goal.returns-then-starts_with-3
 returns-then-starts_with-3 c =
     rw (past2 (goal.at.returns-then-starts_with-3 c).Else-starts_with-2, sym c.starts_with-3.ensures ∙ c.if-starts_with-3.true)
     c.stream_form.ensures
-
-pub starts_with-requires-4 : goal.starts_with-requires-4
-starts_with-requires-4 c = tt
-
-pub stream_form-requires-then-starts_with-4 : goal.stream_form-requires-then-starts_with-4
-stream_form-requires-then-starts_with-4 c = tt
 
 pub returns-then-starts_with-4 : goal.returns-then-starts_with-4
 returns-then-starts_with-4 c =
     rw (past3 (goal.at.returns-then-starts_with-4 c).Else-starts_with-3, sym c.starts_with-4.ensures ∙ c.if-starts_with-4.true)
     c.stream_form-then-starts_with-4.ensures
 
-pub starts_with-requires-5 : goal.starts_with-requires-5
-starts_with-requires-5 c = tt
-
-pub power_form-requires : goal.power_form-requires
-power_form-requires c = tt
-
 pub returns-then-starts_with-5 : goal.returns-then-starts_with-5
 returns-then-starts_with-5 c =
     rw (past4 (goal.at.returns-then-starts_with-5 c).Else-starts_with-4, sym c.starts_with-5.ensures ∙ c.if-starts_with-5.true)
     c.power_form.ensures
-
-pub call_line-requires : goal.call_line-requires
-call_line-requires c = tt
 
 pub returns : goal.returns
 returns c = rw (past5 (goal.at.returns c).Else-starts_with-5) c.call_line.ensures

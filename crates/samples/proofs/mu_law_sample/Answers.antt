@@ -7,5 +7,5 @@ pub returns : goal.returns
 returns c =
     let a = c.args in
     let d = c.decoded in
-    rw (c.bits.ensures, as_read d.result (record { sfits = d.type-inv }), d.ensures)
+    rw (c.bits.ensures, as_read d.result (record { sfits = d.type_inv }), d.ensures)
     (mu-law-bits a.from.now (λ k. (c.shared_slice_known-2-1.given k).fits) a.i)

@@ -12,7 +12,7 @@ use Rattle.wave.proofs.has_numbers.Goals as goal
 
 -- past the test all are in the list and the data is not too long
 fine-at : (c : Else-judge-ne-DONE) → let a = c.args in
-    Known a.format a.channels a.rate × (a.data-len ≤ max_data)
+    Known a.format a.channels a.rate × (a.data_len ≤ max_data)
 fine-at c = judged-fine _ _ _ _ (sym c.judge.ensures ∙ c.if-judge-ne-DONE.false)
 
 pub returns-then-judge-ne-DONE : goal.returns-then-judge-ne-DONE

@@ -11,20 +11,20 @@ use Rattle.wave.proofs.header.Goals as goal
 
 -- past the first test all are in the list and the data is not too long
 fine-at : (c : Else-answer-ne-DONE) → let a = c.args in
-    Known a.format a.channels a.rate × (a.data-len ≤ max_data)
+    Known a.format a.channels a.rate × (a.data_len ≤ max_data)
 fine-at c = judged-fine _ _ _ _ (sym c.judge-answer.ensures ∙ c.if-answer-ne-DONE.false)
 
 pub returns-then-answer-ne-DONE : goal.returns-then-answer-ne-DONE
 returns-then-answer-ne-DONE c =
     let a = c.args in
-    let s = sym (length-header a.format a.channels a.rate a.data-len) in
+    let s = sym (length-header a.format a.channels a.rate a.data_len) in
     rw (c.unwritten.ensures.0, c.unwritten.ensures.1, ← c.judge-answer.ensures)
     (refused _ 44 _ _ s c.if-answer-ne-DONE.true)
 
 pub returns-then-out-lt-HEADER : goal.returns-then-out-lt-HEADER
 returns-then-out-lt-HEADER c =
     let a = c.args in
-    let s = sym (length-header a.format a.channels a.rate a.data-len) in
+    let s = sym (length-header a.format a.channels a.rate a.data_len) in
     rw (c.unwritten-then-out-lt-HEADER.ensures.0, c.unwritten-then-out-lt-HEADER.ensures.1, ← c.judge-answer.ensures)
     (no_room _ 44 _ _ s c.if-answer-ne-DONE.false c.if-out-lt-HEADER.true)
 
@@ -37,6 +37,6 @@ put_header-requires c = ((fine-at (goal.at.put_header-requires c).Else-answer-ne
 pub returns : goal.returns
 returns c =
     let a = c.args in
-    let s = sym (length-header a.format a.channels a.rate a.data-len) in
+    let s = sym (length-header a.format a.channels a.rate a.data_len) in
     rw (c.put_header.ensures, ← c.judge-answer.ensures)
     (done _ 44 _ _ s c.if-answer-ne-DONE.false (omega arith))

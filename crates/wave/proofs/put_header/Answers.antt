@@ -11,4 +11,4 @@ returns c =
       c.format_part-format_bytes.ensures,
       c.put_bytes.ensures,
       c.riff_part-riff.ensures,
-    ) (header-laid c.args.format c.args.channels c.args.rate c.args.data-len c.args.out.now c.requires.2)
+    ) (header-laid c.args.format c.args.channels c.args.rate c.args.data_len c.args.out.now c.requires.2)

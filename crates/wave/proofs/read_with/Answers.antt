@@ -18,15 +18,15 @@ words-held : (c : Else-not-has_words) → has_words c.args.head.now ≡ true
 words-held c = sym c.has_words.ensures ∙ c.if-not-has_words.false
 
 numbers-held : (c : Else-not-has_numbers) → let a = c.args in
-    has_numbers a.format a.channels a.rate a.data-len a.head.now ≡ true
+    has_numbers a.format a.channels a.rate a.data_len a.head.now ≡ true
 numbers-held c = sym c.has_numbers.ensures ∙ c.if-not-has_numbers.false
 
 other_length : (c : Then-file_len-n) → let a = c.args in
-    a.file-len ≡ file_len_of a.data-len → ⊥
+    a.file_len ≡ file_len_of a.data_len → ⊥
 other_length c e = omega (arith, c.if-file_len-n.true, e)
 
 whole-file : (c : Else-file_len-n) → let a = c.args in
-    a.file-len ≡ file_len_of a.data-len
+    a.file_len ≡ file_len_of a.data_len
 whole-file c = omega (arith, c.if-file_len-n.false)
 
 pub returns-then-head-lt-HEADER : goal.returns-then-head-lt-HEADER
