@@ -84,3 +84,14 @@ blocks-told (b ∷ bs) s = rw (blocks-told bs (foldl fed s b), block-append b (j
 pub session-text : (blocks : List (List ℕ)) → blocks_text first_session blocks ≡ printed (joined blocks)
 session-text bs =
     blocks-told bs first_session ∙ told-lines (joined bs) [] first_live 0 ∙ ap (answers first_live 0) (part_none (lines_of (joined bs)))
+
+-- what the bytes leave, and their end, is what is printed for them
+pub session-told : (t : List ℕ) → block_text first_session t ++ rest_text (foldl fed first_session t) ≡ printed t
+session-told t = told-lines t [] first_live 0 ∙ ap (answers first_live 0) (part_none (lines_of t))
+
+-- with one block more
+pub block-more : (a b : List ℕ) → block_text first_session (a ++ b) ≡ block_text first_session a ++ block_text (foldl fed first_session a) b
+block-more a b = block-append a b first_session
+
+pub fed-more : (a b : List ℕ) → foldl fed first_session (a ++ b) ≡ foldl fed (foldl fed first_session a) b
+fed-more a b = foldl-append fed first_session a b

@@ -3,11 +3,12 @@
 // on the card's small state, and its answers are left in a buffer, which `run` writes out.
 #![tactic(auto)]
 
-ghost use Rattle.std.specs.Prelude.{◌≡◌, ◌+◌, ◌*◌, ◌≤◌, length, take};
+ghost use Rattle.std.specs.Prelude.{◌≡◌, ◌+◌, ◌*◌, ◌≤◌, List, ℕ, true, length, take};
+ghost use Rattle.std.specs.Io.KnownBytes.{Appends, Consumes};
 ghost use mathlib.Core.List.{foldl};
 ghost use Rattle.live.specs.Live.{FitLive};
 ghost use Rattle.decimal.specs.Write.{Put};
-ghost use Rattle.access_run.specs.Answers.{panel, act_of, answer_text};
+ghost use Rattle.access_run.specs.Answers.{panel, act_of, answer_text, printed};
 ghost use Rattle.access_run.specs.Session.{first_session, line_ended, line_text, fed, fed_text, block_text, rest_text, taken_text, Takes};
 
 use access_line::{Collected, Line};
@@ -220,9 +221,10 @@ fn take_block<R: Read>(
     out: &mut [u8],
 ) -> Taken
     requires { FitLive session.live × (63 + 63 * length block.old ≤ length out.old) }
-    ensures { Takes (foldl fed session (take result.count block.new)) (taken_text session result.count block.new)
+    ensures told { Takes (foldl fed session (take result.count block.new)) (taken_text session result.count block.new)
         out.old 0 out.new result.session result.end
         × (result.end ≤ length out.new) }
+    ensures read { Consumes (R.remaining input.old) (R.remaining input.new) (take result.count block.new) }
 {
     let count = streams::read_some(input, block);
     if count == 0 {
@@ -242,8 +244,12 @@ fn take_block<R: Read>(
     }
 }
 
-// The whole program: each block is taken, and what it left in `out` is written out.
-pub fn run<R: Read, W: Write>(input: &mut R, output: &mut W) {
+// The whole program: each block is taken, and what it left in `out` is written out. Answers whether all was: then what was written is what
+// the bytes read are answered by.
+pub fn run<R: Read, W: Write>(input: &mut R, output: &mut W) -> bool
+    ensures { result ≡ true → (read : List ℕ) × Consumes (R.remaining input.old) (R.remaining input.new) read
+        × Appends (W.contents output.old) (W.contents output.new) (printed read) }
+{
     let mut session = first_session();
     let mut block = io::buffer();
     let mut out = text_buffer();
@@ -251,11 +257,14 @@ pub fn run<R: Read, W: Write>(input: &mut R, output: &mut W) {
     while 0 < left {
         let taken = take_block(input, session, &mut block, &mut out);
         let end = taken.end;
-        streams::write_all(output, &out[..end]);
+        if !streams::write_all(output, &out[..end]) {
+            return false;
+        }
         if taken.count == 0 {
-            return;
+            return true;
         }
         session = taken.session;
         left -= 1;
     }
+    false
 }

@@ -1,6 +1,6 @@
 // The replay program, on all the vectors.
 #![tactic(auto)]
 
-fn main() {
-    replay_run::run();
+fn main(rt: HostRuntime) {
+    replay_run::run(&mut rt.stdin(), &mut rt.stdout());
 }

@@ -14,8 +14,8 @@ ghost use Rattle.replay_run.specs.Session.{step_world, step_text, session_world,
 
 use card::Card;
 use description::Description;
-use libc::{STDIN_FILENO, STDOUT_FILENO};
 use replay_line::{Call, Line};
+use std::io::{Read, Write};
 
 // The answer to a line that can't be read, and to a call with no card.
 const UNREADABLE: u8 = 99;
@@ -180,7 +180,7 @@ fn first_state(ram: &[u8]) -> State
 
 // The lines of a script, one after the other, on the memory that is lent: each is done, and what it
 // left in `out` is written out. The last state.
-fn session(s: &[u8], ram: &mut [u8], out: &mut [u8]) -> State
+fn session<W: Write>(output: &mut W, s: &[u8], ram: &mut [u8], out: &mut [u8]) -> State
     requires { 131096 ≤ length out.old }
     ensures { (world_of result ram.new ≡ session_world (first_world ram.old) (lines_of s.now))
         × Fit result.card }
@@ -191,7 +191,7 @@ fn session(s: &[u8], ram: &mut [u8], out: &mut [u8]) -> State
         let line_end = lines::line_end(s, at);
         let turn = step(state, &s[at..line_end], ram, out);
         let end = turn.end;
-        io::write_all(STDOUT_FILENO, &out[..end]);
+        streams::write_all(output, &out[..end]);
         state = turn.state;
         at = lines::behind(s, line_end);
     }
@@ -199,15 +199,15 @@ fn session(s: &[u8], ram: &mut [u8], out: &mut [u8]) -> State
 }
 
 // The whole program: a script longer than the limit prints one line and nothing else.
-pub fn run() {
+pub fn run<R: Read, W: Write>(input: &mut R, output: &mut W) {
     let mut script = script_buffer();
     let mut ram = ram_buffer();
     let mut out = text_buffer();
-    let count = io::read_full(STDIN_FILENO, &mut script);
+    let count = streams::read_full(input, &mut script);
     if MAX_SCRIPT < count {
         let end = answer(0, UNREADABLE, &mut out);
-        io::write_all(STDOUT_FILENO, &out[..end]);
+        streams::write_all(output, &out[..end]);
         return;
     }
-    session(&script[..count], &mut ram, &mut out);
+    session(output, &script[..count], &mut ram, &mut out);
 }

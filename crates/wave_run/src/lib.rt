@@ -5,10 +5,8 @@ ghost use Rattle.std.specs.Prelude.{◌≡◌, ◌≤◌, min, length};
 ghost use Rattle.wave.specs.Outcome.{judged};
 
 use argument::Argument;
-use libc::STDOUT_FILENO;
-
-// No file to write to: a pass without one only looks at what it reads.
-const NO_SINK: i32 = -1;
+use std::fs::File;
+use std::io::{Read, Write};
 
 // Wrong arguments, and a file that can't be used.
 const USAGE: u32 = 99;
@@ -75,13 +73,18 @@ fn last_of(block: &[u8], count: usize, was: u8) -> u8 {
 }
 
 // The next block of `source`; its first `left` bytes are written to `sink`.
-fn pass_block(source: i32, sink: i32, left: u64, block: &mut [u8]) -> files::Block
+fn pass_block<R: Read, W: Write>(
+    source: &mut R,
+    sink: &mut W,
+    left: u64,
+    block: &mut [u8],
+) -> files::Block
     ensures { result.count ≤ length block.new }
 {
     let read = files::read_block(source, block);
     let count = read.count;
     let n = among(count, left);
-    let wrote = io::write_all(sink, &block[..n]);
+    let wrote = streams::write_all(sink, &block[..n]);
     files::Block {
         count: count,
         sound: read.sound && wrote,
@@ -97,7 +100,7 @@ fn rest(limit: u64, bytes: u64) -> u64 {
 }
 
 // A pass over `source`, from where it stands to its end; its first `limit` bytes are written to `sink`.
-fn pass(source: i32, sink: i32, limit: u64) -> Passed {
+fn pass<R: Read, W: Write>(source: &mut R, sink: &mut W, limit: u64) -> Passed {
     let mut block = io::large_buffer();
     let mut bytes: u64 = 0;
     let mut last: u8 = 0;
@@ -129,8 +132,13 @@ fn pass(source: i32, sink: i32, limit: u64) -> Passed {
     }
 }
 
+// A pass that only looks at what it reads.
+fn look<R: Read>(source: &mut R) -> Passed {
+    pass(source, &mut std::io::sink(), 0)
+}
+
 // `limit` of the `bytes` bytes of `source` past `start`, written to `sink`.
-fn copy_part(source: i32, start: i64, bytes: u64, sink: i32, limit: u64) -> bool {
+fn copy_part(source: &mut File, start: u64, bytes: u64, sink: &mut File, limit: u64) -> bool {
     if !files::rewind(source, start) {
         return false;
     }
@@ -139,42 +147,53 @@ fn copy_part(source: i32, start: i64, bytes: u64, sink: i32, limit: u64) -> bool
 }
 
 // The file of all of `source`: its header, the bytes, and the pad byte of an odd length.
-fn write_wave(source: i32, bytes: u64, head: &[u8], sink: i32) -> bool {
-    if !io::write_all(sink, head) {
+fn write_wave(source: &mut File, bytes: u64, head: &[u8], sink: &mut File) -> bool {
+    if !streams::write_all(sink, head) {
         return false;
     }
     if !copy_part(source, 0, bytes, sink, bytes) {
         return false;
     }
     let pad = [0u8; 1];
-    io::write_all(sink, &pad[..(bytes % 2) as usize])
+    streams::write_all(sink, &pad[..(bytes % 2) as usize])
 }
 
 // TO made to hold that file.
-fn write_to(to: &[u8], source: i32, bytes: u64, head: &[u8]) -> bool {
+fn write_to(
+    rt: &HostRuntime,
+    to: &[u8],
+    source: &mut File,
+    bytes: u64,
+    head: &[u8],
+) -> bool {
     let mut name = io::buffer();
-    let sink = files::open_sink(to, &mut name);
-    if sink.file < 0 {
+    let Some(mut sink) = files::open_sink(rt, to, &mut name) else {
         return false;
-    }
-    let wrote = write_wave(source, bytes, head, sink.file);
-    files::close_sink(sink, &name, to, wrote)
+    };
+    let wrote = write_wave(source, bytes, head, &mut sink.file);
+    files::close_sink(rt, sink, &name, to, wrote)
 }
 
 // TO made to hold the data of `source`: `len` bytes behind the header.
-fn extract_to(to: &[u8], source: i32, bytes: u64, len: u64) -> bool {
+fn extract_to(rt: &HostRuntime, to: &[u8], source: &mut File, bytes: u64, len: u64) -> bool {
     let mut name = io::buffer();
-    let sink = files::open_sink(to, &mut name);
-    if sink.file < 0 {
+    let Some(mut sink) = files::open_sink(rt, to, &mut name) else {
         return false;
-    }
-    let wrote = copy_part(source, 44, bytes, sink.file, len);
-    files::close_sink(sink, &name, to, wrote)
+    };
+    let wrote = copy_part(source, 44, bytes, &mut sink.file, len);
+    files::close_sink(rt, sink, &name, to, wrote)
 }
 
 // The order past FROM's opening: FROM can't be read, data too long, TO can't be used.
-fn write_open(format: u32, channels: u32, rate: u32, source: i32, to: &[u8]) -> Report {
-    let data = pass(source, NO_SINK, 0);
+fn write_open(
+    rt: &HostRuntime,
+    format: u32,
+    channels: u32,
+    rate: u32,
+    source: &mut File,
+    to: &[u8],
+) -> Report {
+    let data = look(source);
     if !data.sound {
         return refused(UNUSABLE);
     }
@@ -183,7 +202,7 @@ fn write_open(format: u32, channels: u32, rate: u32, source: i32, to: &[u8]) -> 
     if written.answer != wave::DONE {
         return refused(written.answer);
     }
-    if !write_to(to, source, data.bytes, &head) {
+    if !write_to(rt, to, source, data.bytes, &head) {
         return refused(UNUSABLE);
     }
     Report {
@@ -197,25 +216,29 @@ fn write_open(format: u32, channels: u32, rate: u32, source: i32, to: &[u8]) -> 
 }
 
 // The order past the arguments: not in the list, whatever FROM and TO are; then FROM can't be opened.
-fn write_file(format: u32, channels: u32, rate: u32, from: &[u8], to: &[u8]) -> Report
+fn write_file(
+    rt: &HostRuntime,
+    format: u32,
+    channels: u32,
+    rate: u32,
+    from: &[u8],
+    to: &[u8],
+) -> Report
     ensures { (judged format channels rate 0 ≡ 0 → ⊥) → result.answer ≡ judged format channels rate 0 }
 {
     let answer = wave::judge(format, channels, rate, 0);
     if answer != wave::DONE {
         return refused(answer);
     }
-    let source = os::open_read(from);
-    if source < 0 {
+    let Some(mut source) = files::open_read(rt, from) else {
         return refused(UNUSABLE);
-    }
-    let report = write_open(format, channels, rate, source, to);
-    libc::close(source);
-    report
+    };
+    write_open(rt, format, channels, rate, &mut source, to)
 }
 
 // The order past FROM's opening: FROM can't be read, 23 to 27, TO can't be used.
-fn read_open(source: i32, to: &[u8]) -> Report {
-    let file = pass(source, NO_SINK, 0);
+fn read_open(rt: &HostRuntime, source: &mut File, to: &[u8]) -> Report {
+    let file = look(source);
     if !file.sound {
         return refused(UNUSABLE);
     }
@@ -223,12 +246,12 @@ fn read_open(source: i32, to: &[u8]) -> Report {
         return refused(UNUSABLE);
     }
     let mut head = [0u8; 44];
-    let n = io::read_full(source, &mut head);
+    let n = streams::read_full(source, &mut head);
     let found = wave::read_header(&head[..n], file.bytes, file.last);
     if found.answer != wave::DONE {
         return refused(found.answer);
     }
-    if !extract_to(to, source, rest(file.bytes, 44), found.len) {
+    if !extract_to(rt, to, source, rest(file.bytes, 44), found.len) {
         return refused(UNUSABLE);
     }
     Report {
@@ -241,18 +264,15 @@ fn read_open(source: i32, to: &[u8]) -> Report {
     }
 }
 
-fn read_file(from: &[u8], to: &[u8]) -> Report {
-    let source = os::open_read(from);
-    if source < 0 {
+fn read_file(rt: &HostRuntime, from: &[u8], to: &[u8]) -> Report {
+    let Some(mut source) = files::open_read(rt, from) else {
         return refused(UNUSABLE);
-    }
-    let report = read_open(source, to);
-    libc::close(source);
-    report
+    };
+    read_open(rt, &mut source, to)
 }
 
 // The last two arguments, FROM and TO. One that is too long for its buffer is read as empty.
-fn write_named(format: u64, channels: u64, rate: u64) -> Report {
+fn write_named(rt: &HostRuntime, format: u64, channels: u64, rate: u64) -> Report {
     if 4294967295 < format {
         return refused(wave::NOT_LISTED);
     }
@@ -263,10 +283,11 @@ fn write_named(format: u64, channels: u64, rate: u64) -> Report {
         return refused(wave::NOT_LISTED);
     }
     let mut from = io::buffer();
-    let from_len = os::arg(5, &mut from);
+    let from_len = files::argument_word(rt, 5, &mut from);
     let mut to = io::buffer();
-    let to_len = os::arg(6, &mut to);
+    let to_len = files::argument_word(rt, 6, &mut to);
     write_file(
+        rt,
         format as u32,
         channels as u32,
         rate as u32,
@@ -275,68 +296,67 @@ fn write_named(format: u64, channels: u64, rate: u64) -> Report {
     )
 }
 
-fn read_named() -> Report {
+fn read_named(rt: &HostRuntime) -> Report {
     let mut from = io::buffer();
-    let from_len = os::arg(2, &mut from);
+    let from_len = files::argument_word(rt, 2, &mut from);
     let mut to = io::buffer();
-    let to_len = os::arg(3, &mut to);
-    read_file(&from[..from_len], &to[..to_len])
+    let to_len = files::argument_word(rt, 3, &mut to);
+    read_file(rt, &from[..from_len], &to[..to_len])
 }
 
 // FORMAT, CHANNELS and RATE, 1 to 10 digits each.
-fn write_arguments() -> Report {
-    let Argument::Number(format) = files::number_argument(2) else {
+fn write_arguments(rt: &HostRuntime) -> Report {
+    let Argument::Number(format) = files::number_argument(rt, 2) else {
         return refused(USAGE);
     };
-    let Argument::Number(channels) = files::number_argument(3) else {
+    let Argument::Number(channels) = files::number_argument(rt, 3) else {
         return refused(USAGE);
     };
-    let Argument::Number(rate) = files::number_argument(4) else {
+    let Argument::Number(rate) = files::number_argument(rt, 4) else {
         return refused(USAGE);
     };
-    write_named(format, channels, rate)
+    write_named(rt, format, channels, rate)
 }
 
 // Whether the first argument is this word.
-fn is_command(word: &[u8]) -> bool {
+fn is_command(rt: &HostRuntime, word: &[u8]) -> bool {
     let mut first = io::buffer();
-    let n = os::arg(1, &mut first);
+    let n = files::argument_word(rt, 1, &mut first);
     if n != word.len() {
         return false;
     }
     replay_field::starts_with(&first[..n], word)
 }
 
-fn from_arguments() -> Report {
-    let count = os::arg_count();
-    if count == 7 && is_command(b"write") {
-        return write_arguments();
+fn from_arguments(rt: &HostRuntime) -> Report {
+    if files::is_last_argument(rt, 6) && is_command(rt, b"write") {
+        return write_arguments(rt);
     }
-    if count == 4 && is_command(b"read") {
-        return read_named();
+    if files::is_last_argument(rt, 3) && is_command(rt, b"read") {
+        return read_named(rt);
     }
     refused(USAGE)
 }
 
-fn print_number(n: u64) {
-    io::write_all(STDOUT_FILENO, b" ");
-    io::print_decimal(STDOUT_FILENO, n);
+fn print_number<W: Write>(output: &mut W, n: u64) {
+    streams::write_all(output, b" ");
+    streams::write_number(output, n);
 }
 
-fn print(report: Report) {
-    io::print_decimal(STDOUT_FILENO, report.answer as u64);
+fn print<W: Write>(output: &mut W, report: Report) {
+    streams::write_number(output, report.answer as u64);
     if report.read {
-        print_number(report.format as u64);
-        print_number(report.channels as u64);
-        print_number(report.rate as u64);
+        print_number(output, report.format as u64);
+        print_number(output, report.channels as u64);
+        print_number(output, report.rate as u64);
     }
     if report.answer == wave::DONE {
-        print_number(report.len);
+        print_number(output, report.len);
     }
-    io::write_all(STDOUT_FILENO, b"\n");
+    streams::write_all(output, b"\n");
 }
 
 // The whole program.
-pub fn run() {
-    print(from_arguments());
+pub fn run(rt: &HostRuntime) {
+    print(&mut rt.stdout(), from_arguments(rt));
 }

@@ -1,6 +1,6 @@
 // WAVE files as a program: wave write FORMAT CHANNELS RATE FROM TO, wave read FROM TO.
 #![tactic(auto)]
 
-fn main() {
-    wave_run::run();
+fn main(rt: HostRuntime) {
+    wave_run::run(&rt);
 }

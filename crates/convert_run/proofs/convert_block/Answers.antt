@@ -2,7 +2,7 @@
 use Prim.Native.Nat.{◌*◌, ◌/◌, ◌≤◌}
 use native.Mathlib.Omega.{arith}
 use lib.ListN.{length}
-use Rattle.convert_run.proofs.Blocks.{none_made, made-room, all_made}
+use Rattle.convert_run.proofs.Blocks.{none_made, some_bytes, made-room, all_made}
 use Rattle.convert_run.proofs.convert_block.Goals.{After-sample_bytes-bytes}
 use Rattle.convert_run.proofs.convert_block.Goals as goal
 
@@ -15,6 +15,10 @@ room_at c =
 
 pub returns-then-answer-ne-DONE : goal.returns-then-answer-ne-DONE
 returns-then-answer-ne-DONE c = (none_made _ _ _ _ _ c.wekshurag_to_s16-answer.ensures c.if-answer-ne-DONE.true, omega arith)
+
+pub nonzero_div-result : goal.nonzero_div-result
+nonzero_div-result c =
+    some_bytes _ _ _ _ _ c.wekshurag_to_s16-answer.ensures c.if-answer-ne-DONE.false _ c.sample_bytes-bytes.ensures
 
 pub overflow_mul-result : goal.overflow_mul-result
 overflow_mul-result c = omega (arith, room_at c)
