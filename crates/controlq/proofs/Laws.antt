@@ -1,5 +1,7 @@
 -- What a completion on the control queue leaves of the card, and the control call by its tests.
-use Rattle.std.proofs.Common.{◌≡◌, ℕ, zero, suc, ◌+◌, ◌<◌, ◌≤◌, Bool, true, false, cond, ◌&&◌, eqb, ltb, leb, List, [], length, get_or, take, set, sym, refl, ap, ◌∙◌, arith, length-set, length-take, get_or-set_other, get_or-set_same, ext_get_or, ltb-false, ltb-true}
+use Rattle.std.proofs.Common.{◌≡◌, ℕ, zero, suc, ◌+◌, ◌<◌, ◌≤◌, Bool, true, false, cond, ◌&&◌, eqb, ltb, leb, List, [], length, get_or}
+use Rattle.std.proofs.Common.{take, set, sym, refl, ap, ◌∙◌, arith, length-set, length-take, get_or-set_other, get_or-set_same}
+use Rattle.std.proofs.Common.{ext_get_or, ltb-false, ltb-true}
 use native.Mathlib.Decide.{ℕ_discrete}
 use lib.Seq.{set_out, take-set-lt}
 use Rattle.control.specs.Control.{Reads}
@@ -66,7 +68,8 @@ use Rattle.controlq.specs.declared.Answered.{Answered}
 use Rattle.controlq.specs.declared.Ending.TheVariants.{Broke, Completed}
 use Rattle.controlq.specs.declared.Side.TheVariants.{Usable, Unusable}
 use Rattle.controlq.specs.declared.Turn.{Turn}
-use Rattle.controlq.specs.Control.{side_of, served_chain, pending_of, pending_in, ends_on, walked_at, next_order, taken_live, finish_of, Ends}
+use Rattle.controlq.specs.Control.{side_of, served_chain, pending_of, pending_in, ends_on, walked_at, next_order, taken_live, finish_of}
+use Rattle.controlq.specs.Control.{Ends}
 use Rattle.controlq.specs.Control.{served_on, ordered_on, Comes, Turns, EmptiesFor, marked_of, marked_live, released_live}
 
 -- ---- the card
@@ -255,7 +258,8 @@ module _ (c : Card) (head : DescriptorNumber) (reply : List Range) (d : Directio
   end-broken cause = refl
 
   end-replied : (n : Card) → device_of n ≡ marked_of id (device_of signalled_card)
-      → ends_on c (released_on d id (pending_of c head reply) m Stop.Going signal) ≡ ends_on n (replied (pending_of n head reply) (status s_ok) m)
+      → ends_on c (released_on d id (pending_of c head reply) m Stop.Going signal)
+      ≡ ends_on n (replied (pending_of n head reply) (status s_ok) m)
   unfolding rest_of device_of
   end-replied n e =
       ap (λ (b : Device Queue). step_by (replied (record { rest = b.rest; head = head.0; reply = reply }) (status s_ok) m) b) (sym e)

@@ -157,7 +157,8 @@ Finds l m (Next.At head) =
 -- .. and the walk of a message that is taken
 abbrev pub Meets : Live → DescriptorNumber → List ℕ → List ℕ → List ℕ → Met → Type 0
 Meets l head m ws m' (Met.Over posted) =
-    (p : Parts) (pw cw : List ℕ) → Fits l p pw cw → Ends (walked_step (card_in l p pw cw) head m) (finish_of (Completed posted) l p) pw cw m'
+    (p : Parts) (pw cw : List ℕ) → Fits l p pw cw → Ends (walked_step (card_in l p pw cw) head m) (finish_of (Completed posted) l p) pw cw
+    m'
 Meets l head m ws m' (Met.Whole request reply) =
     (m' ≡ m) × Sound ws request
     × ((p : Parts) (pw cw : List ℕ)

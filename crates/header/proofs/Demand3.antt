@@ -80,7 +80,8 @@ module _ (l n : Live) (p : Parts) (pw cw m : List ℕ) (f : Fits l p pw cw) wher
 
   pub write-does : (offset width v answer rung : ℕ)
       → ◌≡◌ {A = LiveWrite} (record { answer = answer; rung = rung; live = n }) (write_live l offset width v)
-      → Does before (record { asked = WriteRegister offset width v; lent = m }) (told_all (plain answer) 0 rung 0 [] [] m) (card_in n p pw cw)
+      → Does before (record { asked = WriteRegister offset width v; lent = m }) (told_all (plain answer) 0 rung 0 [] [] m)
+      (card_in n p pw cw)
       × Fits n p pw cw
   write-does offset width v answer rung e =
       let k : ◌≡◌ {A = WriteAnswer} (write_card before offset width v) (record { answer = answer; rung = rung; card = card_in n p pw cw }) =

@@ -63,7 +63,8 @@ module _ (v : Virtqueue) (i : ℕ) (there : i < v.streams) where
     ran-kept : (job : Job) (m host : List ℕ) → Kept 0 (ran_of job v i q m host)
     unfolding transferred transfer_run emptied release_run
     ran-kept Transfer m host =
-        found-kept (transfer_run (card v) v i) (begun q m host) (λ n. line_kept (transfer_step (card v) v i) transfer-kept n (begun q m host))
+        found-kept (transfer_run (card v) v i) (begun q m host)
+        (λ n. line_kept (transfer_step (card v) v i) transfer-kept n (begun q m host))
         (found (card v) v q m) (room-found v q m) (begun_kept m host)
     ran-kept Release m host =
         let k = found-kept (release_run (card v) v i) (begun q m [])

@@ -1,5 +1,6 @@
 -- In all lines together are as many messages as were taken and not completed: the rules keep it.
-use Rattle.std.proofs.Common.{◌≡◌, ℕ, zero, suc, ◌+◌, ◌-◌, ◌%◌, ◌<◌, ◌≤◌, eqb, ltb, List, [], ◌∷◌, ◌++◌, length, get_or, take, drop, set, refl, ◌∙◌, arith, length-append, length-set, get_or-set_same, ltb-false}
+use Rattle.std.proofs.Common.{◌≡◌, ℕ, zero, suc, ◌+◌, ◌-◌, ◌%◌, ◌<◌, ◌≤◌, eqb, ltb, List, [], ◌∷◌, ◌++◌, length, get_or, take, drop, set}
+use Rattle.std.proofs.Common.{refl, ◌∙◌, arith, length-append, length-set, get_or-set_same, ltb-false}
 use mathlib.Core.Option.{Option, none, some}
 use Rattle.registers.proofs.Keeps.{by_cond}
 use Rattle.ring.specs.Layout.{end_at}
@@ -127,7 +128,8 @@ module _ (v : Virtqueue) where
       by_cond (Room q) (eqb v.page.0 0) (λ e. tt)
       (λ e.
       by_cond (Room q) (ltb (length m) (base_of v.page + end_at (queue_size v))) (λ e. tt)
-      (λ e. by_cond (Room q) (ltb (queue_size v) (new + total q)) (λ e. tt) (λ e. omega (arith, ltb-false (queue_size v) (new + total q) e))))
+      (λ e. by_cond (Room q) (ltb (queue_size v) (new + total q)) (λ e. tt)
+      (λ e. omega (arith, ltb-false (queue_size v) (new + total q) e))))
 
   -- ---- the line of one stream
 

@@ -1,5 +1,6 @@
 -- The messages of all lines have heads of the table, and something of each message in work waits: the rules keep it.
-use Rattle.std.proofs.Common.{◌≡◌, ℕ, ◌+◌, ◌<◌, false, ltb, List, [], ◌∷◌, ◌++◌, length, get_or, take, drop, set, sym, refl, ap, ◌∙◌, length-set, get_or-set_same, drop-drop, set-set, ltb-true}
+use Rattle.std.proofs.Common.{◌≡◌, ℕ, ◌+◌, ◌<◌, false, ltb, List, [], ◌∷◌, ◌++◌, length, get_or, take, drop, set, sym, refl, ap, ◌∙◌}
+use Rattle.std.proofs.Common.{length-set, get_or-set_same, drop-drop, set-set, ltb-true}
 use mathlib.Core.Option.{Option, none, some}
 use Rattle.counts.specs.declared.PageNumber.{PageNumber}
 use Rattle.memory.specs.Bytes.{le}

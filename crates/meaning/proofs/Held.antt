@@ -26,7 +26,12 @@ rest_holding (suc q) g v r = with_registers g (with_event v r)
 
 module _ (c : Card) (four : length c.queues ≡ 4) (g : Registers) (v : Counters) where
   pub held-device : (q : ℕ) → q < 2
-      → device_of (holding q g v c) ≡ record { rest = rest_holding q g v (rest_of c); play = (device_of c).play; capture = (device_of c).capture }
+      → device_of (holding q g v c) ≡ record {
+        rest = rest_holding q g v (rest_of c);
+        play = (device_of c).play;
+        capture =
+            (device_of c).capture;
+      }
   unfolding rest_of device_of
   held-device zero h =
       rw (

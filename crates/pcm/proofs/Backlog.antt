@@ -47,7 +47,8 @@ module _ (id backlog : ℕ) (c : Card) where
         set_out (take c.parts.stream_count c.parts.streams) id _ (rw length-take (omega arith)),
       )
 
-  pub remembered-device : (b : Bool) → device_of (cond b (with_backlog_at id backlog c) c) ≡ resting (remembered_if b id backlog (rest_of c))
+  pub remembered-device : (b : Bool) → device_of (cond b (with_backlog_at id backlog c) c)
+      ≡ resting (remembered_if b id backlog (rest_of c))
   unfolding device_of
   remembered-device true = remembers (ltb id c.parts.stream_count) refl
   remembered-device false = refl

@@ -12,7 +12,8 @@ use Rattle.rules.specs.Calls.{Told}
 use Rattle.replay_call.specs.Shown.{irq_of, text_for, shown_for, left_by, left}
 
 -- the host buffer is no part of what a line prints but for its checksum, which is told
-any-host : (q : Request) (h g : List ℕ) (line irq : ℕ) (t : Told) → text_for (request_of q h) line irq t ≡ text_for (request_of q g) line irq t
+any-host : (q : Request) (h g : List ℕ) (line irq : ℕ) (t : Told) → text_for (request_of q h) line irq t
+    ≡ text_for (request_of q g) line irq t
 any-host (Read offset width) h g line irq t = refl
 any-host (Write offset width v) h g line irq t = refl
 any-host Control h g line irq t = refl

@@ -13,7 +13,8 @@ stream n = record { nid = n; features = 0; formats = 32; rates = 128; channels_m
 
 -- in 1, out 2, in 3, out 4, out 5
 abbrev mixed : Description
-mixed = with_output (with_output (with_input (with_output (with_input nothing_described (stream 1)) (stream 2)) (stream 3)) (stream 4)) (stream 5)
+mixed = with_output (with_output (with_input (with_output (with_input nothing_described (stream 1)) (stream 2)) (stream 3)) (stream 4))
+    (stream 5)
 
 pub outputs-first :
     (mixed.streams ≡ stream 2 ∷ stream 4 ∷ stream 5 ∷ stream 1 ∷ stream 3 ∷ no_stream ∷ [])

@@ -122,7 +122,8 @@ store_form s = field s 1 max64 (λ address a. hex s a (λ place count. Lent (Sto
 
 -- f ADDR LEN BYTE
 unfoldable pub fill_form : List ℕ → Line
-fill_form s = pair s 1 max64 (λ address count a. field s a max8 (λ byte end. at_end s end (Lent (Fill (record { 0 = address }) count byte))))
+fill_form s = pair s 1 max64 (λ address count a. field s a max8
+    (λ byte end. at_end s end (Lent (Fill (record { 0 = address }) count byte))))
 
 -- ram LEN: "at most 1,048,576"
 unfoldable pub ram_form : List ℕ → Line

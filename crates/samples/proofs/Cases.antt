@@ -1,5 +1,6 @@
 -- Order 7's numbers, with those on each side of them, as one statement over the definitions (`cases`); and that `floor_div` is the floor.
-use Rattle.std.proofs.Common.{◌≡◌, ℕ, suc, ◌+◌, ◌-◌, ◌*◌, ◌/◌, ◌%◌, ◌<◌, [], ◌∷◌, ℤ, pos, negsuc, ◌+ℤ◌, ◌*ℤ◌, neg_ℤ, refl, ap, mod-lt, suc-mul, div-add-mod', arith}
+use Rattle.std.proofs.Common.{◌≡◌, ℕ, suc, ◌+◌, ◌-◌, ◌*◌, ◌/◌, ◌%◌, ◌<◌, [], ◌∷◌, ℤ, pos, negsuc, ◌+ℤ◌, ◌*ℤ◌, neg_ℤ, refl, ap, mod-lt}
+use Rattle.std.proofs.Common.{suc-mul, div-add-mod', arith}
 use Rattle.memory.specs.Bytes.{le, put}
 use Rattle.samples.specs.Values.{signed, centred, value, floor_div, scaled, bits}
 use Rattle.samples.specs.MuLaw.{mu_law}

@@ -1,5 +1,6 @@
 -- An i16 raised by 65,536 is positive, and modulo 65,536 it is the number of its 16 bits.
-use Rattle.std.proofs.Common.{◌≡◌, ℕ, suc, ◌+◌, ◌-◌, ◌%◌, ◌<◌, T, ℤ, pos, negsuc, ◌+ℤ◌, nat_abs, refl, ◌∙◌, arith, to_z-of_z, w16, w32, Fits, SFits, to_z, of_z}
+use Rattle.std.proofs.Common.{◌≡◌, ℕ, suc, ◌+◌, ◌-◌, ◌%◌, ◌<◌, T, ℤ, pos, negsuc, ◌+ℤ◌, nat_abs, refl, ◌∙◌, arith, to_z-of_z, w16, w32}
+use Rattle.std.proofs.Common.{Fits, SFits, to_z, of_z}
 use lib.Signed.{non_neg}
 use mir.Facts.{sfits_widen}
 use Rattle.samples.specs.Values.{bits}

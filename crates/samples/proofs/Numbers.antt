@@ -1,5 +1,7 @@
 -- Differences of naturals as integers, and two's complement in 16 bits read back.
-use Rattle.std.proofs.Common.{◌≡◌, ℕ, suc, ◌+◌, ◌-◌, ◌*◌, ◌/◌, ◌%◌, ◌<◌, ◌≤◌, Bool, true, false, ltb, ◌⊎◌, pos, negsuc, ◌*ℤ◌, sym, refl, inl, inr, ⊎_elim, mod-lt, div-lt_iff_lt-mul, add-mul, div-add-mod', le-div_iff_mul-le, arith, ltb-false, ltb-true, le-ltb, lt-ltb}
+use Rattle.std.proofs.Common.{◌≡◌, ℕ, suc, ◌+◌, ◌-◌, ◌*◌, ◌/◌, ◌%◌, ◌<◌, ◌≤◌, Bool, true, false, ltb, ◌⊎◌, pos, negsuc, ◌*ℤ◌, sym, refl}
+use Rattle.std.proofs.Common.{inl, inr, ⊎_elim, mod-lt, div-lt_iff_lt-mul, add-mul, div-add-mod', le-div_iff_mul-le, arith, ltb-false}
+use Rattle.std.proofs.Common.{ltb-true, le-ltb, lt-ltb}
 use lib.Arith.{digits_div}
 use lib.IntN.{sub_ℕ}
 use Rattle.samples.specs.Values.{signed, floor_div, bits}

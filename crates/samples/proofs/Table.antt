@@ -1,6 +1,7 @@
 -- The mu-law table's rule, proved once over the whole table: a test that is computed at each entry, and a law that turns it into the rule
 -- at any one.
-use Rattle.std.proofs.Common.{◌≡◌, ℕ, zero, suc, ◌+◌, ◌<◌, Bool, true, false, T, eqb, ◌⊎◌, List, [], ◌∷◌, length, get_or, ℤ, pos, negsuc, sym, ap, ◌∙◌, ⊎_elim, le_of_suc-le-suc, add-zero, add-suc, suc-add, eq-or-lt_of_le, zero-add, arith, eqb→eq}
+use Rattle.std.proofs.Common.{◌≡◌, ℕ, zero, suc, ◌+◌, ◌<◌, Bool, true, false, T, eqb, ◌⊎◌, List, [], ◌∷◌, length, get_or, ℤ, pos, negsuc}
+use Rattle.std.proofs.Common.{sym, ap, ◌∙◌, ⊎_elim, le_of_suc-le-suc, add-zero, add-suc, suc-add, eq-or-lt_of_le, zero-add, arith, eqb→eq}
 use Rattle.samples.specs.MuLaw.{mu_law, MuLawTable}
 
 abbrev both : Bool → Bool → Bool
@@ -49,7 +50,8 @@ right-from : (zs : List ℤ) (i k : ℕ) → T (right i zs) → k < length zs �
 right-from [] i k t h = absurd (omega arith)
 right-from (z ∷ zs) i zero t h = rw (add-zero i) (same-eq z (mu_law i) (both_left (same z (mu_law i)) (right (suc i) zs) t))
 right-from (z ∷ zs) i (suc k) t h =
-    right-from zs (suc i) k (both_right (same z (mu_law i)) (right (suc i) zs) t) (omega arith) ∙ ap mu_law (suc-add i k ∙ sym (add-suc i k))
+    right-from zs (suc i) k (both_right (same z (mu_law i)) (right (suc i) zs) t) (omega arith)
+    ∙ ap mu_law (suc-add i k ∙ sym (add-suc i k))
 
 pub table-right : (zs : List ℤ) → T (right 0 zs) → length zs ≡ 256 → MuLawTable zs
 table-right zs t e = record {

@@ -37,7 +37,8 @@ use Rattle.stream.proofs.Settled.{settled-queue, settled-fit}
 -- ---- a job, by what the code knows of the queue
 
 module _ (d : Direction) (latency : ℕ) (l : Live) (ws ws₁ : List ℕ) (q : LineQueue) (c : Counters) (dropped : Bool)
-    (laid : q ≡ line_queue_in l d latency) (counts : c ≡ counters_live (direction_of d) l) (drops : dropped ≡ dropped_live (direction_of d) l)
+    (laid : q ≡ line_queue_in l d latency) (counts : c ≡ counters_live (direction_of d) l)
+    (drops : dropped ≡ dropped_live (direction_of d) l)
     (s : Settles (chains.virtqueue_of q) dropped ws ws₁) where
   settles : Settles (virtqueue_in l d latency) (dropped_live (direction_of d) l) ws ws₁
   settles = rw (laid, drops) at s

@@ -1,5 +1,6 @@
 -- What writing and reading answer and leave, for all inputs.
-use Rattle.std.specs.Prelude.{List, [], ◌∷◌, ◌++◌, Bool, true, cond, ◌&&◌, ◌||◌, ℕ, ◌+◌, ◌-◌, ◌%◌, eqb, leb, ltb, length, get_or, set, take, drop}
+use Rattle.std.specs.Prelude.{List, [], ◌∷◌, ◌++◌, Bool, true, cond, ◌&&◌, ◌||◌, ℕ, ◌+◌, ◌-◌, ◌%◌, eqb, leb, ltb, length, get_or, set}
+use Rattle.std.specs.Prelude.{take, drop}
 use Rattle.memory.specs.Bytes.{le}
 use Rattle.wave.specs.Lists.{known, format_with, rate_with}
 use Rattle.wave.specs.File.{RIFF, WAVE, «fmt», «data», header_of, file_of, file_len_of}

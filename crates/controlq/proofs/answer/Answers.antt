@@ -78,7 +78,8 @@ inform-requires c =
 pub returns-in-Refused : goal.returns-in-Refused
 returns-in-Refused c pw cw f =
     let a = c.args in
-    let i = told (goal.at.returns-in-Refused c).After-read _ c.in-Refused.is (streams_in a.parts) (shown (goal.at.returns-in-Refused c).Start) a.message.reply.bytes in
+    let i = told (goal.at.returns-in-Refused c).After-read _ c.in-Refused.is (streams_in a.parts)
+    (shown (goal.at.returns-in-Refused c).Start) a.message.reply.bytes in
     rw i.same
     (replied-ends a.live a.parts pw cw f a.message.head a.list.now a.message.reply i.bytes a.m.now _ _
     i.completes)
@@ -99,4 +100,5 @@ returns-in-Informs c pw cw f =
 
 pub returns-in-Changes : goal.returns-in-Changes
 returns-in-Changes c pw cw f =
-    left (goal.at.returns-in-Changes c).After-read c.in-Changes.asked pw cw (told (goal.at.returns-in-Changes c).After-read _ c.in-Changes.is)
+    left (goal.at.returns-in-Changes c).After-read c.in-Changes.asked pw cw
+    (told (goal.at.returns-in-Changes c).After-read _ c.in-Changes.is)

@@ -48,7 +48,8 @@ to-next : (c : After-next_head) (p : Parts) (pw cw : List ℕ) → let a = c.arg
     ≡ ordered_on (card_in a.live p pw cw) (next_order (card_in a.live p pw cw) a.m.now) a.m.now
 to-next c p pw cw f =
     let a = c.args in
-    control-next (card_in a.live p pw cw) a.m.now (long_at_After_next_head c) (lives_at_After_next_head c) _ (sym (found_at_After_next_head c p pw cw) ∙ c.in-New.is)
+    control-next (card_in a.live p pw cw) a.m.now (long_at_After_next_head c) (lives_at_After_next_head c) _
+    (sym (found_at_After_next_head c p pw cw) ∙ c.in-New.is)
     c.if-new-eq0.false
 
 pub returns-then-m-live : goal.returns-then-m-live
@@ -64,25 +65,36 @@ returns-then-not-is_live c p pw cw f =
 
 pub returns-then-new-eq0 : goal.returns-then-new-eq0
 returns-then-new-eq0 c p pw cw f =
-    let a = c.args in
-    (control-none (card_in a.live p pw cw) a.m.now (long (goal.at.returns-then-new-eq0 c).After-check_queue) (lives (goal.at.returns-then-new-eq0 c).After-check_queue) _ (sym (found (goal.at.returns-then-new-eq0 c).After-check_queue p pw cw) ∙ c.in-New.is) c.if-new-eq0.true, f)
+    let a = c.args in (
+      control-none (card_in a.live p pw cw) a.m.now (long (goal.at.returns-then-new-eq0 c).After-check_queue)
+          (lives (goal.at.returns-then-new-eq0 c).After-check_queue) _
+          (sym (found (goal.at.returns-then-new-eq0 c).After-check_queue p pw cw) ∙ c.in-New.is) c.if-new-eq0.true,
+      f,
+    )
 
 pub returns-in-Idle : goal.returns-in-Idle
 returns-in-Idle c p pw cw f =
-    let a = c.args in
-    (control-idle (card_in a.live p pw cw) a.m.now (long (goal.at.returns-in-Idle c).After-check_queue) (lives (goal.at.returns-in-Idle c).After-check_queue) (sym (found (goal.at.returns-in-Idle c).After-check_queue p pw cw) ∙ c.in-Idle.is), f)
+    let a = c.args in (
+      control-idle (card_in a.live p pw cw) a.m.now (long (goal.at.returns-in-Idle c).After-check_queue)
+          (lives (goal.at.returns-in-Idle c).After-check_queue) (sym (found (goal.at.returns-in-Idle c).After-check_queue p pw cw)
+          ∙ c.in-Idle.is),
+      f,
+    )
 
 pub returns-in-Broken : goal.returns-in-Broken
 returns-in-Broken c p pw cw f =
     let a = c.args in (
-      control-broken (card_in a.live p pw cw) a.m.now (long (goal.at.returns-in-Broken c).After-check_queue) (lives (goal.at.returns-in-Broken c).After-check_queue) _ (sym (found (goal.at.returns-in-Broken c).After-check_queue p pw cw) ∙ c.in-Broken.is),
+      control-broken (card_in a.live p pw cw) a.m.now (long (goal.at.returns-in-Broken c).After-check_queue)
+          (lives (goal.at.returns-in-Broken c).After-check_queue) _ (sym (found (goal.at.returns-in-Broken c).After-check_queue p pw cw)
+          ∙ c.in-Broken.is),
       broken-fits a.live p pw cw f,
     )
 
 pub returns-in-Broken-next_head : goal.returns-in-Broken-next_head
 returns-in-Broken-next_head c p pw cw f =
     let a = c.args in
-    let n = next-broken a.live p pw cw f a.m.now _ (sym (head-found (goal.at.returns-in-Broken-next_head c).After-next_head p pw cw f) ∙ c.in-Broken-next_head.is) in
+    let n = next-broken a.live p pw cw f a.m.now _ (sym (head-found (goal.at.returns-in-Broken-next_head c).After-next_head p pw cw f)
+    ∙ c.in-Broken-next_head.is) in
     (to-next (goal.at.returns-in-Broken-next_head c).After-next_head p pw cw f ∙ n.0, n.1)
 
 pub returns-in-At : goal.returns-in-At
@@ -90,5 +102,6 @@ returns-in-At c =
     let a = c.args in (
       c.if-m-live.false,
       λ p pw cw f.
-          to-next (goal.at.returns-in-At c).After-next_head p pw cw f ∙ next-at a.live p pw cw f a.m.now _ (sym (head-found (goal.at.returns-in-At c).After-next_head p pw cw f) ∙ c.in-At.is),
+          to-next (goal.at.returns-in-At c).After-next_head p pw cw f
+          ∙ next-at a.live p pw cw f a.m.now _ (sym (head-found (goal.at.returns-in-At c).After-next_head p pw cw f) ∙ c.in-At.is),
     )

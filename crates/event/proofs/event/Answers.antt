@@ -44,7 +44,12 @@ returns-then-not-is_allowed c pw cw f =
     let no = sym c.is_allowed.ensures ∙ c.if-not-is_allowed.true in
     rw c.refused-then-not-is_allowed.ensures (
       event-refused (card_in a.live a.parts pw cw) a.code a.«data» a.m.now 7
-          (rw (long (goal.at.returns-then-not-is_allowed c).Else-not-is_live, lives (goal.at.returns-then-not-is_allowed c).Else-not-is_live, rest_in_lem a.live a.parts pw cw, no)),
+          (rw (
+            long (goal.at.returns-then-not-is_allowed c).Else-not-is_live,
+            lives (goal.at.returns-then-not-is_allowed c).Else-not-is_live,
+            rest_in_lem a.live a.parts pw cw,
+            no,
+          )),
       f,
     )
 
@@ -57,5 +62,7 @@ pub returns : goal.returns
 returns c pw cw f =
     let a = c.args in
     rw (c.record_state.ensures, c.with_attempt-after.ensures)
-    (told_in a.live a.parts pw cw f a.code a.«data» a.m.now c.send-attempt.new.m c.send-attempt.result (long (goal.at.returns c).Else-not-is_live) (lives (goal.at.returns c).Else-not-is_live)
-    (rw (rest_in_lem a.live a.parts pw cw) (allowed (goal.at.returns c).Else-not-is_allowed)) c.send-attempt.ensures.0 c.send-attempt.ensures.1)
+    (told_in a.live a.parts pw cw f a.code a.«data» a.m.now c.send-attempt.new.m c.send-attempt.result
+    (long (goal.at.returns c).Else-not-is_live) (lives (goal.at.returns c).Else-not-is_live)
+    (rw (rest_in_lem a.live a.parts pw cw) (allowed (goal.at.returns c).Else-not-is_allowed)) c.send-attempt.ensures.0
+    c.send-attempt.ensures.1)

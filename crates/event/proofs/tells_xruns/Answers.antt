@@ -38,15 +38,29 @@ pub bounds-states-at : goal.bounds-states-at
 bounds-states-at c = below (goal.at.bounds-states-at c).Else-config-stream
 
 pub returns-then-states-at-ne-RUNNING : goal.returns-then-states-at-ne-RUNNING
-returns-then-states-at-ne-RUNNING c = rw (counted (goal.at.returns-then-states-at-ne-RUNNING c).Else-config-stream, found (goal.at.returns-then-states-at-ne-RUNNING c).Else-config-stream, ne_eqb _ _ c.if-states-at-ne-RUNNING.true)
+returns-then-states-at-ne-RUNNING c = rw (
+  counted (goal.at.returns-then-states-at-ne-RUNNING c).Else-config-stream,
+  found (goal.at.returns-then-states-at-ne-RUNNING c).Else-config-stream,
+  ne_eqb _ _ c.if-states-at-ne-RUNNING.true,
+)
 
 pub returns-then-live : goal.returns-then-live
 returns-then-live c =
-    rw (counted (goal.at.returns-then-live c).Else-config-stream, found (goal.at.returns-then-live c).Else-config-stream, eq-eqb _ _ c.if-states-at-ne-RUNNING.false, params_none _ _ c.if-live.true)
+    rw (
+      counted (goal.at.returns-then-live c).Else-config-stream,
+      found (goal.at.returns-then-live c).Else-config-stream,
+      eq-eqb _ _ c.if-states-at-ne-RUNNING.false,
+      params_none _ _ c.if-live.true,
+    )
 
 pub bounds-streams-at : goal.bounds-streams-at
 bounds-streams-at c = below (goal.at.bounds-streams-at c).Else-config-stream
 
 pub returns : goal.returns
 returns c =
-    rw (counted (goal.at.returns c).Else-config-stream, found (goal.at.returns c).Else-config-stream, eq-eqb _ _ c.if-states-at-ne-RUNNING.false, params-kept _ _ c.if-live.false)
+    rw (
+      counted (goal.at.returns c).Else-config-stream,
+      found (goal.at.returns c).Else-config-stream,
+      eq-eqb _ _ c.if-states-at-ne-RUNNING.false,
+      params-kept _ _ c.if-live.false,
+    )

@@ -24,7 +24,8 @@ take_all-p-requires c =
     let a = c.args in
     let new = c.new-1 in (
       c.requires.0.slots,
-      room-new (virtqueue_of a.q) a.line a.words.now a.m.now a.host.now a.counters _ (found-is (goal.at.take_all-p-requires c).After-check_queue ∙ c.in-New.is),
+      room-new (virtqueue_of a.q) a.line a.words.now a.m.now a.host.now a.counters _
+          (found-is (goal.at.take_all-p-requires c).After-check_queue ∙ c.in-New.is),
     )
 
 pub work_words-requires : goal.work_words-requires
@@ -50,4 +51,5 @@ pub returns-in-New : goal.returns-in-New
 returns-in-New c =
     let a = c.args in
     ran-new (virtqueue_of a.q) a.line a.words.now a.m.now a.host.now a.counters c.requires.1 c.requires.0 a.job _
-    (found-is (goal.at.returns-in-New c).After-check_queue ∙ c.in-New.is) _ _ c.take_all-p.result c.take_all-p.ensures _ _ _ c.work_words.result c.work_words.ensures
+    (found-is (goal.at.returns-in-New c).After-check_queue ∙ c.in-New.is) _ _ c.take_all-p.result c.take_all-p.ensures _ _ _
+    c.work_words.result c.work_words.ensures

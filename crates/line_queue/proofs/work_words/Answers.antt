@@ -31,7 +31,8 @@ pub offset_bounds-words-from : goal.offset_bounds-words-from
 offset_bounds-words-from c = rw c.slot_words-size.ensures (omega (arith, inside (goal.at.offset_bounds-words-from c).After-slot_words-size))
 
 pub slice_bounds-work_slot-end : goal.slice_bounds-work_slot-end
-slice_bounds-work_slot-end c = rw c.slot_words-size.ensures (omega (arith, inside (goal.at.slice_bounds-work_slot-end c).After-slot_words-size))
+slice_bounds-work_slot-end c = rw c.slot_words-size.ensures (omega
+    (arith, inside (goal.at.slice_bounds-work_slot-end c).After-slot_words-size))
 
 pub work_slot-requires : goal.work_slot-requires
 unfolding slot_of

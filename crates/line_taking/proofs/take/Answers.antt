@@ -33,7 +33,8 @@ returns-in-InLine c =
     record {
       run = λ host. rw c.count_taken.ensures
           (joined-run v a.words.now a.m.now host a.p _ a.head.0 _ j.ensures
-          ∙ ap (λ (x : Arrival). taken (card v) v a.head.0 x (run_in v a.words.now a.p a.m.now host)) (joins (goal.at.returns-in-InLine c).In-InLine));
+          ∙ ap (λ (x : Arrival). taken (card v) v a.head.0 x (run_in v a.words.now a.p a.m.now host))
+          (joins (goal.at.returns-in-InLine c).In-InLine));
       fit = j.ensures.fit _ c.requires.0;
       moved = rw c.count_taken.ensures;
       long = refl;

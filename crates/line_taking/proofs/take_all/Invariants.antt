@@ -11,7 +11,8 @@ use Rattle.line_taking.proofs.take_all.Given as goal
 abbrev pub invariant-loop-left : goal.invariant-loop-left
 invariant-loop-left l =
     let v = virtqueue_of l.q in
-    ((host : List ℕ) → taking_run (card v) v l.left (run_in v l.words l.p l.m host) ≡ taking_run (card v) v l.new (run_in v l.initial.words l.initial.p l.initial.m host))
+    ((host : List ℕ) → taking_run (card v) v l.left (run_in v l.words l.p l.m host)
+    ≡ taking_run (card v) v l.new (run_in v l.initial.words l.initial.p l.initial.m host))
     × FitSlots v (length l.initial.m) l.words
     × (sum_of length_of (lines_of (queue_size v) v.streams l.words) + l.left ≤ queue_size v)
     × (length l.m ≡ length l.initial.m)

@@ -6,7 +6,8 @@ use Prim.Native.Nat.{ℕ}
 use Rattle.replay_field.specs.Word.{bytes, begins}
 use Rattle.replay_line.specs.Line.{call_line, capture_form, control_form, event_form, guest_line, play_form, write_form}
 use Rattle.replay_line.specs.declared.Line.{Line}
-use Rattle.replay_line.proofs.call_line.Goals.{Else-starts_with, Else-starts_with-2, Else-starts_with-3, Else-starts_with-4, Else-starts_with-5, Else-starts_with-6}
+use Rattle.replay_line.proofs.call_line.Goals.{Else-starts_with, Else-starts_with-2, Else-starts_with-3, Else-starts_with-4}
+use Rattle.replay_line.proofs.call_line.Goals.{Else-starts_with-5, Else-starts_with-6}
 use Rattle.replay_line.proofs.call_line.Goals as goal
 
 -- what the definition says behind each word

@@ -80,19 +80,22 @@ returns-in_default c =
 
 pub returns-then-count-gt65536 : goal.returns-then-count-gt65536
 returns-then-count-gt65536 c =
-    sym (long _ _ _ _ c.find-behind.ensures c.if-s-behind.false _ _ (found1 (goal.at.returns-then-count-gt65536 c).In-At) c.if-count-gt65536.true)
+    sym (long _ _ _ _ c.find-behind.ensures c.if-s-behind.false _ _ (found1 (goal.at.returns-then-count-gt65536 c).In-At)
+    c.if-count-gt65536.true)
 
 pub field_at-requires : goal.field_at-requires
 field_at-requires c = tt
 
 pub returns-in_default-field_at : goal.returns-in_default-field_at
 returns-in_default-field_at c =
-    sym (no-backlog _ _ _ _ c.find-behind.ensures c.if-s-behind.false _ _ (found1 (goal.at.returns-in_default-field_at c).In-At) c.if-count-gt65536.false
+    sym (no-backlog _ _ _ _ c.find-behind.ensures c.if-s-behind.false _ _ (found1 (goal.at.returns-in_default-field_at c).In-At)
+    c.if-count-gt65536.false
     (sym c.field_at.ensures ∙ c.in_default-field_at.is))
 
 pub returns-then-end-s : goal.returns-then-end-s
 returns-then-end-s c =
-    sym (more _ _ _ _ c.find-behind.ensures c.if-s-behind.false _ _ (found1 (goal.at.returns-then-end-s c).In-At) c.if-count-gt65536.false _ _ (found2 (goal.at.returns-then-end-s c).In-Is)
+    sym (more _ _ _ _ c.find-behind.ensures c.if-s-behind.false _ _ (found1 (goal.at.returns-then-end-s c).In-At) c.if-count-gt65536.false
+    _ _ (found2 (goal.at.returns-then-end-s c).In-Is)
     c.if-end-s.true)
 
 pub overflow_cast-result : goal.overflow_cast-result
@@ -100,5 +103,6 @@ overflow_cast-result c = omega (arith, field-most _ _ _ _ _ (found2 (goal.at.ove
 
 pub returns : goal.returns
 returns c =
-    sym (whole _ _ _ _ c.find-behind.ensures c.if-s-behind.false _ _ (found1 (goal.at.returns c).In-At) c.if-count-gt65536.false _ _ (found2 (goal.at.returns c).In-Is)
+    sym (whole _ _ _ _ c.find-behind.ensures c.if-s-behind.false _ _ (found1 (goal.at.returns c).In-At) c.if-count-gt65536.false _ _
+    (found2 (goal.at.returns c).In-Is)
     c.if-end-s.false)

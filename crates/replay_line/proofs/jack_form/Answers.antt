@@ -24,7 +24,8 @@ found1 c = sym c.pair_at.ensures ∙ c.in-Are.is
 abbrev text_at_In_Are_pair_at : (c : In-Are-pair_at) → List ℕ
 text_at_In_Are_pair_at c = c.args.s.now
 
-found2 : (c : In-Are-pair_at) → pair_at (text_at_In_Are_pair_at c) c.in-Are.a 4294967295 ≡ Are c.in-Are-pair_at.defconf c.in-Are-pair_at.caps c.in-Are-pair_at.b
+found2 : (c : In-Are-pair_at) → pair_at (text_at_In_Are_pair_at c) c.in-Are.a 4294967295
+    ≡ Are c.in-Are-pair_at.defconf c.in-Are-pair_at.caps c.in-Are-pair_at.b
 found2 c = sym c.pair_at-2.ensures ∙ c.in-Are-pair_at.is
 
 -- the line, from behind its first field; and each field from behind the next
@@ -64,7 +65,12 @@ returns-in_default-field_at c =
 pub returns-then-end-s : goal.returns-then-end-s
 unfolding jack_form
 returns-then-end-s c =
-    rw (found1 (goal.at.returns-then-end-s c).In-Are, found2 (goal.at.returns-then-end-s c).In-Are-pair_at, found3 (goal.at.returns-then-end-s c).In-Is, lt-ltb _ _ c.if-end-s.true)
+    rw (
+      found1 (goal.at.returns-then-end-s c).In-Are,
+      found2 (goal.at.returns-then-end-s c).In-Are-pair_at,
+      found3 (goal.at.returns-then-end-s c).In-Is,
+      lt-ltb _ _ c.if-end-s.true,
+    )
 
 pub overflow_cast-result : goal.overflow_cast-result
 overflow_cast-result c = omega (arith, pair-most _ _ _ _ _ _ (found1 (goal.at.overflow_cast-result c).In-Are))
@@ -84,4 +90,9 @@ overflow_cast-result-5 c = omega (arith, field-most _ _ _ _ _ (found3 (goal.at.o
 pub returns : goal.returns
 unfolding jack_form
 returns c =
-    rw (found1 (goal.at.returns c).In-Are, found2 (goal.at.returns c).In-Are-pair_at, found3 (goal.at.returns c).In-Is, le-ltb _ _ c.if-end-s.false)
+    rw (
+      found1 (goal.at.returns c).In-Are,
+      found2 (goal.at.returns c).In-Are-pair_at,
+      found3 (goal.at.returns c).In-Is,
+      le-ltb _ _ c.if-end-s.false,
+    )

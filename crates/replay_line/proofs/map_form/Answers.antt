@@ -66,7 +66,12 @@ returns-in_default-hex_at c =
 pub returns-then-count-ne18 : goal.returns-then-count-ne18
 unfolding map_form
 returns-then-count-ne18 c =
-    rw (found1 (goal.at.returns-then-count-ne18 c).In-Is, found2 (goal.at.returns-then-count-ne18 c).In-Are, found3 (goal.at.returns-then-count-ne18 c).In-At, ne_eqb _ 18 c.if-count-ne18.true)
+    rw (
+      found1 (goal.at.returns-then-count-ne18 c).In-Is,
+      found2 (goal.at.returns-then-count-ne18 c).In-Are,
+      found3 (goal.at.returns-then-count-ne18 c).In-At,
+      ne_eqb _ 18 c.if-count-ne18.true,
+    )
 
 pub overflow_cast-result : goal.overflow_cast-result
 overflow_cast-result c = omega (arith, field-most _ _ _ _ _ (found1 (goal.at.overflow_cast-result c).In-Is))
@@ -80,4 +85,9 @@ overflow_cast-result-3 c = omega (arith, pair-most _ _ _ _ _ _ (found2 (goal.at.
 pub returns : goal.returns
 unfolding map_form
 returns c =
-    rw (found1 (goal.at.returns c).In-Is, found2 (goal.at.returns c).In-Are, found3 (goal.at.returns c).In-At, eq-eqb _ 18 c.if-count-ne18.false)
+    rw (
+      found1 (goal.at.returns c).In-Is,
+      found2 (goal.at.returns c).In-Are,
+      found3 (goal.at.returns c).In-At,
+      eq-eqb _ 18 c.if-count-ne18.false,
+    )

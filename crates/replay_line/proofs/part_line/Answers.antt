@@ -6,7 +6,8 @@ use Prim.Native.Nat.{ℕ}
 use Rattle.replay_field.specs.Word.{bytes, begins}
 use Rattle.replay_line.specs.Line.{call_line, map_form, part_line, power_form, stream_form}
 use Rattle.replay_line.specs.declared.Line.{Line}
-use Rattle.replay_line.proofs.part_line.Goals.{Else-starts_with, Else-starts_with-2, Else-starts_with-3, Else-starts_with-4, Else-starts_with-5}
+use Rattle.replay_line.proofs.part_line.Goals.{Else-starts_with, Else-starts_with-2, Else-starts_with-3, Else-starts_with-4}
+use Rattle.replay_line.proofs.part_line.Goals.{Else-starts_with-5}
 use Rattle.replay_line.proofs.part_line.Goals as goal
 
 -- what the definition says behind each word

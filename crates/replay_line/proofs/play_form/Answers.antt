@@ -30,7 +30,8 @@ found2 c = sym c.field_at-2.ensures ∙ c.in-Is-field_at.is
 abbrev text_at_In_Is_field_at_2 : (c : In-Is-field_at-2) → List ℕ
 text_at_In_Is_field_at_2 c = c.args.s.now
 
-found3 : (c : In-Is-field_at-2) → field_at (text_at_In_Is_field_at_2 c) c.in-Is-field_at.b 4294967295 ≡ Is c.in-Is-field_at-2.backlog c.in-Is-field_at-2.end
+found3 : (c : In-Is-field_at-2) → field_at (text_at_In_Is_field_at_2 c) c.in-Is-field_at.b 4294967295
+    ≡ Is c.in-Is-field_at-2.backlog c.in-Is-field_at-2.end
 found3 c = sym c.field_at-3.ensures ∙ c.in-Is-field_at-2.is
 
 pub field_at-requires : goal.field_at-requires
@@ -54,12 +55,21 @@ field_at-requires-3 c = tt
 pub returns-in_default-field_at-2 : goal.returns-in_default-field_at-2
 unfolding play_form
 returns-in_default-field_at-2 c =
-    rw (found1 (goal.at.returns-in_default-field_at-2 c).In-Is, found2 (goal.at.returns-in_default-field_at-2 c).In-Is-field_at, sym c.field_at-3.ensures ∙ c.in_default-field_at-2.is)
+    rw (
+      found1 (goal.at.returns-in_default-field_at-2 c).In-Is,
+      found2 (goal.at.returns-in_default-field_at-2 c).In-Is-field_at,
+      sym c.field_at-3.ensures ∙ c.in_default-field_at-2.is,
+    )
 
 pub returns-then-end-s : goal.returns-then-end-s
 unfolding play_form
 returns-then-end-s c =
-    rw (found1 (goal.at.returns-then-end-s c).In-Is, found2 (goal.at.returns-then-end-s c).In-Is-field_at, found3 (goal.at.returns-then-end-s c).In-Is-field_at-2, lt-ltb _ _ c.if-end-s.true)
+    rw (
+      found1 (goal.at.returns-then-end-s c).In-Is,
+      found2 (goal.at.returns-then-end-s c).In-Is-field_at,
+      found3 (goal.at.returns-then-end-s c).In-Is-field_at-2,
+      lt-ltb _ _ c.if-end-s.true,
+    )
 
 pub overflow_cast-result : goal.overflow_cast-result
 overflow_cast-result c = omega (arith, field-most _ _ _ _ _ (found1 (goal.at.overflow_cast-result c).In-Is))
@@ -70,4 +80,9 @@ overflow_cast-result-2 c = omega (arith, field-most _ _ _ _ _ (found3 (goal.at.o
 pub returns : goal.returns
 unfolding play_form
 returns c =
-    rw (found1 (goal.at.returns c).In-Is, found2 (goal.at.returns c).In-Is-field_at, found3 (goal.at.returns c).In-Is-field_at-2, le-ltb _ _ c.if-end-s.false)
+    rw (
+      found1 (goal.at.returns c).In-Is,
+      found2 (goal.at.returns c).In-Is-field_at,
+      found3 (goal.at.returns c).In-Is-field_at-2,
+      le-ltb _ _ c.if-end-s.false,
+    )

@@ -23,14 +23,16 @@ found1 c = sym c.pair_at.ensures ∙ c.in-Are.is
 abbrev text_at_In_Are_pair_at : (c : In-Are-pair_at) → List ℕ
 text_at_In_Are_pair_at c = c.args.s.now
 
-found2 : (c : In-Are-pair_at) → pair_at (text_at_In_Are_pair_at c) c.in-Are.a 18446744073709551615 ≡ Are c.in-Are-pair_at.formats c.in-Are-pair_at.rates c.in-Are-pair_at.b
+found2 : (c : In-Are-pair_at) → pair_at (text_at_In_Are_pair_at c) c.in-Are.a 18446744073709551615
+    ≡ Are c.in-Are-pair_at.formats c.in-Are-pair_at.rates c.in-Are-pair_at.b
 found2 c = sym c.pair_at-2.ensures ∙ c.in-Are-pair_at.is
 
 -- the line, from behind its first field; and each field from behind the next
 abbrev text_at_In_Are_pair_at_2 : (c : In-Are-pair_at-2) → List ℕ
 text_at_In_Are_pair_at_2 c = c.args.s.now
 
-found3 : (c : In-Are-pair_at-2) → pair_at (text_at_In_Are_pair_at_2 c) c.in-Are-pair_at.b 255 ≡ Are c.in-Are-pair_at-2.min c.in-Are-pair_at-2.max c.in-Are-pair_at-2.end
+found3 : (c : In-Are-pair_at-2) → pair_at (text_at_In_Are_pair_at_2 c) c.in-Are-pair_at.b 255
+    ≡ Are c.in-Are-pair_at-2.min c.in-Are-pair_at-2.max c.in-Are-pair_at-2.end
 found3 c = sym c.pair_at-3.ensures ∙ c.in-Are-pair_at-2.is
 
 pub pair_at-requires : goal.pair_at-requires
@@ -63,7 +65,12 @@ returns-in_default-pair_at-2 c =
 pub returns-then-end-s : goal.returns-then-end-s
 unfolding stream_form
 returns-then-end-s c =
-    rw (found1 (goal.at.returns-then-end-s c).In-Are, found2 (goal.at.returns-then-end-s c).In-Are-pair_at, found3 (goal.at.returns-then-end-s c).In-Are-pair_at-2, lt-ltb _ _ c.if-end-s.true)
+    rw (
+      found1 (goal.at.returns-then-end-s c).In-Are,
+      found2 (goal.at.returns-then-end-s c).In-Are-pair_at,
+      found3 (goal.at.returns-then-end-s c).In-Are-pair_at-2,
+      lt-ltb _ _ c.if-end-s.true,
+    )
 
 pub overflow_cast-info : goal.overflow_cast-info
 overflow_cast-info c = omega (arith, pair-most _ _ _ _ _ _ (found1 (goal.at.overflow_cast-info c).In-Are))

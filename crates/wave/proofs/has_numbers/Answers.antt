@@ -20,7 +20,11 @@ unfolding has_numbers
 returns-then-judge-ne-DONE c = rw (← c.judge.ensures, ne_eqb _ _ c.if-judge-ne-DONE.true)
 
 pub put_header-requires : goal.put_header-requires
-put_header-requires c = ((fine-at (goal.at.put_header-requires c).Else-judge-ne-DONE).0.most, (fine-at (goal.at.put_header-requires c).Else-judge-ne-DONE).1, omega arith)
+put_header-requires c = (
+  (fine-at (goal.at.put_header-requires c).Else-judge-ne-DONE).0.most,
+  (fine-at (goal.at.put_header-requires c).Else-judge-ne-DONE).1,
+  omega arith,
+)
 
 pub returns : goal.returns
 unfolding has_numbers

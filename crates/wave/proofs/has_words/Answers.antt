@@ -18,12 +18,20 @@ returns-then-not-holds c = rw (sym c.holds.ensures ∙ c.if-not-holds.true)
 
 pub returns-then-not-holds-2 : goal.returns-then-not-holds-2
 unfolding has_words
-returns-then-not-holds-2 c = rw (riff-held (goal.at.returns-then-not-holds-2 c).Else-not-holds, sym c.holds-2.ensures ∙ c.if-not-holds-2.true)
+returns-then-not-holds-2 c = rw (
+  riff-held (goal.at.returns-then-not-holds-2 c).Else-not-holds,
+  sym c.holds-2.ensures
+      ∙ c.if-not-holds-2.true,
+)
 
 pub returns-then-not-holds-3 : goal.returns-then-not-holds-3
 unfolding has_words
 returns-then-not-holds-3 c =
-    rw (riff-held (goal.at.returns-then-not-holds-3 c).Else-not-holds, wave-held (goal.at.returns-then-not-holds-3 c).Else-not-holds-2, sym c.holds-3.ensures ∙ c.if-not-holds-3.true)
+    rw (
+      riff-held (goal.at.returns-then-not-holds-3 c).Else-not-holds,
+      wave-held (goal.at.returns-then-not-holds-3 c).Else-not-holds-2,
+      sym c.holds-3.ensures ∙ c.if-not-holds-3.true,
+    )
 
 pub returns : goal.returns
 unfolding has_words

@@ -32,7 +32,11 @@ pub overflow_cast-data_len : goal.overflow_cast-data_len
 overflow_cast-data_len c = omega (arith, (fine-at (goal.at.overflow_cast-data_len c).Else-answer-ne-DONE).1)
 
 pub put_header-requires : goal.put_header-requires
-put_header-requires c = ((fine-at (goal.at.put_header-requires c).Else-answer-ne-DONE).0.most, (fine-at (goal.at.put_header-requires c).Else-answer-ne-DONE).1, omega arith)
+put_header-requires c = (
+  (fine-at (goal.at.put_header-requires c).Else-answer-ne-DONE).0.most,
+  (fine-at (goal.at.put_header-requires c).Else-answer-ne-DONE).1,
+  omega arith,
+)
 
 pub returns : goal.returns
 returns c =

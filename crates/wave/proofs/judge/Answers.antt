@@ -24,16 +24,20 @@ pub returns-then-sample_bits-eq0 : goal.returns-then-sample_bits-eq0
 returns-then-sample_bits-eq0 c = no-format _ _ _ _ (sym c.sample_bits.ensures.0 ∙ c.if-sample_bits-eq0.true)
 
 pub returns-then-channels-eq0 : goal.returns-then-channels-eq0
-returns-then-channels-eq0 c = few-channels _ _ _ _ (some_bits (goal.at.returns-then-channels-eq0 c).Else-sample_bits-eq0) c.if-channels-eq0.true
+returns-then-channels-eq0 c = few-channels _ _ _ _ (some_bits (goal.at.returns-then-channels-eq0 c).Else-sample_bits-eq0)
+    c.if-channels-eq0.true
 
 pub returns-then-channels-gt18 : goal.returns-then-channels-gt18
-returns-then-channels-gt18 c = many-channels _ _ _ _ (some_bits (goal.at.returns-then-channels-gt18 c).Else-sample_bits-eq0) c.if-channels-gt18.true
+returns-then-channels-gt18 c = many-channels _ _ _ _ (some_bits (goal.at.returns-then-channels-gt18 c).Else-sample_bits-eq0)
+    c.if-channels-gt18.true
 
 pub returns-then-rate-ge-NO_RATE : goal.returns-then-rate-ge-NO_RATE
-returns-then-rate-ge-NO_RATE c = no-rate _ _ _ _ (some_bits (goal.at.returns-then-rate-ge-NO_RATE c).Else-sample_bits-eq0) (omega arith) (omega arith) c.if-rate-ge-NO_RATE.true
+returns-then-rate-ge-NO_RATE c = no-rate _ _ _ _ (some_bits (goal.at.returns-then-rate-ge-NO_RATE c).Else-sample_bits-eq0) (omega arith)
+    (omega arith) c.if-rate-ge-NO_RATE.true
 
 pub returns-then-data_len-gt-MAX_DATA : goal.returns-then-data_len-gt-MAX_DATA
-returns-then-data_len-gt-MAX_DATA c = too_long _ _ _ _ (all_known (goal.at.returns-then-data_len-gt-MAX_DATA c).Else-rate-ge-NO_RATE) (omega arith)
+returns-then-data_len-gt-MAX_DATA c = too_long _ _ _ _ (all_known (goal.at.returns-then-data_len-gt-MAX_DATA c).Else-rate-ge-NO_RATE)
+    (omega arith)
 
 pub returns : goal.returns
 returns c = fine _ _ _ _ (all_known (goal.at.returns c).Else-rate-ge-NO_RATE) (omega arith)

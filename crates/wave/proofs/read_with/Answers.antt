@@ -41,12 +41,23 @@ returns-then-not-has_words c =
 pub returns-then-not-has_numbers : goal.returns-then-not-has_numbers
 unfolding read_with
 returns-then-not-has_numbers c =
-    rw (c.unread-then-not-has_numbers.ensures, long-held (goal.at.returns-then-not-has_numbers c).Else-not-has_words, words-held (goal.at.returns-then-not-has_numbers c).Else-not-has_words, sym c.has_numbers.ensures ∙ c.if-not-has_numbers.true)
+    rw (
+      c.unread-then-not-has_numbers.ensures,
+      long-held (goal.at.returns-then-not-has_numbers c).Else-not-has_words,
+      words-held (goal.at.returns-then-not-has_numbers c).Else-not-has_words,
+      sym c.has_numbers.ensures ∙ c.if-not-has_numbers.true,
+    )
 
 pub returns-then-file_len-n : goal.returns-then-file_len-n
 unfolding read_with
 returns-then-file_len-n c =
-    rw (c.unread-then-file_len-n.ensures, long-held (goal.at.returns-then-file_len-n c).Else-not-has_words, words-held (goal.at.returns-then-file_len-n c).Else-not-has_words, numbers-held (goal.at.returns-then-file_len-n c).Else-not-has_numbers, ne_eqb _ _ (other_length (goal.at.returns-then-file_len-n c).Then-file_len-n))
+    rw (
+      c.unread-then-file_len-n.ensures,
+      long-held (goal.at.returns-then-file_len-n c).Else-not-has_words,
+      words-held (goal.at.returns-then-file_len-n c).Else-not-has_words,
+      numbers-held (goal.at.returns-then-file_len-n c).Else-not-has_numbers,
+      ne_eqb _ _ (other_length (goal.at.returns-then-file_len-n c).Then-file_len-n),
+    )
 
 pub returns-then-not-has_pad : goal.returns-then-not-has_pad
 unfolding read_with

@@ -36,7 +36,11 @@ returns-then-out-len c =
     (no_room _ _ _ _ s c.if-answer-ne-DONE.false c.if-out-len.true)
 
 pub put_file-requires : goal.put_file-requires
-put_file-requires c = ((fine-at (goal.at.put_file-requires c).Else-answer-ne-DONE).0.most, (fine-at (goal.at.put_file-requires c).Else-answer-ne-DONE).1, omega arith)
+put_file-requires c = (
+  (fine-at (goal.at.put_file-requires c).Else-answer-ne-DONE).0.most,
+  (fine-at (goal.at.put_file-requires c).Else-answer-ne-DONE).1,
+  omega arith,
+)
 
 pub returns : goal.returns
 returns c =
