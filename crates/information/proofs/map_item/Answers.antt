@@ -1,19 +1,29 @@
 -- The numbers stand one behind the other, the positions behind them, then zeros. Owning the map tells the length of its
 -- positions (`good`: its fields one after the other).
-use mathlib.Core.Path.{◌≡◌, ◌∙◌, sym}
+use mathlib.Core.Path.{◌≡◌}
 use native.Mathlib.Omega.{arith}
 use borrow.Author.Rules.{rules}
-use lib.ListN.{length, length-map}
+use lib.ListN.{length}
 use Rattle.information.proofs.Laws.{map-bytes, length-map_item}
 use Rattle.information.proofs.map_item.Goals.{Start}
 use Rattle.information.proofs.map_item.Goals as goal
 
+eighteen : (s : Start) → length s.args.map.positions ≡ 18
+eighteen s = s.well_formed.0.1.1.1.1.1.0.1.0.1
+
 pub copy-requires : goal.copy-requires
-copy-requires c = let h = c.well_formed in ?
+copy-requires c =
+    (search rules, omega (arith, eighteen (goal.at.copy-requires c).Start))
 
 pub returns : goal.returns
 returns c =
+<<<<<<< HEAD
     let e : length c.args.map.positions ≡ 18 = ? in (
       rw (c.copy.ensures, c.set32.ensures) (map-bytes c.args.map e),
       length-map_item c.args.map e,
+=======
+    (
+      rw (c.copy.ensures, c.set32.ensures) (map-bytes c.args.map (eighteen (goal.at.returns c).Start)),
+      length-map_item c.args.map (eighteen (goal.at.returns c).Start),
+>>>>>>> ae5ca8ebbe4886401fcc37d57ec618c35b16d85b
     )

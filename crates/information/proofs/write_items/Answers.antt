@@ -1,7 +1,6 @@
 -- At each turn the items that are left, written behind what is written, make the whole.
 use mathlib.Core.Path.{◌≡◌, ◌∙◌, refl, sym, ap}
 use mathlib.Core.List.{List, [], ◌++◌, map}
-use mathlib.Core.Logic.{⊎_elim}
 use Prim.Native.Nat.{ℕ, suc, ◌+◌, ◌-◌, ◌*◌, ◌≤◌, ◌<◌}
 use native.Mathlib.Nat.{suc-mul}
 use native.Mathlib.Omega.{arith}
@@ -16,7 +15,7 @@ use Rattle.rules.specs.declared.Listing.TheVariants.{Jacks, Streams, Maps}
 use Rattle.information.specs.Items.{items_in}
 use Rattle.information.proofs.Laws.{row_of, row_next, length-items, length-fitted, joined-none, most, most-six, few-items}
 use Rattle.information.proofs.Laws.{Begins, begins, jack-begins, stream-begins, map-begins}
-use Rattle.information.proofs.write_items.Goals.{In-loop-left, Joined-l, Start}
+use Rattle.information.proofs.write_items.Goals.{In-loop-left, Joined-l, Start, in-Jacks, in-Streams, in-Maps}
 use Rattle.information.proofs.write_items.Goals as goal
 
 -- how long all that is asked for is
@@ -71,10 +70,12 @@ made c =
     let now = parts_now v p in
     let i = c.loop-left.i in
     let h = there_at_Joined_l c in
-    ⊎_elim (λ w. begins _ Jacks now i _ _ w.1.given.1 (w.4 ∙ w.3.ensures) h (jack-begins v p i))
-    (⊎_elim (λ w. begins _ Streams now i _ _ w.1.given.1 (w.4 ∙ w.3.ensures) h (stream-begins v p i))
-    (λ w. begins _ Maps now i _ _ w.1.given.1 (w.4 ∙ w.3.ensures.0) h (λ g. map-begins v p i g w.3.ensures.1)))
-    c.match-l.branch
+    elim c.match-l.branch [
+      | in-Jacks w ↦ begins _ Jacks now i _ _ w.in-Jacks.is (w.item-is ∙ w.jack_item-item.ensures) h (jack-begins v p i)
+      | in-Streams w ↦ begins _ Streams now i _ _ w.in-Streams.is (w.item-is ∙ w.pcm_item-item.ensures) h (stream-begins v p i)
+      | in-Maps w ↦ begins _ Maps now i _ _ w.in-Maps.is (w.item-is ∙ w.map_item-item.ensures.0) h
+          (λ g. map-begins v p i g w.map_item-item.ensures.1)
+    ]
 
 pub natural_size-natural-requires : goal.natural_size-natural-requires
 natural_size-natural-requires c = omega arith

@@ -21,8 +21,7 @@ found-is c =
 
 pub take_all-p-requires : goal.take_all-p-requires
 take_all-p-requires c =
-    let a = c.args in
-    let new = c.new-1 in (
+    let a = c.args in (
       c.requires.0.slots,
       room-new (virtqueue_of a.q) a.line a.words.now a.m.now a.host.now a.counters _
           (found-is (goal.at.take_all-p-requires c).After-check_queue ∙ c.in-New.is),
