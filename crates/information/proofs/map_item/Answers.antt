@@ -16,14 +16,7 @@ copy-requires c =
     (search rules, omega (arith, eighteen (goal.at.copy-requires c).Start))
 
 pub returns : goal.returns
-returns c =
-<<<<<<< HEAD
-    let e : length c.args.map.positions ≡ 18 = ? in (
-      rw (c.copy.ensures, c.set32.ensures) (map-bytes c.args.map e),
-      length-map_item c.args.map e,
-=======
-    (
-      rw (c.copy.ensures, c.set32.ensures) (map-bytes c.args.map (eighteen (goal.at.returns c).Start)),
-      length-map_item c.args.map (eighteen (goal.at.returns c).Start),
->>>>>>> ae5ca8ebbe4886401fcc37d57ec618c35b16d85b
-    )
+returns c = (
+  rw (c.copy.ensures, c.set32.ensures) (map-bytes c.args.map (eighteen (goal.at.returns c).Start)),
+  length-map_item c.args.map (eighteen (goal.at.returns c).Start),
+)
