@@ -1,5 +1,6 @@
 -- Each number has its own place.
-use Rattle.pcm.proofs.Laws.{sixth}
+use mathlib.Core.Path.{◌≡◌}
+use native.Mathlib.Omega.{arith}
 use Rattle.pcm.proofs.with_backlog.Goals as goal
 
 pub returns-in-0 : goal.returns-in-0
@@ -19,5 +20,5 @@ returns-in-4 c = rw c.in-4.is
 
 pub returns-in_default : goal.returns-in_default
 returns-in_default c =
-    let r = c.in_default.in_default-own.rest in
-    rw (sixth c.args.id c.requires r.0.0.0.0.1 r.0.0.0.1 r.0.0.1 r.0.1 r.1)
+    let last : c.args.id ≡ 5 = omega (arith, c.requires) in
+    rw last
