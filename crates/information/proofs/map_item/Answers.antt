@@ -16,8 +16,7 @@ copy-requires c =
     (search rules, omega (arith, eighteen (goal.at.copy-requires c).Start))
 
 pub returns : goal.returns
-returns c =
-    (
-      rw (c.copy.ensures, c.set32.ensures) (map-bytes c.args.map (eighteen (goal.at.returns c).Start)),
-      length-map_item c.args.map (eighteen (goal.at.returns c).Start),
-    )
+returns c = (
+  rw (c.copy.ensures, c.set32.ensures) (map-bytes c.args.map (eighteen (goal.at.returns c).Start)),
+  length-map_item c.args.map (eighteen (goal.at.returns c).Start),
+)
