@@ -1,5 +1,6 @@
 -- Laws of the access program: bytes from a place on, and the card's description.
-use Rattle.std.proofs.Common.{◌≡◌, ℕ, ◌+◌, ◌<◌, ◌≤◌, true, List, [], ◌++◌, length, get_or, drop, refl, add-one, drop_of_length-le, drop-cons}
+use Rattle.std.proofs.Common.{◌≡◌, ℕ, ◌+◌, ◌<◌, ◌≤◌, true, List, [], ◌++◌, length, get_or, drop, refl, add-one, drop_of_length-le}
+use Rattle.std.proofs.Common.{drop-cons}
 use Rattle.description.specs.Lawful.{every, lawful, lawful_counts, lawful_stream}
 use Rattle.access_line.specs.Line.{line_of}
 use Rattle.access_line.specs.Collect.{empty_line, kept}

@@ -1,5 +1,6 @@
 -- Laws of the replay program: what a call prints and leaves is what the session says of it; lines in order.
-use Rattle.std.proofs.Common.{◌≡◌, ℕ, ◌+◌, ◌-◌, ◌%◌, ◌^◌, ◌<◌, ◌≤◌, min, true, false, eqb, List, [], ◌++◌, length, take, drop, sym, ap, ◌∙◌, drop_of_length-le}
+use Rattle.std.proofs.Common.{◌≡◌, ℕ, ◌+◌, ◌-◌, ◌%◌, ◌^◌, ◌<◌, ◌≤◌, min, true, false, eqb, List, [], ◌++◌, length, take, drop, sym, ap}
+use Rattle.std.proofs.Common.{◌∙◌, drop_of_length-le}
 use Rattle.calls.specs.Calls.{Powers}
 use Rattle.calls.proofs.Whole.{powered-device}
 use Rattle.card.specs.Rules.{powered_of}

@@ -17,7 +17,8 @@ pub record Going (left₀ left written₀ written : Option (List ℕ)) (now : Se
 
 abbrev pub invariant-loop-left : goal.invariant-loop-left
 invariant-loop-left g l = FitLive l.session.live × (4096 ≡ length l.block) × (262144 ≡ length l.out)
-    × Going (g.R.Read.remaining l.initial.input) (g.R.Read.remaining l.input) (g.W.Write.contents l.initial.output) (g.W.Write.contents l.output) l.session
+    × Going (g.R.Read.remaining l.initial.input) (g.R.Read.remaining l.input) (g.W.Write.contents l.initial.output)
+    (g.W.Write.contents l.output) l.session
 
 abbrev pub decreases-loop-left : goal.decreases-loop-left
 decreases-loop-left g l = l.left

@@ -47,7 +47,8 @@ pub returns-in-Described : goal.returns-in-Described
 returns-in-Described c =
     let d = reads (goal.at.returns-in-Described c).After-read_line-line c.in-Described.is in
     record {
-      world = ap (λ p. described_world p (world_of (next (goal.at.returns-in-Described c).After-read_line-line) c.args.ram.now)) c.with_part-next.ensures ∙ d.0;
+      world = ap (λ p. described_world p (world_of (next (goal.at.returns-in-Described c).After-read_line-line) c.args.ram.now))
+          c.with_part-next.ensures ∙ d.0;
       text = put_as d.1 (put-none _ 0);
       room = omega arith;
       fit = c.requires.0;

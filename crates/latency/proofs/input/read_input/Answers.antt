@@ -14,7 +14,13 @@ head g c =
     let n = c.read_head-first.result.count in
     let e = c.read_head-first.ensures in
     let after = c.read_head-first.new.buffer in
-    record { read = take n after; bytes = bytes-taken n after e.bytes; long = rw length-take (omega (arith, e.count_in_bounds)); same = e.input_value }
+    record {
+      read = take n after;
+      bytes = bytes-taken n after e.bytes;
+      long = rw length-take (omega (arith, e.count_in_bounds));
+      same =
+          e.input_value;
+    }
 
 eight : (g : Over) (c : After-read_head-first g) → 8 ≤ c.read_head-first.result.count → Head c.read_head-first.result.input 8
 eight g c h =
@@ -23,11 +29,13 @@ eight g c h =
 
 pub returns-then-first-lt8 : goal.returns-then-first-lt8
 returns-then-first-lt8 g c =
-    reported-short c.read_head-first.result.input c.read_head-first.result.count (head g (goal.at.returns-then-first-lt8 g c).After-read_head-first) c.if-first-lt8.true
+    reported-short c.read_head-first.result.input c.read_head-first.result.count
+    (head g (goal.at.returns-then-first-lt8 g c).After-read_head-first) c.if-first-lt8.true
 
 pub read_records-last-requires : goal.read_records-last-requires
 read_records-last-requires g c = head-eight _ (eight g (goal.at.read_records-last-requires g c).After-read_head-first c.if-first-lt8.false)
 
 pub returns : goal.returns
 returns g c =
-    reported-more c.read_head-first.result.input _ (eight g (goal.at.returns g c).After-read_head-first c.if-first-lt8.false) c.read_records-last.ensures.behind
+    reported-more c.read_head-first.result.input _ (eight g (goal.at.returns g c).After-read_head-first c.if-first-lt8.false)
+    c.read_records-last.ensures.behind
