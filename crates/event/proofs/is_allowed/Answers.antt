@@ -21,14 +21,6 @@ returns-in-4353 c = rw c.in-4353.is c.tells_xruns.ensures
 
 pub returns-in_default : goal.returns-in_default
 unfolding event_allowed
-<<<<<<< HEAD
-returns-in_default c = rw (
-  ne_eqb _ _ c.in_default.in_default-own.rest.0.0.1,
-  ne_eqb _ _ c.in_default.in_default-own.rest.0.1,
-  ne_eqb _ _ c.in_default.in_default-own.rest.1,
-)
-=======
 returns-in_default c =
     let n = c.args.code in
     rw (ne_eqb n 4096 (λ e. omega arith), ne_eqb n 4097 (λ e. omega arith), ne_eqb n 4353 (λ e. omega arith))
->>>>>>> 261dae7236d180aaeffe3f5fdefaf6f63ac46127
