@@ -20,7 +20,7 @@ use Rattle.latency.proofs.Texts.{collected-holds}
 
 -- ---- bytes
 
-bytes-joined : (a b : List ℕ) → Bytes a → Bytes b → Bytes (a ++ b)
+pub bytes-joined : (a b : List ℕ) → Bytes a → Bytes b → Bytes (a ++ b)
 bytes-joined a b p q i = by (ltb i (length a)) refl where
   by : (x : Bool) → ltb i (length a) ≡ x → get_or (a ++ b) i 0 < 256
   by true e = rw (get_or-append a b 0 i (ltb-true i (length a) e)) (p i)
@@ -36,11 +36,11 @@ bytes-taken n s p i = by (ltb i n) refl where
 
 -- ---- one block behind others
 
-pub behind-none : (i : Input) → i.bytes ≡ 8 → (n : Behind i i) × (length n.read ≡ 0)
+abbrev pub behind-none : (i : Input) → i.bytes ≡ 8 → (n : Behind i i) × (length n.read ≡ 0)
 behind-none i h = (record { read = []; bytes = λ n. omega arith; few = omega arith; same = taken_none i (omega arith) }, refl)
 
 module _ (i r next : Input) (eight : i.bytes ≡ 8) (b : Behind i r) (whole : length b.read % 8 ≡ 0) (below : r.bytes ≤ 8000008) where
-  pub behind_more : (block : List ℕ) → Bytes block → length block ≤ 65536 → next ≡ taken r block
+  abbrev pub behind_more : (block : List ℕ) → Bytes block → length block ≤ 65536 → next ≡ taken r block
       → (n : Behind i next) × (length n.read ≡ length b.read + length block)
   behind_more block p few e =
       let n : r.bytes ≡ (8 + length b.read) % 2 ^ 64 = ap (λ (x : Input). x.bytes) b.same ∙ rw eight in
@@ -63,14 +63,14 @@ pub record Head (i : Input) (n : ℕ) : Type 0 where
   pub long : length read ≡ n
   pub same : i ≡ opened read
 
-pub reported-short : (i : Input) (n : ℕ) → Head i n → n < 8 → Reported i
+abbrev pub reported-short : (i : Input) (n : ℕ) → Head i n → n < 8 → Reported i
 reported-short i n h few =
     record { read = h.read; bytes = h.bytes; same = ap input_text h.same ∙ report-short h.read (omega (arith, h.long)) }
 
 pub head-eight : (i : Input) → Head i 8 → i.bytes ≡ 8
 head-eight i h = ap (λ (x : Input). x.bytes) h.same ∙ h.long
 
-pub reported-more : (i r : Input) → Head i 8 → Behind i r → Reported r
+abbrev pub reported-more : (i r : Input) → Head i 8 → Behind i r → Reported r
 reported-more i r h b =
     let all = bytes-joined h.read b.read h.bytes b.bytes in
     let l = length-append h.read b.read in
@@ -81,7 +81,7 @@ reported-more i r h b =
           ∙ report-whole h.read b.read h.long all (omega (arith, b.few, h.long));
     }
 
-pub answered : (i : Input) → Reported i → Answered (collected (input_text i))
+abbrev pub answered : (i : Input) → Reported i → Answered (collected (input_text i))
 answered i r =
     let h = collected-holds (input_text i) (omega (arith, text-fits i)) in
     record {

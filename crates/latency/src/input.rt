@@ -1,7 +1,10 @@
 // The input, read block by block, and the report of it, written out.
-ghost use Rattle.std.specs.Prelude.{◌≡◌, ◌≤◌, length, take};
+ghost use Rattle.std.specs.Prelude.{◌≡◌, ◌≤◌, List, ℕ, true, length, take};
+ghost use Rattle.std.specs.Io.KnownBytes.{Appends, Consumes};
 ghost use Rattle.latency_tally.specs.Tally.{opened, taken};
 ghost use Rattle.latency.specs.Reading.{Bytes, Behind, Last, Reported, Handed, Answered};
+ghost use Rattle.latency.specs.Report.{report_of};
+ghost use Rattle.latency.specs.Text.{kept};
 
 use crate::{MOST, Text};
 use latency_tally::Input;
@@ -22,6 +25,7 @@ fn read_head<R: Read>(from: &mut R, buffer: &mut [u8]) -> Turn
     ensures count_in_bounds { result.count ≤ length buffer.new }
     ensures bytes { Bytes buffer.new }
     ensures input_value { result.input ≡ opened (take result.count buffer.new) }
+    ensures read { Consumes (R.remaining from.old) (R.remaining from.new) (take result.count buffer.new) }
 {
     let count = streams::read_full(from, buffer);
     Turn {
@@ -35,6 +39,7 @@ fn read_block<R: Read>(from: &mut R, input: Input, buffer: &mut [u8]) -> Turn
     ensures count_in_bounds { result.count ≤ length buffer.new }
     ensures bytes { Bytes buffer.new }
     ensures input_value { result.input ≡ taken input (take result.count buffer.new) }
+    ensures read { Consumes (R.remaining from.old) (R.remaining from.new) (take result.count buffer.new) }
 {
     let count = streams::read_full(from, buffer);
     Turn {
@@ -47,7 +52,7 @@ fn read_block<R: Read>(from: &mut R, input: Input, buffer: &mut [u8]) -> Turn
 // the one that passes the limit.
 fn read_records<R: Read>(from: &mut R, opened: Input) -> Turn
     requires { opened.bytes ≡ 8 }
-    ensures behind { Behind opened result.input }
+    ensures behind { (b : Behind opened result.input) × Consumes (R.remaining from.old) (R.remaining from.new) b.read }
     ensures last { Last result.input result.count }
 {
     let mut buffer = io::large_buffer();
@@ -67,7 +72,7 @@ fn read_records<R: Read>(from: &mut R, opened: Input) -> Turn
 
 // The mask, and what stands behind it.
 fn read_input<R: Read>(from: &mut R) -> Input
-    ensures { Reported result }
+    ensures { (b : Reported result) × Consumes (R.remaining from.old) (R.remaining from.new) b.read }
 {
     let mut head = [0u8; 8];
     let first = read_head(from, &mut head);
@@ -79,39 +84,46 @@ fn read_input<R: Read>(from: &mut R) -> Input
     last.input
 }
 
-// The first `count` bytes of `s`, or all of `s` where it has no more, written out.
-fn write<W: Write>(to: &mut W, s: &[u8], count: usize) {
+// The first `count` bytes of `s`, or all of `s` where it has no more, written out; and whether that went well.
+fn write<W: Write>(to: &mut W, s: &[u8], count: usize) -> bool
+    ensures { result ≡ true → Appends (W.contents to.old) (W.contents to.new) (take count s.now) }
+{
     if s.len() <= count {
-        streams::write_all(to, s);
-        return;
+        return streams::write_all(to, s);
     }
-    streams::write_all(to, &s[..count]);
+    streams::write_all(to, &s[..count])
 }
 
-// A text, written out.
-pub fn print<W: Write>(to: &mut W, text: Text) {
+// A text, written out; and whether that went well.
+pub fn print<W: Write>(to: &mut W, text: Text) -> bool
+    ensures { result ≡ true → Appends (W.contents to.old) (W.contents to.new) (kept text) }
+{
     let bytes = text.bytes;
-    write(to, &bytes, text.count);
+    write(to, &bytes, text.count)
 }
 
 // The report of what is read.
 fn answer<R: Read>(from: &mut R) -> Text
-    ensures { Answered result }
+    ensures { (a : Answered result) × Consumes (R.remaining from.old) (R.remaining from.new) a.handed.read }
 {
     crate::report(read_input(from))
 }
 
-// Writes a report, and nothing that is none.
-fn hand_out<W: Write>(to: &mut W, s: &[u8])
+// Writes a report, and nothing that is none; and whether that went well.
+fn hand_out<W: Write>(to: &mut W, s: &[u8]) -> bool
     requires { Handed s.now }
+    ensures { result ≡ true → Appends (W.contents to.old) (W.contents to.new) s.now }
 {
-    streams::write_all(to, s);
+    streams::write_all(to, s)
 }
 
-// The whole program.
-pub fn run<R: Read, W: Write>(from: &mut R, to: &mut W) {
+// The whole program. Answers whether all was written: then it is the report of the bytes read.
+pub fn run<R: Read, W: Write>(from: &mut R, to: &mut W) -> bool
+    ensures { result ≡ true → (read : List ℕ) × Consumes (R.remaining from.old) (R.remaining from.new) read
+        × Appends (W.contents to.old) (W.contents to.new) (report_of read) }
+{
     let text = answer(from);
     let bytes = text.bytes;
     let count = text.count;
-    hand_out(to, &bytes[..count]);
+    hand_out(to, &bytes[..count])
 }

@@ -2,6 +2,12 @@
 // 0.
 #![tactic(auto)]
 
-fn main(rt: HostRuntime) {
-    latency::run(&mut rt.stdin(), &mut rt.stdout());
+use std::process::ExitCode;
+
+fn main(rt: HostRuntime) -> ExitCode {
+    if latency::run(&mut rt.stdin(), &mut rt.stdout()) {
+        ExitCode::SUCCESS
+    } else {
+        ExitCode::FAILURE
+    }
 }

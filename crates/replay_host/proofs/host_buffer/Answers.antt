@@ -5,4 +5,4 @@ use Rattle.replay_host.proofs.host_buffer.Goals as goal
 
 pub returns : goal.returns
 unfolding host_buffer
-returns c = (refl, refl)
+returns c = record { value = refl; value_2 = refl }

@@ -6,7 +6,7 @@ use Rattle.replay_host.proofs.lend.Goals as goal
 pub returns-in-Play : goal.returns-in-Play
 returns-in-Play c =
     let is = c.in-Play.is in
-    (c.within.ensures.prefix_len, (rw is c.within.ensures.value, rw is))
+    record { prefix_len = c.within.ensures.prefix_len; value = (rw is c.within.ensures.value, rw is) }
 
 pub returns-in-Capture : goal.returns-in-Capture
 returns-in-Capture c =
@@ -15,10 +15,11 @@ returns-in-Capture c =
     let host = c.args.host.now in
     let at = c.in-Capture.at in
     let behind = c.in-Capture.behind in
-    let end = c.within-end.ensures.value in (
-      l.0,
-      (
-        rw c.in-Capture.is (count-to line behind _ at end _ (length host) l.1.0),
-        rw c.in-Capture.is (filled-to line behind _ at end host _ l.1.1),
-      ),
-    )
+    let end = c.within-end.ensures.value in
+    record {
+      prefix_len = l.prefix_len;
+      value = (
+        rw c.in-Capture.is (count-to line behind _ at end _ (length host) l.value.0),
+        rw c.in-Capture.is (filled-to line behind _ at end host _ l.value.1),
+      );
+    }

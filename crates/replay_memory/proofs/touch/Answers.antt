@@ -9,8 +9,8 @@ returns-in-Store c =
     let w = c.within-lent.ensures in
     record {
       memory =
-          rw (c.in-Store.is, ← w.1, c.pour_hex.ensures, poured-place _ _ _ _ w.0.0 c.place-to.ensures);
-      len = rw c.in-Store.is w.1;
+          rw (c.in-Store.is, ← w.value, c.pour_hex.ensures, poured-place _ _ _ _ w.prefix_len.0 c.place-to.ensures);
+      len = rw c.in-Store.is w.value;
       text = rw c.in-Store.is (put-none _ 0);
       room = omega arith;
     }
@@ -19,8 +19,8 @@ pub returns-in-Fill : goal.returns-in-Fill
 returns-in-Fill c =
     let w = c.within-lent.ensures in
     record {
-      memory = rw (c.in-Fill.is, ← w.1, c.fill.ensures, filled-place _ _ _ _ w.0.0 c.place-to-in-Fill.ensures);
-      len = rw c.in-Fill.is w.1;
+      memory = rw (c.in-Fill.is, ← w.value, c.fill.ensures, filled-place _ _ _ _ w.prefix_len.0 c.place-to-in-Fill.ensures);
+      len = rw c.in-Fill.is w.value;
       text = rw c.in-Fill.is (put-none _ 0);
       room = omega arith;
     }
@@ -40,7 +40,7 @@ returns-in-Dump c =
     let w = c.within-lent.ensures in
     record {
       memory = rw c.in-Dump.is;
-      len = rw c.in-Dump.is w.1;
-      text = rw (c.in-Dump.is, ← w.1) (put_as (dump-place _ _ _ _ w.0.0 c.place-from.ensures _ _) d.ensures.0);
+      len = rw c.in-Dump.is w.value;
+      text = rw (c.in-Dump.is, ← w.value) (put_as (dump-place _ _ _ _ w.prefix_len.0 c.place-from.ensures _ _) d.ensures.0);
       room = omega (arith, d.ensures.1, d.auto.out, c.requires);
     }

@@ -5,7 +5,7 @@ use native.Mathlib.Omega.{arith}
 use Rattle.replay_memory.proofs.within.Goals as goal
 
 pub returns-then-buf-n : goal.returns-then-buf-n
-returns-then-buf-n c = let a = c.args in ((omega arith, sym (length-take-le _ a.buf.now (omega arith))), omega arith)
+returns-then-buf-n c = record { prefix_len = (omega arith, sym (length-take-le _ c.args.buf.now (omega arith))); value = omega arith }
 
 pub returns : goal.returns
-returns c = let a = c.args in ((omega arith, sym (length-take-le a.n a.buf.now (omega arith))), omega arith)
+returns c = record { prefix_len = (omega arith, sym (length-take-le _ c.args.buf.now (omega arith))); value = omega arith }
