@@ -214,12 +214,7 @@ fn finish(session: Session, out: &mut [u8]) -> usize
 }
 
 // One read of the input into `block`, done and answered; nothing read is its end.
-fn take_block<R: Read>(
-    input: &mut R,
-    session: Session,
-    block: &mut [u8],
-    out: &mut [u8],
-) -> Taken
+fn take_block<R: Read>(input: &mut R, session: Session, block: &mut [u8], out: &mut [u8]) -> Taken
     requires { FitLive session.live × (63 + 63 * length block.old ≤ length out.old) }
     ensures told { Takes (foldl fed session (take result.count block.new)) (taken_text session result.count block.new)
         out.old 0 out.new result.session result.end

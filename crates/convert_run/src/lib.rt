@@ -172,13 +172,7 @@ fn judge_length(length: Passed, bytes: u64) -> u32
 }
 
 // The order past FROM's opening: FROM can't be read, not whole samples, TO can't be used.
-fn convert_open(
-    rt: &HostRuntime,
-    source: &mut File,
-    format: u32,
-    bytes: u64,
-    to: &[u8],
-) -> Report
+fn convert_open(rt: &HostRuntime, source: &mut File, format: u32, bytes: u64, to: &[u8]) -> Report
     requires { 0 < bytes }
     ensures { result.answer ≡ 30 → ⊥ }
 {

@@ -8,11 +8,10 @@ ghost use Rattle.io.specs.Counts.{IsPrefixLen};
 
 use argument::Argument;
 use std::env::FillError;
-use std::fs;
 use std::fs::{File, OpenOptions};
 use std::io::{ErrorKind, Read, Seek, SeekFrom};
-use std::process;
 use std::rt::Env;
+use std::{fs, process};
 
 // Bytes at the start of a buffer, and whether all went well.
 #[derive(Clone, Copy)]

@@ -159,13 +159,7 @@ fn write_wave(source: &mut File, bytes: u64, head: &[u8], sink: &mut File) -> bo
 }
 
 // TO made to hold that file.
-fn write_to(
-    rt: &HostRuntime,
-    to: &[u8],
-    source: &mut File,
-    bytes: u64,
-    head: &[u8],
-) -> bool {
+fn write_to(rt: &HostRuntime, to: &[u8], source: &mut File, bytes: u64, head: &[u8]) -> bool {
     let mut name = io::buffer();
     let Some(mut sink) = files::open_sink(rt, to, &mut name) else {
         return false;

@@ -35,8 +35,7 @@ module _ {l₀ l w₀ w : Option (List ℕ)} {s : Session} (b : Going l₀ l w�
   going-end none =
       let c' : Consumes l l' [] = rw none at c in
       let t' : Appends w w' (rest_text s) = rw none at t in
-      let all = Appends-trans _ _ _ _ _ b.told (subst (λ x. Appends w w' (rest_text x)) b.session t') in
-      (
+      let all = Appends-trans _ _ _ _ _ b.told (subst (λ x. Appends w w' (rest_text x)) b.session t') in (
         b.read,
         subst (Consumes l₀ l') (append-nil b.read) (Consumes-trans _ _ _ _ _ b.taken c'),
         subst (Appends w₀ w') (session-told b.read) all,
@@ -68,8 +67,7 @@ loop-left-preserved g c =
     let t = c.take_block-taken in
     let told = t.ensures.told in
     let out = put_back told.0.text (omega (arith, told.0.text.behind, told.1, t.auto.out)) in
-    let wrote = subst (Appends _ _) out (c.write_all.ensures c.if-not-write_all.false) in
-    (
+    let wrote = subst (Appends _ _) out (c.write_all.ensures c.if-not-write_all.false) in (
       told.0.fit,
       l.1 ∙ sym t.auto.block,
       l.2 ∙ sym t.auto.out,

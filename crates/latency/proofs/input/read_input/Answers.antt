@@ -40,8 +40,7 @@ read_records-last-requires g c = head-eight _ (eight g (goal.at.read_records-las
 pub returns : goal.returns
 returns g c =
     let first = eight g (goal.at.returns g c).After-read_head-first c.if-first-lt8.false in
-    let behind = c.read_records-last.ensures.behind in
-    (
+    let behind = c.read_records-last.ensures.behind in (
       reported-more c.read_head-first.result.input _ first behind.0,
       Consumes-trans _ _ _ _ _ (consumed g (goal.at.returns g c).After-read_head-first c.if-first-lt8.false) behind.1,
     )
