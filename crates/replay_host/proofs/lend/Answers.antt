@@ -18,9 +18,8 @@ returns-in-Capture c =
     let end = c.within-end.ensures.value in
     record {
       prefix_len = l.prefix_len;
-      value =
-          (
-            rw c.in-Capture.is (count-to line behind _ at end _ (length host) l.value.0),
-            rw c.in-Capture.is (filled-to line behind _ at end host _ l.value.1),
-          );
+      value = (
+        rw c.in-Capture.is (count-to line behind _ at end _ (length host) l.value.0),
+        rw c.in-Capture.is (filled-to line behind _ at end host _ l.value.1),
+      );
     }
