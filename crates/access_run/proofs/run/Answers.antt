@@ -3,7 +3,7 @@ use Rattle.std.proofs.Common.{◌≡◌, ℕ, List, [], ◌++◌, sym, ap, ◌�
 use mathlib.Core.List.{foldl}
 use Rattle.std.specs.Io.KnownBytes.{Appends, Consumes}
 use Rattle.std.proofs.KnownBytes.{Appends-nil, Appends-trans, Consumes-nil, Consumes-trans}
-use Rattle.core.specs.declared.option.Option.{Option}
+use Rattle.std.specs.declared.option.Option.{Option}
 use Rattle.decimal.proofs.Writing.{put_back}
 use Rattle.access_run.specs.Answers.{printed}
 use Rattle.access_run.specs.Session.{first_session, fed, block_text, rest_text, taken_text}

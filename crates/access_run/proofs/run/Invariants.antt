@@ -2,7 +2,7 @@
 use Rattle.std.proofs.Common.{◌≡◌, ℕ, List, length}
 use mathlib.Core.List.{foldl}
 use Rattle.std.specs.Io.KnownBytes.{Appends, Consumes}
-use Rattle.core.specs.declared.option.Option.{Option}
+use Rattle.std.specs.declared.option.Option.{Option}
 use Rattle.live.specs.Live.{FitLive}
 use Rattle.access_run.specs.Session.{first_session, fed, block_text}
 use Rattle.access_run.specs.declared.Session.{Session}

@@ -1,5 +1,6 @@
 -- With a card, the call is made on the first bytes, and the others stay.
 use Rattle.std.proofs.Common.{ap, ◌∙◌, arith}
+use borrow.Author.Tests.{not-true, not-false}
 use Rattle.decimal.proofs.Writing.{put_as}
 use Rattle.replay_text.specs.Text.{kept}
 use Rattle.replay_run.proofs.Laws.{made-text, made-world, unpowered-text, unpowered-world}
@@ -8,7 +9,7 @@ use Rattle.replay_run.proofs.call_line.Goals as goal
 pub returns-then-not-state : goal.returns-then-not-state
 returns-then-not-state c =
     let put = c.answer-end in
-    let none = c.if-not-state.true in
+    let none = not-true c.args.state.powered c.if-not-state.true in
     record {
       world = unpowered-world _ _ _ _ none;
       text = put_as (unpowered-text _ _ _ c.args.ram.now none) put.ensures.0;
@@ -19,7 +20,7 @@ returns-then-not-state c =
 pub returns : goal.returns
 returns c =
     let a = c.args in
-    let some = c.if-not-state.false in
+    let some = not-false a.state.powered c.if-not-state.false in
     let q = c.call-shown.ensures in
     let length = c.within-lent.ensures.value in
     record {
