@@ -1,126 +1,77 @@
-// A line of the access program, read from its bytes: "r OFF W" or "w OFF W VAL"; and a line collected
-// byte by byte, for a program that reads its input in blocks.
+// A line of the access program, read from its bytes: "r OFF W" or "w OFF W VAL"; and the type of a line
+// that is collected byte by byte, for a program that reads its input in blocks.
 #![tactic(auto)]
 
-ghost use Rattle.std.specs.Prelude.{◌≡◌, take, drop};
-ghost use Rattle.access_line.specs.Line.{line_of, read_form, write_form};
-ghost use Rattle.access_line.specs.Collect.{empty_line, with_byte, kept};
+ghost use Rattle.std.specs.Prelude.{◌≡◌, drop};
+ghost use Rattle.access_line.specs.Line.{line_of, at_end, read_form, write_form};
+ghost use Rattle.decimal.specs.Read.{field_at};
 
-use decimal::Number;
+use decimal::{DIGITS, GREATEST};
+use text::Text;
 
-// A read of a register (offset, width), a write (offset, width, value), or neither.
+// A read or a write of a register.
 #[derive(Clone, Copy)]
-pub enum Line {
-    Read(u64, u64),
-    Write(u64, u64, u64),
-    Unreadable,
+pub enum Access {
+    Read { offset: u64, width: u64 },
+    Write { offset: u64, width: u64, value: u64 },
 }
 
-// "1 to 10 digits", and the greatest number that they write.
-const DIGITS: usize = 10;
+// A space at `at`, the number behind it, and the place behind that.
+fn field_at(s: &[u8], at: usize) -> Option<(u64, usize)>
+    ensures { result ≡ field_at s.now at 10 9999999999 }
+{
+    decimal::field_at(s, at, DIGITS, GREATEST)
+}
 
-const GREATEST: u64 = 9999999999;
+// The access that was read up to `end`, if nothing follows.
+#[tactic(auto, using(crate::proofs::Laws::ended_at))]
+fn at_end(s: &[u8], end: usize, access: Access) -> Option<Access>
+    ensures { result ≡ at_end (drop end s.now) access }
+{
+    (s.len() <= end).then_some(access)
+}
 
 // What follows an `r`.
-fn read_form(s: &[u8]) -> Line
+#[tactic(auto, using(crate::proofs::Laws::read_form_is))]
+fn read_form(s: &[u8]) -> Option<Access>
     ensures { result ≡ read_form (drop 1 s.now) }
 {
-    let Number::Is(offset, a) = decimal::field_at(s, 1, DIGITS, GREATEST) else {
-        return Line::Unreadable;
-    };
-    let Number::Is(width, b) = decimal::field_at(s, a, DIGITS, GREATEST) else {
-        return Line::Unreadable;
-    };
-    if b < s.len() {
-        return Line::Unreadable;
-    }
-    Line::Read(offset, width)
+    let (offset, a) = field_at(s, 1)?;
+    let (width, b) = field_at(s, a)?;
+    at_end(s, b, Access::Read { offset, width })
 }
 
 // What follows a `w`.
-fn write_form(s: &[u8]) -> Line
+#[tactic(auto, using(crate::proofs::Laws::write_form_is))]
+fn write_form(s: &[u8]) -> Option<Access>
     ensures { result ≡ write_form (drop 1 s.now) }
 {
-    let Number::Is(offset, a) = decimal::field_at(s, 1, DIGITS, GREATEST) else {
-        return Line::Unreadable;
-    };
-    let Number::Is(width, b) = decimal::field_at(s, a, DIGITS, GREATEST) else {
-        return Line::Unreadable;
-    };
-    let Number::Is(value, c) = decimal::field_at(s, b, DIGITS, GREATEST) else {
-        return Line::Unreadable;
-    };
-    if c < s.len() {
-        return Line::Unreadable;
-    }
-    Line::Write(offset, width, value)
+    let (offset, a) = field_at(s, 1)?;
+    let (width, b) = field_at(s, a)?;
+    let (value, c) = field_at(s, b)?;
+    at_end(
+        s,
+        c,
+        Access::Write {
+            offset,
+            width,
+            value,
+        },
+    )
 }
 
-// The line whose bytes, without the line feed, are `s`.
-pub fn read_line(s: &[u8]) -> Line
+// What the line whose bytes, without the line feed, are `s` asks for; none where it can't be read.
+#[tactic(auto, using(crate::proofs::Laws::line_letter))]
+pub fn read_line(s: &[u8]) -> Option<Access>
     ensures { result ≡ line_of s.now }
 {
-    if s.len() == 0 {
-        return Line::Unreadable;
-    }
-    let letter = s[0];
-    if letter == b'r' {
-        return read_form(s);
-    }
-    if letter == b'w' {
-        return write_form(s);
-    }
-    Line::Unreadable
-}
-
-// The line in the first `count` bytes of `s`, or in all of `s` where it has no more.
-fn line_in(s: &[u8], count: usize) -> Line
-    ensures { result ≡ line_of (take count s.now) }
-{
-    if s.len() <= count {
-        return read_line(s);
-    }
-    read_line(&s[..count])
-}
-
-// A line that is being collected: its first `count` bytes. A line longer than 40 is cut there, and
-// reads the same: no line of more than 34 bytes can be read.
-#[derive(Clone, Copy)]
-pub struct Collected {
-    pub bytes: [u8; 40],
-    pub count: usize,
-}
-
-impl Collected {
-    // No byte yet.
-    pub fn empty() -> Collected
-        ensures { result ≡ empty_line }
-    {
-        Collected {
-            bytes: [0; 40],
-            count: 0,
-        }
-    }
-
-    // The line with one byte more.
-    pub fn with(self, b: u8) -> Collected
-        ensures { result ≡ with_byte self b }
-    {
-        let count = self.count;
-        if 40 <= count {
-            return self;
-        }
-        let mut next = self;
-        next.bytes[count] = b;
-        next.count = count + 1;
-        next
-    }
-
-    // What the bytes collected read as.
-    pub fn line(self) -> Line
-        ensures { result ≡ line_of (kept self) }
-    {
-        let bytes = self.bytes;
-        line_in(&bytes, self.count)
+    match s {
+        [b'r', ..] => read_form(s),
+        [b'w', ..] => write_form(s),
+        _ => None,
     }
 }
+
+// A line that is being collected. One longer than 40 bytes is cut there, and reads the same: no line of
+// more than 34 bytes can be read.
+pub type Collected = Text<40>;

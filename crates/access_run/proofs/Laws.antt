@@ -1,11 +1,10 @@
 -- Laws of the access program: bytes from a place on, and the card's description.
 use Rattle.std.proofs.Common.{◌≡◌, ℕ, ◌+◌, ◌<◌, ◌≤◌, true, List, [], ◌++◌, length, get_or, drop, refl, add-one, drop_of_length-le}
 use Rattle.std.proofs.Common.{drop-cons}
-use Rattle.description.specs.Lawful.{every, lawful, lawful_counts, lawful_stream}
+use Rattle.description.specs.Lawful.{lawful, lawful_counts, lawful_stream}
 use Rattle.access_line.specs.Line.{line_of}
-use Rattle.access_line.specs.Collect.{empty_line, kept}
-use Rattle.access_line.specs.declared.Collected.{Collected}
-use Rattle.access_line.specs.declared.Line.{Line}
+use Rattle.access_line.specs.declared.Access.{Access}
+use Rattle.std.proofs.Common.{Option}
 use Rattle.access_run.specs.Answers.{panel, act_of, answer_text, next}
 use Rattle.access_run.specs.Session.{line_ended, line_text, fed, fed_text, block_text}
 use Rattle.access_run.specs.declared.Acted.{Acted}
@@ -24,18 +23,18 @@ module _ (s : Session) (t : List ℕ) (i : ℕ) where
 
 -- ---- a line that was read and done, and its number
 
-module _ (s : Session) (number : ℕ) (a : Acted) (l : Line) (n : number ≡ next s.lines) (e : l ≡ line_of (kept s.line))
+module _ (s : Session) (number : ℕ) (a : Acted) (l : Option Access) (n : number ≡ next s.lines) (e : l ≡ line_of s.line)
     (d : a ≡ act_of s.live l) where
   pub line-answer : answer_text number a.answer a.value ≡ line_text s
   unfolding line_text
   line-answer = rw (d, e, n)
 
-  pub line-session : (c : Collected) → c ≡ empty_line → record { live = a.live; line = c; lines = number } ≡ line_ended s
+  pub line-session : (c : List ℕ) → c ≡ [] → record { live = a.live; line = c; lines = number } ≡ line_ended s
   unfolding line_ended
   line-session c k = rw (d, e, n, k)
 
 -- ---- the card
 
 pub panel-lawful : lawful panel ≡ true
-unfolding lawful lawful_counts lawful_stream every
+unfolding lawful lawful_counts lawful_stream
 panel-lawful = refl

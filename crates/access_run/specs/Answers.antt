@@ -1,8 +1,8 @@
 -- 01, The access program: what is printed for an input, on a card with stream 0 only and 65,536 bytes of RAM.
-use Rattle.std.specs.Prelude.{ℕ, ◌+◌, ◌%◌, ◌^◌, List, [], ◌∷◌, ◌++◌, slice_set}
+use Rattle.std.specs.Prelude.{Option, Some, None, ℕ, ◌+◌, ◌%◌, ◌^◌, List, [], ◌∷◌, ◌++◌, slice_set}
 use Rattle.access_line.specs.Line.{line_of}
-use Rattle.access_line.specs.declared.Line.{Line}
-use Rattle.access_line.specs.declared.Line.TheVariants.{Read, Write, Unreadable}
+use Rattle.access_line.specs.declared.Access.{Access}
+use Rattle.access_line.specs.declared.Access.TheVariants.{Read, Write}
 use Rattle.card.specs.Card.{card_of, parts_at_power}
 use Rattle.decimal.specs.Write.{field_of}
 use Rattle.description.specs.Nothing.{nothing_described}
@@ -41,14 +41,14 @@ first_live = (board_of (card_of (parts_at_power panel) 65536)).live
 -- ---- a line
 
 -- "answer, value (0 for a write); 99 for a line it can't read"
-abbrev pub act_of : Live → Line → Acted
-act_of l (Read offset width) =
+abbrev pub act_of : Live → Option Access → Acted
+act_of l (Some (Read offset width)) =
     let r : LiveRead = read_live l offset width in
     record { live = r.live; answer = r.answer; value = r.value }
-act_of l (Write offset width v) =
+act_of l (Some (Write offset width v)) =
     let w : LiveWrite = write_live l offset width v in
     record { live = w.live; answer = w.answer; value = 0 }
-act_of l Unreadable = record { live = l; answer = 99; value = 0 }
+act_of l None = record { live = l; answer = 99; value = 0 }
 
 -- "Prints line number, answer, value": single spaces, 32, between the three, and a line feed, 10
 unfoldable pub answer_text : ℕ → ℕ → ℕ → List ℕ

@@ -1,9 +1,9 @@
 -- The access program's session: what each byte of the input makes of it, and the text that the byte leaves. `proofs/Whole.antt` says
 -- that the texts, joined, are what `Answers` says of the whole input, however it is cut into blocks.
-use Rattle.std.specs.Prelude.{◌≡◌, ℕ, cond, List, [], ◌∷◌, ◌++◌, take, ◌==◌, nat_lt}
+use Rattle.std.specs.Prelude.{◌≡◌, ℕ, cond, List, [], ◌∷◌, ◌++◌, length, take, ◌==◌, nat_lt}
 use mathlib.Core.List.{foldl}
 use Rattle.access_line.specs.Line.{line_of}
-use Rattle.access_line.specs.Collect.{empty_line, with_byte, kept}
+use Rattle.access_line.specs.Collect.{with_byte}
 use Rattle.decimal.specs.Write.{Put}
 use Rattle.live.specs.Live.{FitLive}
 use Rattle.access_run.specs.Answers.{first_live, act_of, answer_text, next}
@@ -11,14 +11,14 @@ use Rattle.access_run.specs.declared.Acted.{Acted}
 use Rattle.access_run.specs.declared.Session.{Session}
 
 abbrev pub first_session : Session
-first_session = record { live = first_live; line = empty_line; lines = 0 }
+first_session = record { live = first_live; line = []; lines = 0 }
 
 -- the line collected is whole: what it does, and its answer
 abbrev pub acted : Session → Acted
-acted s = act_of s.live (line_of (kept s.line))
+acted s = act_of s.live (line_of s.line)
 
 unfoldable pub line_ended : Session → Session
-line_ended s = record { live = (acted s).live; line = empty_line; lines = next s.lines }
+line_ended s = record { live = (acted s).live; line = []; lines = next s.lines }
 
 unfoldable pub line_text : Session → List ℕ
 line_text s = answer_text (next s.lines) (acted s).answer (acted s).value
@@ -37,7 +37,7 @@ block_text s (b ∷ t) = fed_text s b ++ block_text (fed s b) t
 
 -- the end of the input: what follows the last line feed is a line if it is not empty
 unfoldable pub rest_text : Session → List ℕ
-rest_text s = cond (nat_lt 0 s.line.count) (line_text s) []
+rest_text s = cond (nat_lt 0 (length s.line)) (line_text s) []
 
 -- what was read: the first `count` bytes of a block, or the end of the input
 unfoldable pub taken_text : Session → ℕ → List ℕ → List ℕ

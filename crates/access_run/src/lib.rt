@@ -9,9 +9,10 @@ ghost use mathlib.Core.List.{foldl};
 ghost use Rattle.live.specs.Live.{FitLive};
 ghost use Rattle.decimal.specs.Write.{Put};
 ghost use Rattle.access_run.specs.Answers.{panel, act_of, answer_text, printed};
-ghost use Rattle.access_run.specs.Session.{first_session, line_ended, line_text, fed, fed_text, block_text, rest_text, taken_text, Takes};
+ghost use Rattle.access_run.specs.Session.{first_session, acted, line_ended, line_text, fed, fed_text, block_text};
+ghost use Rattle.access_run.specs.Session.{rest_text, taken_text, Takes};
 
-use access_line::{Collected, Line};
+use access_line::{Access, Collected};
 use description::{Description, StreamInfo};
 use live::Live;
 use std::io::{Read, Write};
@@ -22,9 +23,8 @@ const UNREADABLE: u8 = 99;
 // The bytes of the card's RAM.
 const RAM_LENGTH: usize = 65536;
 
-// More blocks than any input has: the loop over them counts down from here, so that it ends whatever
-// is read.
-const BLOCKS: u64 = 18446744073709551615;
+// More blocks than any input has: the loop over them ends here, whatever is read.
+const BLOCKS: u64 = u64::MAX;
 
 // What a line did: the small state after it, and what is printed.
 #[derive(Clone, Copy)]
@@ -35,24 +35,17 @@ struct Acted {
 }
 
 // The card's small state, the line that is being collected, and how many lines came before it.
-#[derive(Clone, Copy)]
+#[derive(Drop)]
 struct Session {
     live: Live,
     line: Collected,
     lines: u64,
 }
 
-// The session after a part of the input, and the place behind the text that it left.
-#[derive(Clone, Copy)]
-struct Turn {
-    session: Session,
-    end: usize,
-}
-
-// The same after a block of `count` bytes; none is the input's end.
+// What a read of the input brought: how many bytes, and the place behind the text that they left. None is
+// the input's end.
 #[derive(Clone, Copy)]
 struct Taken {
-    session: Session,
     count: usize,
     end: usize,
 }
@@ -82,46 +75,36 @@ fn description() -> Description
     panel
 }
 
-// The card at power-up, and no line yet.
-fn first_session() -> Session
-    ensures { (result ≡ first_session) × FitLive result.live }
-{
-    let powered = live::power_up(description(), RAM_LENGTH);
-    let board = powered.board;
-    let live = board.live;
-    Session {
-        live: live,
-        line: Collected::empty(),
-        lines: 0,
-    }
-}
-
 // One line, done on the card.
-fn act(live: Live, line: Line) -> Acted
+fn act(live: Live, line: Option<Access>) -> Acted
     requires { FitLive live }
     ensures { (result ≡ act_of live line) × FitLive result.live }
 {
     match line {
-        Line::Read(offset, width) => {
+        Some(Access::Read { offset, width }) => {
             let read = live::read(live, offset, width);
-            let after = read.live;
             Acted {
-                live: after,
+                live: read.live,
                 answer: read.answer,
                 value: read.value,
             }
         }
-        Line::Write(offset, width, value) => {
+        Some(
+            Access::Write {
+                offset,
+                width,
+                value,
+            },
+        ) => {
             let written = live::write(live, offset, width, value);
-            let after = written.live;
             Acted {
-                live: after,
+                live: written.live,
                 answer: written.answer,
                 value: 0,
             }
         }
-        Line::Unreadable => Acted {
-            live: live,
+        None => Acted {
+            live,
             answer: UNREADABLE,
             value: 0,
         },
@@ -139,103 +122,98 @@ fn put_answer(out: &mut [u8], at: usize, number: u64, answer: u8, value: u32) ->
     decimal::put(out, answered, value as u64, b'\n')
 }
 
-// The line collected is whole: it is done and answered.
-fn end_line(session: Session, out: &mut [u8], at: usize) -> Turn
-    requires { FitLive session.live × (at + 63 ≤ length out.old) }
-    ensures { Takes (line_ended session) (line_text session) out.old at out.new result.session result.end
-        × (result.end ≤ at + 63) }
-{
-    let live = session.live;
-    let line = session.line;
-    let number = std::num::wrapping_add_u64(session.lines, 1);
-    let acted = act(live, line.line());
-    let end = put_answer(out, at, number, acted.answer, acted.value);
-    let after = acted.live;
-    let next = Session {
-        live: after,
-        line: Collected::empty(),
-        lines: number,
-    };
-    Turn {
-        session: next,
-        end: end,
+impl Session {
+    // The card at power-up, and no line yet.
+    fn first() -> Session
+        ensures { (result ≡ first_session) × FitLive result.live }
+    {
+        Session {
+            live: live::power_up(description(), RAM_LENGTH).board.live,
+            line: Collected::new(),
+            lines: 0,
+        }
     }
-}
 
-// One byte of the input: a line feed ends a line.
-fn feed(session: Session, b: u8, out: &mut [u8], at: usize) -> Turn
-    requires { FitLive session.live × (at + 63 ≤ length out.old) }
-    ensures { Takes (fed session b) (fed_text session b) out.old at out.new result.session result.end
-        × (result.end ≤ at + 63) }
-{
-    if b == b'\n' {
-        return end_line(session, out, at);
+    // What the line collected does.
+    fn acted(&self) -> Acted
+        requires { FitLive self.now.live }
+        ensures { (result ≡ acted self.now) × FitLive result.live }
+    {
+        act(self.live, access_line::read_line(self.line.as_slice()))
     }
-    let line = session.line;
-    let mut next = session;
-    next.line = line.with(b);
-    Turn {
-        session: next,
-        end: at,
-    }
-}
 
-// A block of input, whose answers go to the start of `out`.
-fn with_block(session: Session, bytes: &[u8], out: &mut [u8]) -> Turn
-    requires { FitLive session.live × (63 * length bytes.now ≤ length out.old) }
-    ensures { Takes (foldl fed session bytes.now) (block_text session bytes.now)
-        out.old 0 out.new result.session result.end
-        × (result.end ≤ length out.new) }
-{
-    let mut turn = Turn {
-        session: session,
-        end: 0,
-    };
-    let mut i = 0;
-    while i < bytes.len() {
-        let next = turn.session;
-        turn = feed(next, bytes[i], out, turn.end);
-        i += 1;
+    // The line collected is whole: it is done and answered. The place behind the answer.
+    fn end_line(&mut self, out: &mut [u8], at: usize) -> usize
+        requires { FitLive self.old.live × (at + 63 ≤ length out.old) }
+        ensures { Takes (line_ended self.old) (line_text self.old) out.old at out.new self.new result × (result ≤ at + 63) }
+    {
+        let acted = self.acted();
+        self.live = acted.live;
+        self.line = Collected::new();
+        self.lines = self.lines.wrapping_add(1);
+        put_answer(out, at, self.lines, acted.answer, acted.value)
     }
-    turn
-}
 
-// The input has ended: what follows the last line feed is a line if it is not empty.
-fn finish(session: Session, out: &mut [u8]) -> usize
-    requires { FitLive session.live × (63 ≤ length out.old) }
-    ensures { Put (rest_text session) out.old 0 out.new result × (result ≤ 63) }
-{
-    let line = session.line;
-    if 0 < line.count {
-        let turn = end_line(session, out, 0);
-        return turn.end;
+    // One byte of the input: a line feed ends a line. The place behind what it left.
+    fn feed(&mut self, b: u8, out: &mut [u8], at: usize) -> usize
+        requires { FitLive self.old.live × (at + 63 ≤ length out.old) }
+        ensures { Takes (fed self.old b) (fed_text self.old b) out.old at out.new self.new result × (result ≤ at + 63) }
+    {
+        if b == b'\n' {
+            self.end_line(out, at)
+        } else {
+            self.line.push(b);
+            at
+        }
     }
-    0
-}
 
-// One read of the input into `block`, done and answered; nothing read is its end.
-fn take_block<R: Read>(input: &mut R, session: Session, block: &mut [u8], out: &mut [u8]) -> Taken
-    requires { FitLive session.live × (63 + 63 * length block.old ≤ length out.old) }
-    ensures told { Takes (foldl fed session (take result.count block.new)) (taken_text session result.count block.new)
-        out.old 0 out.new result.session result.end
-        × (result.end ≤ length out.new) }
-    ensures read { Consumes (R.remaining input.old) (R.remaining input.new) (take result.count block.new) }
-{
-    let count = streams::read_some(input, block);
-    if count == 0 {
-        let end = finish(session, out);
-        return Taken {
-            session: session,
-            count: 0,
-            end: end,
+    // A block of input, whose answers go to the start of `out`. The place behind them.
+    fn feed_all(&mut self, bytes: &[u8], out: &mut [u8]) -> usize
+        requires { FitLive self.old.live × (63 * length bytes.now ≤ length out.old) }
+        ensures { Takes (foldl fed self.old bytes.now) (block_text self.old bytes.now) out.old 0 out.new self.new result
+            × (result ≤ length out.new) }
+    {
+        let mut end = 0;
+        for b in bytes {
+            end = self.feed(*b, out, end);
+        }
+        end
+    }
+
+    // The input has ended: what follows the last line feed is a line if it is not empty. The place behind
+    // its answer.
+    fn finish(&self, out: &mut [u8]) -> usize
+        requires { FitLive self.now.live × (63 ≤ length out.old) }
+        ensures { Put (rest_text self.now) out.old 0 out.new result × (result ≤ 63) }
+    {
+        if self.line.is_empty() {
+            return 0;
+        }
+        let acted = self.acted();
+        put_answer(
+            out,
+            0,
+            self.lines.wrapping_add(1),
+            acted.answer,
+            acted.value,
+        )
+    }
+
+    // One read of the input into `block`, done and answered; nothing read is its end.
+    fn take_block<R: Read>(&mut self, input: &mut R, block: &mut [u8], out: &mut [u8]) -> Taken
+        requires { FitLive self.old.live × (63 + 63 * length block.old ≤ length out.old) }
+        ensures told { Takes (foldl fed self.old (take result.count block.new)) (taken_text self.old result.count block.new)
+            out.old 0 out.new self.new result.end
+            × (result.end ≤ length out.new) }
+        ensures read { Consumes (R.remaining input.old) (R.remaining input.new) (take result.count block.new) }
+    {
+        let count = streams::read_some(input, block);
+        let end = if count == 0 {
+            self.finish(out)
+        } else {
+            self.feed_all(&block[..count], out)
         };
-    }
-    let turn = with_block(session, &block[..count], out);
-    let next = turn.session;
-    Taken {
-        session: next,
-        count: count,
-        end: turn.end,
+        Taken { count, end }
     }
 }
 
@@ -245,21 +223,17 @@ pub fn run<R: Read, W: Write>(input: &mut R, output: &mut W) -> bool
     ensures { result ≡ true → (read : List ℕ) × Consumes (R.remaining input.old) (R.remaining input.new) read
         × Appends (W.contents output.old) (W.contents output.new) (printed read) }
 {
-    let mut session = first_session();
+    let mut session = Session::first();
     let mut block = io::buffer();
     let mut out = text_buffer();
-    let mut left = BLOCKS;
-    while 0 < left {
-        let taken = take_block(input, session, &mut block, &mut out);
-        let end = taken.end;
-        if !streams::write_all(output, &out[..end]) {
+    'reads: for _ in 0..BLOCKS {
+        let taken = session.take_block(input, &mut block, &mut out);
+        if !streams::write_all(output, &out[..taken.end]) {
             return false;
         }
         if taken.count == 0 {
             return true;
         }
-        session = taken.session;
-        left -= 1;
     }
     false
 }

@@ -121,7 +121,7 @@ pub fn call(card: Card, m: &mut [u8], host: &mut [u8], request: Request) -> Outc
             Outcome {
                 answer: registers::plain(read.answer),
                 value: read.value,
-                rung: card::NO_QUEUE,
+                rung: registers::NO_QUEUE,
                 count: 0,
                 card: after,
             }
@@ -163,7 +163,7 @@ fn queue_outcome(answer: Answer, count: usize, card: Card) -> Outcome
     Outcome {
         answer: answer,
         value: 0,
-        rung: card::NO_QUEUE,
+        rung: registers::NO_QUEUE,
         count: count,
         card: card,
     }

@@ -9,7 +9,9 @@ ghost use Rattle.card.specs.Setters.{with_jack_at, with_stream_at};
 ghost use Rattle.description.specs.Lawful.{lawful};
 
 use counts::DescriptorNumber;
-use description::{Description, JackInfo, MapInfo, STREAMS, StreamInfo};
+use description::{
+    Description, JackInfo, MapInfo, NO_JACK, NO_MAP, NO_STREAM, STREAMS, StreamInfo,
+};
 use ranges::Ranges;
 use registers::Registers;
 
@@ -18,9 +20,6 @@ use registers::Registers;
 pub const PLAY_WORDS: usize = 1340;
 
 pub const CAPTURE_WORDS: usize = 286;
-
-// What a WriteAnswer rings where no queue was rung.
-pub const NO_QUEUE: u8 = 255;
 
 // The states of a stream.
 pub const FRESH: u8 = 0;
@@ -102,23 +101,21 @@ pub struct Parts {
 
 impl Parts {
     // The parts with another jack at `i`.
-    pub fn with_jack(self, i: usize, jack: Jack) -> Parts
+    pub fn with_jack(mut self, i: usize, jack: Jack) -> Parts
         requires { i < 4 }
         ensures { result ≡ with_jack_at i jack self }
     {
-        let mut next = self;
-        next.jacks[i] = jack;
-        next
+        self.jacks[i] = jack;
+        self
     }
 
     // The parts with another stream at `i`.
-    pub fn with_stream(self, i: usize, stream: Stream) -> Parts
+    pub fn with_stream(mut self, i: usize, stream: Stream) -> Parts
         requires { i < 6 }
         ensures { result ≡ with_stream_at i stream self }
     {
-        let mut next = self;
-        next.streams[i] = stream;
-        next
+        self.streams[i] = stream;
+        self
     }
 }
 
@@ -193,7 +190,7 @@ fn fresh(info: StreamInfo) -> Stream
     ensures { result ≡ fresh_stream info }
 {
     Stream {
-        info: info,
+        info,
         state: FRESH,
         params: no_params(),
         backlog: 0,
@@ -204,7 +201,7 @@ fn jack_at_power(info: JackInfo) -> Jack
     ensures { result ≡ jack_at_power info }
 {
     Jack {
-        info: info,
+        info,
         defconf: info.defconf,
         connected: info.connected,
     }
@@ -213,25 +210,13 @@ fn jack_at_power(info: JackInfo) -> Jack
 fn jacks_at_power(infos: [JackInfo; 4]) -> [Jack; 4]
     ensures { result ≡ map jack_at_power infos }
 {
-    [
-        jack_at_power(infos[0]),
-        jack_at_power(infos[1]),
-        jack_at_power(infos[2]),
-        jack_at_power(infos[3]),
-    ]
+    infos.map(jack_at_power)
 }
 
 fn streams_at_power(infos: [StreamInfo; STREAMS]) -> [Stream; STREAMS]
     ensures { result ≡ map fresh_stream infos }
 {
-    [
-        fresh(infos[0]),
-        fresh(infos[1]),
-        fresh(infos[2]),
-        fresh(infos[3]),
-        fresh(infos[4]),
-        fresh(infos[5]),
-    ]
+    infos.map(fresh)
 }
 
 // The parts of a card that is made of a lawful description.
@@ -248,7 +233,7 @@ pub fn parts_at_power(d: Description) -> Parts
         stream_count: d.output_count as usize + d.input_count as usize,
         output_count: d.output_count as usize,
         jacks: jacks_at_power(jacks),
-        maps: maps,
+        maps,
         streams: streams_at_power(streams),
     }
 }
@@ -257,34 +242,13 @@ pub fn parts_at_power(d: Description) -> Parts
 pub fn no_parts() -> Parts
     ensures { (result ≡ no_parts) × FitParts result }
 {
-    let jack = JackInfo {
-        nid: 0,
-        features: 0,
-        defconf: 0,
-        caps: 0,
-        connected: 0,
-    };
-    let map = MapInfo {
-        nid: 0,
-        direction: 0,
-        channels: 0,
-        positions: [0; 18],
-    };
-    let stream = StreamInfo {
-        nid: 0,
-        features: 0,
-        formats: 0,
-        rates: 0,
-        channels_min: 0,
-        channels_max: 0,
-    };
     Parts {
         jack_count: 0,
         map_count: 0,
         stream_count: 0,
         output_count: 0,
-        jacks: [jack_at_power(jack); 4],
-        maps: [map; 4],
-        streams: [fresh(stream); STREAMS],
+        jacks: [jack_at_power(NO_JACK); 4],
+        maps: [NO_MAP; 4],
+        streams: [fresh(NO_STREAM); STREAMS],
     }
 }

@@ -2,7 +2,7 @@
 use mathlib.Core.Path.{◌≡◌, ◌∙◌, refl, sym}
 use mathlib.Core.List.{List, [], ◌∷◌, ◌++◌}
 use mathlib.Core.Bool.{Bool, true, false, cond}
-use Prim.Native.Nat.{ℕ, zero, suc, ◌+◌, ◌*◌, ◌/◌, ◌^◌, ◌≤◌, ◌<◌}
+use Prim.Native.Nat.{ℕ, zero, suc, ◌+◌, ◌*◌, ◌/◌, ◌≤◌, ◌<◌}
 use native.Mathlib.Numerals.{add-one}
 use native.Mathlib.Omega.{arith}
 use borrow.Author.Tests.{le-leb, lt-leb, leb-true}
@@ -10,14 +10,12 @@ use lib.Dec.{eqb, leb}
 use lib.ListN.{length, get_or, length-append}
 use Rattle.ranges.specs.declared.Range.{Range}
 use Rattle.ranges.specs.Ranges.{ranges_of, ranges_in, put_range, total}
-use Rattle.ranges.proofs.Laws.{total-append, ranges_in-none, ranges_in-before, ranges_in-snoc, sound_none}
+use Rattle.ranges.proofs.Laws.{total-append, ranges_in-none, ranges_in-before, ranges_in-snoc}
 use Rattle.chain.specs.declared.Fault.{Fault}
 use Rattle.chain.specs.declared.Fault.TheVariants.{PastTable, TooMany, Nested}
-use Rattle.chain.specs.declared.End.{End}
-use Rattle.chain.specs.declared.End.TheVariants.{Whole, Faulted}
+use Rattle.std.specs.Prelude.{Result, Ok, Err}
 use Rattle.chain.specs.declared.Descriptor.{Descriptor}
 use Rattle.chain.specs.declared.Chain.{Chain}
-use Rattle.chain.specs.declared.Walked.{Walked}
 use Rattle.chain.specs.Walk.{descriptor_at, descriptors, no_descriptor, has_next, is_writable, is_indirect, range_of, Outcome, whole}
 use Rattle.chain.specs.Walk.{faulted, and_then, by_end, joined_of, enter_of, onward, in_table, direct, walk_of, empty_chain, SoundChain}
 use Rattle.chain.specs.Walk.{reply_with, request_with, Joins}
@@ -132,7 +130,7 @@ module _ (m : List ℕ) (negotiated : Bool) where
     pub turned-nested : is_indirect d ≡ true → deeper ≡ 0 → turned deeper n k table d rd wr ≡ faulted Nested
     turned-nested h e = rw (e, h)
 
-    pub turned-enters : (end : End) → enter_of (length m) negotiated d ≡ end → is_indirect d ≡ true → (deeper ≡ 0 → ⊥)
+    pub turned-enters : (end : Result Unit Fault) → enter_of (length m) negotiated d ≡ end → is_indirect d ≡ true → (deeper ≡ 0 → ⊥)
         → turned deeper n k table d rd wr ≡ by_end end (in_table n (descriptors m d.at.0 (d.len / 16)) 0 rd wr)
     turned-enters end e h some = by deeper some where
       by : (i : ℕ) → (i ≡ 0 → ⊥)
@@ -143,19 +141,25 @@ module _ (m : List ℕ) (negotiated : Bool) where
 -- ---- one descriptor joined to a chain
 
 -- how the walk goes on after a descriptor that the code joined
-module _ {ws ws' : List ℕ} {c : Chain} {d : Descriptor} {w : Walked} (j : Joins ws c d ws' w) (go : List Range → List Range → Outcome) where
-  pub onward-fault : {f : Fault} → w.end ≡ Faulted f → onward d (ranges_of ws c.request) (ranges_of ws c.reply) go ≡ faulted f
+module _ {ws ws' : List ℕ} {c : Chain} {d : Descriptor} {w : Result Chain Fault} (j : Joins ws c d ws' w)
+    (go : List Range → List Range → Outcome) where
+  pub onward-fault : {f : Fault} → w ≡ Err f → onward d (ranges_of ws c.request) (ranges_of ws c.reply) go ≡ faulted f
   onward-fault e = rw (← j.outcome, e)
 
-  pub onward-last : w.end ≡ Whole → has_next d ≡ false
-      → onward d (ranges_of ws c.request) (ranges_of ws c.reply) go
-      ≡ whole (ranges_of ws' w.chain.request) (ranges_of ws' w.chain.reply)
+  pub onward-last : {n : Chain} → w ≡ Ok n → has_next d ≡ false
+      → onward d (ranges_of ws c.request) (ranges_of ws c.reply) go ≡ whole (ranges_of ws' n.request) (ranges_of ws' n.reply)
   onward-last e h = rw (← j.outcome, e, h)
 
-  pub onward-next : w.end ≡ Whole → has_next d ≡ true
-      → onward d (ranges_of ws c.request) (ranges_of ws c.reply) go
-      ≡ go (ranges_of ws' w.chain.request) (ranges_of ws' w.chain.reply)
+  pub onward-next : {n : Chain} → w ≡ Ok n → has_next d ≡ true
+      → onward d (ranges_of ws c.request) (ranges_of ws c.reply) go ≡ go (ranges_of ws' n.request) (ranges_of ws' n.reply)
   onward-next e h = rw (← j.outcome, e, h)
+
+module _ {ws ws' : List ℕ} {c : Chain} {d : Descriptor} {w : Result Chain Fault} (j : Joins ws c d ws' w) {n : Chain} (e : w ≡ Ok n) where
+  pub joined-sound : SoundChain ws' n
+  joined-sound = rw e at j.sound
+
+  pub joined-few : n.request.count + n.reply.count ≤ c.request.count + c.reply.count + 1
+  joined-few = rw e at j.more
 
 -- ---- no descriptor, and a side with one range more
 
@@ -278,9 +282,9 @@ direct-within m negotiated (suc k) table number n rd wr b h =
     (onward-within n d rd wr _ (omega arith) h
     (λ rd' wr' h'. direct-within m negotiated k table d.next.0 (n + 1) rd' wr' (omega arith) h')))
   where
-    end-within : (e : End) (o : Outcome) → Within 34 o → Within 34 (by_end e o)
-    end-within Whole o w = w
-    end-within (Faulted f) o w = tt
+    end-within : (e : Result Unit Fault) (o : Outcome) → Within 34 o → Within 34 (by_end e o)
+    end-within (Ok x) o w = w
+    end-within (Err f) o w = tt
 
 pub walk-bounds : (m : List ℕ) (table size head : ℕ) (negotiated : Bool) (rd wr : List Range) → walk_of m table size head negotiated
     ≡ whole rd wr

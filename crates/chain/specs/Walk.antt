@@ -1,6 +1,7 @@
 -- 01, Rings and chains, from "Walk faults" on: the walk of a descriptor chain, over lists of descriptors and of ranges.
 -- It is `walk_of`; `Walks` is what the code's walk promises of its result.
-use Rattle.std.specs.Prelude.{◌≡◌, List, [], ◌∷◌, ◌++◌, Bool, cond, not, ◌||◌, ℕ, zero, suc, ◌+◌, ◌/◌, ◌%◌, ◌≤◌, eqb, leb, length, get_or}
+use Rattle.std.specs.Prelude.{Result, Ok, Err, ◌≡◌, List, [], ◌∷◌, ◌++◌, Bool, cond, not, ◌||◌, ℕ, zero, suc}
+use Rattle.std.specs.Prelude.{◌+◌, ◌/◌, ◌%◌, ◌≤◌, eqb, leb, length, get_or}
 use Rattle.memory.specs.Bytes.{le, inside_of}
 use Rattle.ranges.specs.Ranges.{no_ranges, ranges_of, total, Sound}
 use Rattle.ranges.specs.declared.Range.{Range}
@@ -8,11 +9,8 @@ use Rattle.ranges.specs.declared.Ranges.{Ranges}
 use Rattle.chain.specs.declared.Fault.{Fault}
 use Rattle.chain.specs.declared.Fault.TheVariants.{PastTable, TooMany, Order, TooLong, NotNegotiated, WithNext, Nested}
 use Rattle.chain.specs.declared.Fault.TheVariants.{TableLength, TableOutside}
-use Rattle.chain.specs.declared.End.{End}
-use Rattle.chain.specs.declared.End.TheVariants.{Whole, Faulted}
 use Rattle.chain.specs.declared.Descriptor.{Descriptor}
 use Rattle.chain.specs.declared.Chain.{Chain}
-use Rattle.chain.specs.declared.Walked.{Walked}
 
 -- ---- descriptors: 002, 2.2 and 2.3
 
@@ -53,10 +51,10 @@ abbrev pub and_then : Outcome → (List Range → List Range → Outcome) → Ou
 and_then (whole rd wr) go = go rd wr
 and_then (faulted f) go = faulted f
 
--- the same by the code's `End`
-abbrev pub by_end : End → Outcome → Outcome
-by_end Whole o = o
-by_end (Faulted f) o = faulted f
+-- the same where nothing is found but a fault
+abbrev pub by_end : Result Unit Fault → Outcome → Outcome
+by_end (Ok x) o = o
+by_end (Err f) o = faulted f
 
 -- ---- the rules
 
@@ -71,13 +69,13 @@ joined_of d rd wr =
 
 -- "an indirect one without bit 28 negotiated, with NEXT, .. of length 0 or not a multiple of 16, or with its table
 -- outside RAM". "WRITE on it is ignored, as are unknown flags."
-unfoldable pub enter_of : ℕ → Bool → Descriptor → End
+unfoldable pub enter_of : ℕ → Bool → Descriptor → Result Unit Fault
 enter_of ram negotiated d =
     cond negotiated
-    (cond (has_next d) (Faulted WithNext)
-    (cond (eqb d.len 0 || not (eqb (d.len % 16) 0)) (Faulted TableLength)
-    (cond (inside_of ram d.at.0 d.len) Whole (Faulted TableOutside))))
-    (Faulted NotNegotiated)
+    (cond (has_next d) (Err WithNext)
+    (cond (eqb d.len 0 || not (eqb (d.len % 16) 0)) (Err TableLength)
+    (cond (inside_of ram d.at.0 d.len) (Ok tt) (Err TableOutside))))
+    (Err NotNegotiated)
 
 -- "a descriptor number past its table", else what is made of the descriptor
 abbrev pub entry : List Descriptor → ℕ → (Descriptor → Outcome) → Outcome
@@ -140,27 +138,28 @@ pub record SoundChain (ws : List ℕ) (c : Chain) : Type 0 where
   pub readable : c.request.bytes ≤ 1048576
   pub writable : c.reply.bytes ≤ 1048576
 
-abbrev pub outcome_of : List ℕ → Walked → Outcome
-outcome_of ws w = by_end w.end (whole (ranges_of ws w.chain.request) (ranges_of ws w.chain.reply))
+-- what a walk gives: the ranges of its chain, or the fault
+abbrev pub outcome_of : List ℕ → Result Chain Fault → Outcome
+outcome_of ws (Ok c) = whole (ranges_of ws c.request) (ranges_of ws c.reply)
+outcome_of ws (Err f) = faulted f
+
+-- a chain that is given is sound
+abbrev pub SoundWalk : List ℕ → Result Chain Fault → Type 0
+SoundWalk ws (Ok c) = SoundChain ws c
+SoundWalk ws (Err f) = Unit
+
+-- no more than so many ranges are given
+abbrev pub Few : ℕ → Result Chain Fault → Type 0
+Few n (Ok c) = c.request.count + c.reply.count ≤ n
+Few n (Err f) = Unit
 
 -- one descriptor joined to a chain: at most one range more
-pub record Joins (ws : List ℕ) (c : Chain) (d : Descriptor) (ws' : List ℕ) (w : Walked) : Type 0 where
+pub record Joins (ws : List ℕ) (c : Chain) (d : Descriptor) (ws' : List ℕ) (w : Result Chain Fault) : Type 0 where
   pub outcome : outcome_of ws' w ≡ joined_of d (ranges_of ws c.request) (ranges_of ws c.reply)
-  pub sound : SoundChain ws' w.chain
-  pub more : w.chain.request.count + w.chain.reply.count ≤ c.request.count + c.reply.count + 1
+  pub sound : SoundWalk ws' w
+  pub more : Few (c.request.count + c.reply.count + 1) w
 
--- the ranges followed to the end of the chain or to a fault; the chain is sound after a fault too
-pub record Follows (m : List ℕ) (table size head : ℕ) (negotiated : Bool) (ws : List ℕ) (w : Walked) : Type 0 where
+-- the whole walk: its outcome is the rule's
+pub record Walks (m : List ℕ) (table size head : ℕ) (negotiated : Bool) (ws : List ℕ) (w : Result Chain Fault) : Type 0 where
   pub outcome : outcome_of ws w ≡ walk_of m table size head negotiated
-  pub sound : SoundChain ws w.chain
-
--- no ranges after a fault
-abbrev pub Cleared : End → Chain → Type 0
-Cleared Whole c = Unit
-Cleared (Faulted f) c = c ≡ empty_chain
-
--- the whole walk: its outcome is the rule's, and after a fault the chain is empty
-pub record Walks (m : List ℕ) (table size head : ℕ) (negotiated : Bool) (ws : List ℕ) (w : Walked) : Type 0 where
-  pub outcome : outcome_of ws w ≡ walk_of m table size head negotiated
-  pub sound : SoundChain ws w.chain
-  pub cleared : Cleared w.end w.chain
+  pub sound : SoundWalk ws w

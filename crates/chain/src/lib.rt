@@ -3,12 +3,11 @@
 #![tactic(auto)]
 
 ghost use Rattle.std.specs.Prelude.{◌≡◌, ◌+◌, ◌*◌, ◌≤◌, ◌<◌, length};
-ghost use Rattle.chain.specs.declared.End.TheVariants.{Faulted};
 ghost use Rattle.chain.specs.Walk.{descriptor_at, has_next, is_writable, is_indirect, range_of, enter_of, SoundChain, empty_chain};
-ghost use Rattle.chain.specs.Walk.{reply_with, request_with, Joins, Follows, Walks};
+ghost use Rattle.chain.specs.Walk.{reply_with, request_with, Joins, Walks};
 
 use counts::{DescriptorNumber, GuestAddress};
-use memory::{get16, get32, get64, inside, place, whole16, whole32, whole64};
+use memory::Number;
 use ranges::{Range, Ranges};
 
 // 01, Rings and chains: the most descriptors of a chain, those naming an indirect table not counted.
@@ -40,13 +39,6 @@ pub enum Fault {
     TableOutside,
 }
 
-// How a walk ends.
-#[derive(Clone, Copy)]
-pub enum End {
-    Whole,
-    Faulted(Fault),
-}
-
 // An entry of a descriptor table: 002, 2.2.
 #[derive(Clone, Copy)]
 pub struct Descriptor {
@@ -64,49 +56,36 @@ pub struct Chain {
     pub reply: Ranges,
 }
 
-// What a walk gives; after a fault the chain is empty.
-#[derive(Clone, Copy)]
-pub struct Walked {
-    pub end: End,
-    pub chain: Chain,
-}
-
 impl Descriptor {
     // The descriptor with this number in the table at `table`: where all its bytes are there, with one test.
+    #[tactic(auto, unfolding(crate::specs::Walk::descriptor_at))]
     fn read(m: &[u8], table: GuestAddress, number: DescriptorNumber) -> Descriptor
         ensures { result ≡ descriptor_at m.now (table.0 + number.0 * 16) }
     {
         let start = number.offset();
-        let from = place(m.len(), table, start);
+        let from = memory::place(m.len(), table, start);
         if m.len() - from < 16 {
             return Descriptor::read_each(m, table, start);
         }
-        let at = whole64(m, from);
-        let len = whole32(m, from + 8) as u32;
-        let flags = whole16(m, from + 12) as u16;
-        let next = whole16(m, from + 14) as u16;
         Descriptor {
-            at: GuestAddress::of(at),
-            len,
-            flags,
-            next: DescriptorNumber::of(next),
+            at: GuestAddress::of(u64::read(m, from)),
+            len: u32::read(m, from + 8),
+            flags: u16::read(m, from + 12),
+            next: DescriptorNumber::of(u16::read(m, from + 14)),
         }
     }
 
     // The descriptor at `start` behind `table`, each number with a test of its own.
+    #[tactic(auto, unfolding(crate::specs::Walk::descriptor_at))]
     fn read_each(m: &[u8], table: GuestAddress, start: u64) -> Descriptor
         requires { start < 2097152 }
         ensures { result ≡ descriptor_at m.now (table.0 + start) }
     {
-        let at = get64(m, table, start);
-        let len = get32(m, table, start + 8);
-        let flags = get16(m, table, start + 12);
-        let next = get16(m, table, start + 14);
         Descriptor {
-            at: GuestAddress::of(at),
-            len,
-            flags,
-            next: DescriptorNumber::of(next),
+            at: GuestAddress::of(memory::get::<u64>(m, table, start)),
+            len: memory::get(m, table, start + 8),
+            flags: memory::get(m, table, start + 12),
+            next: DescriptorNumber::of(memory::get::<u16>(m, table, start + 14)),
         }
     }
 
@@ -114,9 +93,10 @@ impl Descriptor {
     fn range(self) -> Range
         ensures { result ≡ range_of self }
     {
-        let at = self.at;
-        let len = self.len as u64;
-        Range { at, len }
+        Range {
+            at: self.at,
+            len: self.len as u64,
+        }
     }
 
     // 002, 2.3: NEXT is 1, WRITE 2, INDIRECT 4.
@@ -144,109 +124,89 @@ impl Chain {
     fn empty() -> Chain
         ensures { result ≡ empty_chain }
     {
-        let request = Ranges::none();
-        let reply = Ranges::none();
-        Chain { request, reply }
-    }
-
-    // The chain as it is, where a fault ends the walk.
-    fn stopped(self, fault: Fault) -> Walked
-        ensures { result ≡ record { end = Faulted fault; chain = self } }
-    {
-        Walked {
-            end: End::Faulted(fault),
-            chain: self,
+        Chain {
+            request: Ranges::none(),
+            reply: Ranges::none(),
         }
     }
 
     // One range of `len` bytes more in its reply, and in its request.
-    fn with_reply(self, len: u32) -> Chain
+    fn with_reply(mut self, len: u32) -> Chain
         requires { (self.reply.count ≤ 34) × (self.reply.bytes + len ≤ 1048576) }
         ensures { result ≡ reply_with self len }
     {
-        let mut reply = self.reply;
-        reply.count += 1;
-        reply.bytes += len;
-        let request = self.request;
-        Chain { request, reply }
+        self.reply.count += 1;
+        self.reply.bytes += len;
+        self
     }
 
-    fn with_request(self, len: u32) -> Chain
+    fn with_request(mut self, len: u32) -> Chain
         requires { (self.request.count ≤ 34) × (self.reply.first ≤ 34) × (self.request.bytes + len ≤ 1048576) }
         ensures { result ≡ request_with self len }
     {
-        let mut request = self.request;
-        request.count += 1;
-        request.bytes += len;
-        let mut reply = self.reply;
-        reply.first += 1;
-        Chain { request, reply }
+        self.request.count += 1;
+        self.request.bytes += len;
+        self.reply.first += 1;
+        self
     }
 }
 
-// The chain with one descriptor more at the end of its side, its range put into the list; or as it
-// was, with the fault.
-fn joined(list: &mut [u64], chain: Chain, d: Descriptor) -> Walked
+// The chain with one descriptor more at the end of its side, its range put into the list; or the fault.
+fn joined(list: &mut [u64], chain: Chain, d: Descriptor) -> Result<Chain, Fault>
     requires { SoundChain list.old chain × (chain.request.count + chain.reply.count < 34) × (68 ≤ length list.old) }
     ensures { Joins list.old chain d list.new result }
 {
     let request = chain.request;
     let reply = chain.reply;
-    let range = d.range();
     if d.is_writable() {
         if MOST_BYTES - reply.bytes < d.len {
-            return chain.stopped(Fault::TooLong);
+            return Err(Fault::TooLong);
         }
-        ranges::put_range(list, reply.first as usize + reply.count as usize, range);
-        return Walked {
-            end: End::Whole,
-            chain: chain.with_reply(d.len),
-        };
+        ranges::put_range(list, (reply.first + reply.count) as usize, d.range());
+        return Ok(chain.with_reply(d.len));
     }
     if 0 < reply.count {
-        return chain.stopped(Fault::Order);
+        return Err(Fault::Order);
     }
     if MOST_BYTES - request.bytes < d.len {
-        return chain.stopped(Fault::TooLong);
+        return Err(Fault::TooLong);
     }
-    ranges::put_range(list, request.first as usize + request.count as usize, range);
-    Walked {
-        end: End::Whole,
-        chain: chain.with_request(d.len),
-    }
+    ranges::put_range(list, (request.first + request.count) as usize, d.range());
+    Ok(chain.with_request(d.len))
 }
 
 // Whether the walk may go on in the table that the indirect descriptor `d` names.
-fn enter(ram: usize, negotiated: bool, d: Descriptor) -> End
+#[tactic(auto, unfolding(crate::specs::Walk::enter_of))]
+fn enter(ram: usize, negotiated: bool, d: Descriptor) -> Result<(), Fault>
     ensures { result ≡ enter_of ram negotiated d }
 {
     if !negotiated {
-        return End::Faulted(Fault::NotNegotiated);
+        return Err(Fault::NotNegotiated);
     }
     if d.has_next() {
-        return End::Faulted(Fault::WithNext);
+        return Err(Fault::WithNext);
     }
     if d.len == 0 || d.len % 16 != 0 {
-        return End::Faulted(Fault::TableLength);
+        return Err(Fault::TableLength);
     }
-    if !inside(ram, d.at, d.len as u64) {
-        return End::Faulted(Fault::TableOutside);
+    if !memory::inside(ram, d.at, d.len as u64) {
+        return Err(Fault::TableOutside);
     }
-    End::Whole
+    Ok(())
 }
 
-// The chain that begins at `head` in the table of `size` descriptors at `table`; `indirect` says
-// that bit 28 is negotiated. After a fault the chain is what was read so far.
-fn follow(
+// The walk of the chain at `head` in the table of `size` descriptors at `table`: its ranges, put into the list,
+// readable ones first; or a fault. `indirect` says that bit 28 is negotiated.
+pub fn walk(
     m: &[u8],
     list: &mut [u64],
     table: GuestAddress,
     size: u16,
     head: DescriptorNumber,
     indirect: bool,
-) -> Walked
+) -> Result<Chain, Fault>
     requires { 68 ≤ length list.old }
-    ensures { Follows m.now table.0 size head.0 indirect list.new result }
+    ensures { Walks m.now table.0 size head.0 indirect list.new result }
 {
     let mut chain = Chain::empty();
     let mut number = head;
@@ -255,24 +215,24 @@ fn follow(
     let mut at = table;
     let mut count = size as u32;
     let mut deeper: u32 = 1;
-    let end = 'walk: loop {
+    'walk: loop {
         // the descriptors of one table, up to the one that names another
         loop {
             // One that names an indirect table is not counted, but after 34 it is a fault as well: its
             // table has at least one more.
             if left == 0 {
-                break 'walk End::Faulted(Fault::TooMany);
+                break 'walk Err(Fault::TooMany);
             }
             if count <= number.number() as u32 {
-                break 'walk End::Faulted(Fault::PastTable);
+                break 'walk Err(Fault::PastTable);
             }
             let d = Descriptor::read(m, at, number);
             if d.is_indirect() {
                 if deeper == 0 {
-                    break 'walk End::Faulted(Fault::Nested);
+                    break 'walk Err(Fault::Nested);
                 }
-                if let End::Faulted(fault) = enter(m.len(), indirect, d) {
-                    break 'walk End::Faulted(fault);
+                if let Err(fault) = enter(m.len(), indirect, d) {
+                    break 'walk Err(fault);
                 }
                 number = DescriptorNumber::of(0);
                 at = d.at;
@@ -280,41 +240,15 @@ fn follow(
                 deeper = 0;
                 continue 'walk;
             }
-            let step = joined(list, chain, d);
-            chain = step.chain;
-            let stop = step.end;
-            if let End::Faulted(fault) = stop {
-                break 'walk End::Faulted(fault);
+            match joined(list, chain, d) {
+                Ok(longer) => chain = longer,
+                Err(fault) => break 'walk Err(fault),
             }
             left -= 1;
             if !d.has_next() {
-                break 'walk End::Whole;
+                break 'walk Ok(chain);
             }
             number = d.next;
         }
-    };
-    Walked { end, chain }
-}
-
-// The walk of the chain at `head`: its ranges, put into the list, readable ones first; or a fault and
-// no ranges.
-pub fn walk(
-    m: &[u8],
-    list: &mut [u64],
-    table: GuestAddress,
-    size: u16,
-    head: DescriptorNumber,
-    indirect: bool,
-) -> Walked
-    requires { 68 ≤ length list.old }
-    ensures { Walks m.now table.0 size head.0 indirect list.new result }
-{
-    let walked = follow(m, list, table, size, head, indirect);
-    let end = walked.end;
-    let chain = walked.chain;
-    let nothing = Chain::empty();
-    if let End::Faulted(fault) = end {
-        return nothing.stopped(fault);
     }
-    Walked { end, chain }
 }

@@ -1,2 +1,2 @@
--- Where a command leads, as an enum.
+-- Where a command leads.
 pub mod Commands

@@ -2,7 +2,7 @@
 use mathlib.Core.Path.{◌≡◌, refl, sym, ◌∙◌, ap}
 use mathlib.Core.Bool.{Bool, true, false}
 use mathlib.Core.List.{List, ◌++◌}
-use mathlib.Core.Option.{Option, none, some}
+use Rattle.std.specs.Prelude.{Option, None, Some, Ok}
 use Prim.Native.Nat.{ℕ, zero, suc, ◌+◌, ◌-◌, ◌≤◌, ◌<◌}
 use native.Mathlib.Omega.{arith}
 use borrow.Author.Tests.{ltb-true, ltb-false}
@@ -23,7 +23,7 @@ use Rattle.rules.specs.declared.Asked.{Asked}
 use Rattle.rules.specs.declared.Asked.TheVariants.{Information, Remap, Pcm}
 use Rattle.rules.specs.declared.Command.{Command}
 use Rattle.rules.specs.declared.Command.TheVariants as command
-use Rattle.control.specs.Control.{read_as, Reads}
+use Rattle.control.specs.Control.{asking_of, Reads}
 
 -- ---- a request's first bytes
 
@@ -80,8 +80,8 @@ module _ (p : rules.Parts) (xs ys : List ℕ) (h : (n at : ℕ) → at + n ≤ 2
   obeyed-agree command.Release id state = refl
 
   led-agree : (c : Command) (id : ℕ) (o : Option ℕ) → rules.led p c id xs o ≡ rules.led p c id ys o
-  led-agree c id none = refl
-  led-agree c id (some state) = obeyed-agree c id state
+  led-agree c id None = refl
+  led-agree c id (Some state) = obeyed-agree c id state
 
   -- and so does any answer
   pub answers_agree : (n : Streams) (a : Asked) (room : ℕ) → answer_in n a p xs room ≡ answer_in n a p ys room
@@ -97,7 +97,7 @@ length-request m ws r s = rw (length-map, length-places) (sym s)
 -- what a request asks that is known and has the length of its layout
 pub reads_as : (ws : List ℕ) (pending : Pending) (q bs m : List ℕ) (a : Asked)
     → ((n : Streams) (p : rules.Parts) (room : ℕ) → served n p q room ≡ answer_in n a p bs room)
-    → Reads ws pending q bs m m (read_as a)
+    → Reads ws pending q bs m m (Ok (asking_of a))
 reads_as ws pending q bs m (Information l) h = (refl, h)
 reads_as ws pending q bs m Remap h = (refl, h)
 reads_as ws pending q bs m (Pcm c) h = (refl, h)

@@ -1,14 +1,13 @@
 -- What a completion on the control queue leaves of the card, and the control call by its tests.
-use Rattle.std.proofs.Common.{◌≡◌, ℕ, zero, suc, ◌+◌, ◌<◌, ◌≤◌, Bool, true, false, cond, ◌&&◌, eqb, ltb, leb, List, [], length, get_or}
+use Rattle.std.specs.Prelude.{Result as Found, Option, Ok, Err, Some, None}
+use Rattle.std.proofs.Common.{◌≡◌, ℕ, zero, suc, ◌+◌, ◌<◌, ◌≤◌, Bool, true, false, cond, eqb, ltb, List, [], length, get_or}
 use Rattle.std.proofs.Common.{take, set, sym, refl, ap, ◌∙◌, arith, length-set, length-take, get_or-set_other, get_or-set_same}
 use Rattle.std.proofs.Common.{ext_get_or, ltb-false, ltb-true}
 use native.Mathlib.Decide.{ℕ_discrete}
 use lib.Seq.{set_out, take-set-lt}
-use Rattle.control.specs.Control.{Reads}
-use Rattle.control.specs.declared.Reading.{Reading}
 use Rattle.counts.specs.declared.DescriptorNumber.{DescriptorNumber}
 use Rattle.counts.specs.declared.PageNumber.{PageNumber}
-use Rattle.ranges.specs.Ranges.{no_ranges, ranges_of, places, bytes_at, total, all_inside}
+use Rattle.ranges.specs.Ranges.{no_ranges, ranges_of, places, bytes_at, total}
 use Rattle.ranges.specs.declared.Range.{Range}
 use Rattle.ranges.specs.declared.Ranges.{Ranges}
 use Rattle.ranges.proofs.Laws.{put_at-nil}
@@ -23,10 +22,7 @@ use Rattle.registers.proofs.Keeps.{broken-fit}
 use Rattle.ring.specs.Rules as ring
 use Rattle.ring.specs.Rules.{Completion, completion, check_of, post_of}
 use Rattle.ring.specs.declared.Cause.{Cause}
-use Rattle.ring.specs.declared.Check.{Check}
-use Rattle.ring.specs.declared.Head.{Head}
 use Rattle.ring.specs.declared.Posted.{Posted}
-use Rattle.ring.specs.declared.Stop.{Stop}
 use Rattle.card.specs.Setters as card
 use Rattle.card.specs.Card.{no_stream, released_state}
 use Rattle.card.proofs.Setters.{fit-with-stream}
@@ -57,20 +53,16 @@ use Rattle.device.specs.Device.{with_control, page_of, signalled_if, one_taken}
 use Rattle.device.specs.Numbers.{control_queue, s_ok, s_bad_msg}
 use Rattle.reply.specs.Reply.{Outcome, Serves, completion_of, closed_of, posted_by}
 use Rattle.reply.specs.declared.Kind.{Kind}
-use Rattle.reply.specs.declared.Pending as reply
 use Rattle.reply.specs.declared.Kind.TheVariants as kinds
 use Rattle.reply.specs.declared.Served.{Served}
 use Rattle.stream.specs.declared.Emptied.{Emptied}
 use Rattle.stream.proofs.Fits.{signal-fit}
 use Rattle.meaning.proofs.Held.{held-device, held_fits}
 use Rattle.stream.proofs.Released.{released-ordered}
-use Rattle.controlq.specs.declared.Answered.{Answered}
 use Rattle.controlq.specs.declared.Ending.TheVariants.{Broke, Completed}
-use Rattle.controlq.specs.declared.Side.TheVariants.{Usable, Unusable}
-use Rattle.controlq.specs.declared.Turn.{Turn}
 use Rattle.controlq.specs.Control.{side_of, served_chain, pending_of, pending_in, ends_on, walked_at, next_order, taken_live, finish_of}
 use Rattle.controlq.specs.Control.{Ends}
-use Rattle.controlq.specs.Control.{served_on, ordered_on, Comes, Turns, EmptiesFor, marked_of, marked_live, released_live}
+use Rattle.controlq.specs.Control.{served_on, ordered_on, EmptiesFor, marked_of, marked_live, released_live}
 
 -- ---- the card
 
@@ -251,14 +243,14 @@ module _ (c : Card) (head : DescriptorNumber) (reply : List Range) (d : Directio
   signalled_card = card.with_registers (signalled_if signal c.registers) c
 
   end-broken : (cause : Cause)
-      → ends_on c (released_on d id (pending_of c head reply) m (Stop.Broke cause) signal)
+      → ends_on c (released_on d id (pending_of c head reply) m (Some cause) signal)
       ≡ leaves (card.with_registers (broken signalled_card.registers) signalled_card)
       (broken_answer (queue_number d) cause) 0 [] [] m
   unfolding rest_of device_of
   end-broken cause = refl
 
   end-replied : (n : Card) → device_of n ≡ marked_of id (device_of signalled_card)
-      → ends_on c (released_on d id (pending_of c head reply) m Stop.Going signal)
+      → ends_on c (released_on d id (pending_of c head reply) m None signal)
       ≡ ends_on n (replied (pending_of n head reply) (status s_ok) m)
   unfolding rest_of device_of
   end-replied n e =
@@ -285,7 +277,7 @@ module _ (l : Live) (p : Parts) (pw cw : List ℕ) (f : Fits l p pw cw) (id : �
       released-ordered entered emptied_card m m' r.stop r.signal id (pending_of entered head (ranges_of ws reply)) refl side refl
       (e p f).0
 
-  by-stop : (stop : Stop) → r.stop ≡ stop
+  by-stop : (stop : Option Cause) → r.stop ≡ stop
       → released ≡ ends_on emptied_card (released_on side id (pending_of emptied_card head (ranges_of ws reply)) m' stop r.signal)
   by-stop stop h = rw (← h) to_end
 
@@ -296,64 +288,44 @@ module _ (l : Live) (p : Parts) (pw cw : List ℕ) (f : Fits l p pw cw) (id : �
   pub emptied-fits : Fits signalled_live p pw' cw'
   emptied-fits = signalled-fits r.live p pw' cw' (e p f).1 r.signal
 
-  pub release-broken : (cause : Cause) (q : ℕ) → q ≡ queue_number (direction_of (streams_live l) id) → r.stop ≡ Stop.Broke cause
+  pub release-broken : (cause : Cause) (q : ℕ) → q ≡ queue_number (direction_of (streams_live l) id) → r.stop ≡ Some cause
       → Ends released (finish_of (Broke q cause) signalled_live p) pw' cw' m'
   release-broken cause q at h =
       let named : q ≡ queue_number side = at ∙ ap (λ (n : ℕ). queue_number (cond (ltb id n) output input)) f.board.outputs in
       rw named (
-        by-stop (Stop.Broke cause) h ∙ end-broken emptied_card head (ranges_of ws reply) side id r.signal m' cause,
+        by-stop (Some cause) h ∙ end-broken emptied_card head (ranges_of ws reply) side id r.signal m' cause,
         broken-fits signalled_live p pw' cw' emptied-fits,
       )
 
-  pub release-going : (after : List ℕ) (t : Posted) → r.stop ≡ Stop.Going
+  pub release-going : (after : List ℕ) (t : Posted) → r.stop ≡ None
       → completion after t ≡ completion_of ws (pending_in (marked_live id signalled_live) head reply) (status s_ok) m'
       → Ends released (finish_of (Completed t) (marked_live id signalled_live) p) pw' cw' after
   release-going after t h k =
       let n = marked-in signalled_live p pw' cw' emptied-fits id in
       let o = counted-ends (marked_live id signalled_live) p pw' cw' n.1 head ws reply (status s_ok) m' after t k in
-      (by-stop Stop.Going h ∙ end-replied emptied_card head (ranges_of ws reply) side id r.signal m' _ n.0 ∙ o.0, o.1)
+      (by-stop None h ∙ end-replied emptied_card head (ranges_of ws reply) side id r.signal m' _ n.0 ∙ o.0, o.1)
 
 -- ---- a message that was walked whole
 
-usable : (b : Bool) → cond b Usable Unusable ≡ Usable → b ≡ true
-usable true h = refl
-usable false h = let z : ◌≡◌ {A = ℕ} 0 1 = cc in absurd (omega arith)
-
-unusable : (b : Bool) → cond b Usable Unusable ≡ Unusable → b ≡ false
-unusable true h = let z : ◌≡◌ {A = ℕ} 0 1 = cc in absurd (omega arith)
-unusable false h = refl
-
 module _ (c : Card) (head : DescriptorNumber) (request reply : List Range) (m : List ℕ) where
-  pub chain-mute : side_of (length m) reply ≡ Unusable → served_chain c head request reply m ≡ Done (replied (pending_of c head reply) [] m)
-  chain-mute h = rw (unusable (all_inside (length m) reply && leb 4 (total reply)) h)
+  pub chain-mute : side_of (length m) reply ≡ false → served_chain c head request reply m ≡ Done (replied (pending_of c head reply) [] m)
+  chain-mute h = rw h
 
-  module _ (h : side_of (length m) reply ≡ Usable) where
-    pub chain-bad : side_of (length m) request ≡ Unusable
+  module _ (h : side_of (length m) reply ≡ true) where
+    pub chain-bad : side_of (length m) request ≡ false
         → served_chain c head request reply m ≡ Done (replied (pending_of c head reply) (status s_bad_msg) m)
-    chain-bad k =
-        rw (
-          usable (all_inside (length m) reply && leb 4 (total reply)) h,
-          unusable (all_inside (length m) request && leb 4 (total request)) k,
-        )
+    chain-bad k = rw (h, k)
 
-    pub chain-acted : side_of (length m) request ≡ Usable → (s : rules.Served)
+    pub chain-acted : side_of (length m) request ≡ true → (s : rules.Served)
         → s ≡ served_on c (parts_of c.parts) (bytes_at m (places request)) (total reply)
         → served_chain c head request reply m ≡ acted s (pending_of c head reply) m
     unfolding rest_of
-    chain-acted k s e =
-        rw (
-          usable (all_inside (length m) reply && leb 4 (total reply)) h,
-          usable (all_inside (length m) request && leb 4 (total request)) k,
-          ← e,
-        )
+    chain-acted k s e = rw (h, k, ← e)
 
 -- two devices with the same stream queues
 pub record SameQueues (b b' : Device Queue) : Type 0 where
   pub play : b.play ≡ b'.play
   pub capture : b.capture ≡ b'.capture
-
-released-same : (n id : ℕ) → kinds.Release n ≡ kinds.Release id → n ≡ id
-released-same n id h = cc
 
 -- what a request comes to, ordered: by its kind
 module _ (l : Live) (p : Parts) (pw cw : List ℕ) (f : Fits l p pw cw) (head : DescriptorNumber) (ws : List ℕ) (reply : Ranges) (r : Served)
@@ -418,21 +390,6 @@ module _ (l : Live) (p : Parts) (pw cw : List ℕ) (f : Fits l p pw cw) (head : 
       let z : ◌≡◌ {A = ℕ} 0 1 = cc in
       absurd (omega arith)
 
-  -- a stream is released first: memory is as it was
-  pub served-release : (rule : rules.Served) (id : ℕ) → Serves ws (pending_in l head reply) (parts_now l p) rule r m after
-      → r.kind ≡ kinds.Release id
-      → (acted rule asks m ≡ ReleaseFirst id asks) × (after ≡ m) × (id < l.outputs + l.inputs)
-  served-release (rules.Reply ps bytes) id s k =
-      let told : kinds.Release id ≡ kinds.Completed (posted_by (completion_of ws (pending_in l head reply) bytes m)) =
-      sym k ∙ ap (λ (o : Outcome). o.served.kind) s.whole in
-      let z : ◌≡◌ {A = ℕ} 0 1 = cc in
-      absurd (omega arith)
-  served-release (rules.Release n) id s k =
-      let told : kinds.Release n ≡ kinds.Release id = sym (ap (λ (o : Outcome). o.served.kind) s.whole) ∙ k in
-      let same = released-same n id told in
-      let there : n < p.stream_count = rw (ap (λ (o : Outcome). o.served.parts) s.whole) at s.stand in
-      (rw same, ap (λ (o : Outcome). o.memory) s.whole, omega (arith, same, there, all-streams l p pw cw f))
-
 -- ---- the next message
 
 -- what is ordered needs the stream queues only
@@ -481,14 +438,14 @@ module _ (l : Live) (p : Parts) (pw cw : List ℕ) (f : Fits l p pw cw) (m : Lis
   taken-fits = held_fits l p pw cw f l.registers _ f.board.live.registers control_queue (omega arith)
 
   -- the head that the ring has next
-  abbrev pub next_head : Head
+  abbrev pub next_head : Found DescriptorNumber Cause
   next_head = ring.head_of m (page_in here) (size_of control_queue) (counters_at here control_queue).taken
 
-  pub next-broken : (cause : Cause) → next_head ≡ Head.Broken cause
+  pub next-broken : (cause : Cause) → next_head ≡ Err cause
       → Ends (ordered_on here (next_order here m) m) (finish_of (Broke control_queue cause) l p) pw cw m
   next-broken cause h = rw (page-in here, h) (broken-ends l p pw cw f cause m)
 
-  pub next-at : (n : DescriptorNumber) → next_head ≡ Head.At n
+  pub next-at : (n : DescriptorNumber) → next_head ≡ Ok n
       → ordered_on here (next_order here m) m ≡ ordered_on taken_card (walked_at taken_card n m) m
   next-at n h =
       let e : next_order here m ≡ walked_at taken_card n m = rw (taken-rest, page-in here, h, page-in here) in
@@ -499,7 +456,7 @@ module _ (l : Live) (p : Parts) (pw cw : List ℕ) (f : Fits l p pw cw) (m : Lis
 
 module _ (c : Card) (m : List ℕ) where
   -- what the check of the control queue finds
-  abbrev pub check_in : Check
+  abbrev pub check_in : Found (Option ℕ) Cause
   check_in = check_of m (page_in c) (size_of control_queue) (counters_at c control_queue).taken 0
 
   -- "Control: 1, 5, 9."
@@ -523,36 +480,21 @@ module _ (c : Card) (m : List ℕ) where
     control-dead h = rw (control-by, long, h)
 
     module _ (lives : registers.live c.registers ≡ true) where
-      pub control-idle : check_in ≡ Check.Idle → step_of c Control m ≡ leaves c (plain done) 0 [] [] m
+      pub control-idle : check_in ≡ (Ok None) → step_of c Control m ≡ leaves c (plain done) 0 [] [] m
       unfolding device_of
       control-idle h = rw (control-by, long, lives, h)
 
-      pub control-none : (n : ℕ) → check_in ≡ Check.New n → n ≡ 0 → step_of c Control m ≡ leaves c (plain done) 0 [] [] m
+      pub control-none : (n : ℕ) → check_in ≡ Ok (Some n) → n ≡ 0 → step_of c Control m ≡ leaves c (plain done) 0 [] [] m
       unfolding device_of
       control-none n h z = rw (control-by, long, lives, h, z)
 
-      pub control-broken : (cause : Cause) → check_in ≡ Check.Broken cause
+      pub control-broken : (cause : Cause) → check_in ≡ Err cause
           → step_of c Control m ≡ leaves (card.with_registers (broken c.registers) c) (broken_answer control_queue cause) 0 [] [] m
       unfolding rest_of device_of
       control-broken cause h = rw (control-by, long, lives, h)
 
-      pub control-next : (n : ℕ) → check_in ≡ Check.New n → (n ≡ 0 → ⊥)
+      pub control-next : (n : ℕ) → check_in ≡ Ok (Some n) → (n ≡ 0 → ⊥)
           → step_of c Control m ≡ ordered_on c (next_order c m) m
       unfolding rest_of
       control-next zero h z = absurd (z refl)
       control-next (suc n) h z = rw (control-by, long, lives, h)
-
--- what a step comes to, an equal one does
-pub comes-by : (s s' : Step (Device Queue)) (l : Live) (p : Parts) (pw cw ws bs m : List ℕ) (r : Answered) → s ≡ s'
-    → Comes s' l p pw cw ws bs m r
-    → Comes s l p pw cw ws bs m r
-comes-by s s' l p pw cw ws bs m r e h = rw e h
-
--- what is known of a turn, of an equal one is
-pub turns_as : (l : Live) (p : Parts) (m ws bs m' : List ℕ) (r r' : Turn) → r ≡ r' → Turns l p m ws bs m' r → Turns l p m ws bs m' r'
-turns_as l p m ws bs m' r r' e h = rw (← e) h
-
--- .. and of a reading
-pub reads-told : (ws : List ℕ) (pending : reply.Pending) (q bs m m' : List ℕ) (r r' : Reading) → r ≡ r' → Reads ws pending q bs m m' r
-    → Reads ws pending q bs m m' r'
-reads-told ws pending q bs m m' r r' e h = rw (← e) h

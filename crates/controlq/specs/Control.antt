@@ -1,6 +1,7 @@
 -- The control call in terms of the pieces of the card.
-use Rattle.std.specs.Prelude.{◌≡◌, ℕ, cond, ◌&&◌, List, [], length, nat_le, nat_lt, slice_index_or, slice_set}
+use Rattle.std.specs.Prelude.{◌≡◌, ℕ, Bool, Result, Ok, Err, cond, ◌&&◌, List, [], length, nat_le, nat_lt, slice_index_or, slice_set}
 use Rattle.chain.specs.Walk.{whole, walk_of}
+use Rattle.chain.specs.declared.Chain.{Chain}
 use Rattle.counts.specs.declared.DescriptorNumber.{DescriptorNumber}
 use Rattle.ranges.specs.Ranges.{Sound, total, all_inside, ranges_of, places, bytes_at}
 use Rattle.ranges.specs.declared.Range.{Range}
@@ -28,7 +29,8 @@ use Rattle.meaning.specs.Fit.{Fits}
 use Rattle.queue_lines.specs.Chains.{line_of}
 use Rattle.queue_lines.specs.Counters.{Queue}
 use Rattle.device.specs.Answers.{broken_answer}
-use Rattle.rules.specs.Calls.{Result, Step, Pending, Order, step_by, ordered_by, acted, indirect, read_message_by, control_head_by}
+use Rattle.rules.specs.Calls as calls
+use Rattle.rules.specs.Calls.{Step, Pending, Order, step_by, ordered_by, acted, indirect, read_message_by, control_head_by}
 use Rattle.rules.specs.Control as rules
 use Rattle.rules.specs.Control.{with_state, with_stream}
 use Rattle.rules.specs.Parts.{parts_of}
@@ -41,14 +43,8 @@ use Rattle.stream.specs.declared.Emptied.{Emptied}
 use Rattle.controlq.specs.declared.ControlAnswer.{ControlAnswer}
 use Rattle.controlq.specs.declared.Ending.{Ending}
 use Rattle.controlq.specs.declared.Ending.TheVariants.{Untouched, Broke, Completed}
-use Rattle.controlq.specs.declared.Answered.{Answered}
-use Rattle.controlq.specs.declared.Answered.TheVariants as answered
+use Rattle.controlq.specs.declared.Changing.{Changing}
 use Rattle.controlq.specs.declared.Message.{Message}
-use Rattle.controlq.specs.declared.Met.{Met}
-use Rattle.controlq.specs.declared.Next.{Next}
-use Rattle.controlq.specs.declared.Side.{Side}
-use Rattle.controlq.specs.declared.Side.TheVariants.{Usable, Unusable}
-use Rattle.controlq.specs.declared.Turn.{Turn}
 
 -- ---- the steps of reading a message
 
@@ -71,8 +67,8 @@ pending_in l head ranges =
     }
 
 -- inside RAM, and at least four bytes
-abbrev pub side_of : ℕ → List Range → Side
-side_of len rs = cond (all_inside len rs && nat_le 4 (total rs)) Usable Unusable
+abbrev pub side_of : ℕ → List Range → Bool
+side_of len rs = all_inside len rs && nat_le 4 (total rs)
 
 -- what a request comes to on this card, and the step of what a message orders
 abbrev pub served_on : Card → rules.Parts → List ℕ → ℕ → rules.Served
@@ -100,7 +96,7 @@ next_order c m =
 -- ---- what is left
 
 -- a result that leaves the stream queues of a card as they are
-abbrev pub ends_on : Card → Result → Step (Device Queue)
+abbrev pub ends_on : Card → calls.Result → Step (Device Queue)
 ends_on c o = step_by o (device_of c)
 
 -- one message more taken, or completed
@@ -146,41 +142,45 @@ change_step change c ws message bs m =
     ordered_on c (acted (changed_by change (parts_of c.parts) bs) (asks_in c ws message) m) m
 
 -- every card with this small state: what the checks of a call and the next head make of it
-abbrev pub Finds : Live → List ℕ → Next → Type 0
-Finds l m (Next.Over ending) =
+abbrev pub Finds : Live → List ℕ → Result DescriptorNumber Ending → Type 0
+Finds l m (Err ending) =
     (p : Parts) (pw cw : List ℕ) → Fits l p pw cw → Ends (step_of (card_in l p pw cw) Request.Control m) (finish_of ending l p) pw cw m
-Finds l m (Next.At head) =
+Finds l m (Ok head) =
     (length m ≡ l.ram_len)
     × ((p : Parts) (pw cw : List ℕ) → Fits l p pw cw
     → step_of (card_in l p pw cw) Request.Control m ≡ walked_step (card_in (taken_live l) p pw cw) head m)
 
 -- .. and the walk of a message that is taken
-abbrev pub Meets : Live → DescriptorNumber → List ℕ → List ℕ → List ℕ → Met → Type 0
-Meets l head m ws m' (Met.Over posted) =
+abbrev pub Meets : Live → DescriptorNumber → List ℕ → List ℕ → List ℕ → Result Chain Posted → Type 0
+Meets l head m ws m' (Err posted) =
     (p : Parts) (pw cw : List ℕ) → Fits l p pw cw → Ends (walked_step (card_in l p pw cw) head m) (finish_of (Completed posted) l p) pw cw
     m'
-Meets l head m ws m' (Met.Whole request reply) =
-    (m' ≡ m) × Sound ws request
+Meets l head m ws m' (Ok chain) =
+    (m' ≡ m) × Sound ws chain.request
     × ((p : Parts) (pw cw : List ℕ)
-    → walked_step (card_in l p pw cw) head m ≡ served_step (card_in l p pw cw) ws request (record { head = head; reply = reply }) m)
+    → walked_step (card_in l p pw cw) head m
+    ≡ served_step (card_in l p pw cw) ws chain.request (record { head = head; reply = chain.reply }) m)
 
 -- a step is what a message comes to
-abbrev pub Comes : Step (Device Queue) → Live → Parts → List ℕ → List ℕ → List ℕ → List ℕ → List ℕ → Answered → Type 0
-Comes s l p pw cw ws bs m (answered.Completed posted) = Ends s (finish_of (Completed posted) l p) pw cw m
-Comes s l p pw cw ws bs m (answered.Changes message asked) =
-    (s ≡ change_step asked (card_in l p pw cw) ws message bs m) × (length m ≡ l.ram_len)
+abbrev pub Comes
+    : Step (Device Queue) → Live → Parts → List ℕ → List ℕ → List ℕ → Message → List ℕ → List ℕ → Result Change Posted → Type 0
+Comes s l p pw cw ws message bs m (Err posted) = Ends s (finish_of (Completed posted) l p) pw cw m
+Comes s l p pw cw ws message bs m (Ok change) =
+    (s ≡ change_step change (card_in l p pw cw) ws message bs m) × (length m ≡ l.ram_len)
 
 -- every card with this small state and these parts: what its message comes to
-abbrev pub Answers : Live → Parts → List ℕ → Ranges → Message → List ℕ → List ℕ → List ℕ → Answered → Type 0
+abbrev pub Answers : Live → Parts → List ℕ → Ranges → Message → List ℕ → List ℕ → List ℕ → Result Change Posted → Type 0
 Answers l p ws request message m bs m' r =
-    (pw cw : List ℕ) → Fits l p pw cw → Comes (served_step (card_in l p pw cw) ws request message m) l p pw cw ws bs m' r
+    (pw cw : List ℕ) → Fits l p pw cw → Comes (served_step (card_in l p pw cw) ws request message m) l p pw cw ws message bs m' r
 
--- .. and the call
-abbrev pub Turns : Live → Parts → List ℕ → List ℕ → List ℕ → List ℕ → Turn → Type 0
-Turns l p m ws bs m' (Turn.Over ending) =
-    (pw cw : List ℕ) → Fits l p pw cw → Ends (step_of (card_in l p pw cw) Request.Control m) (finish_of ending l p) pw cw m'
-Turns l p m ws bs m' (Turn.Taken a) =
-    (pw cw : List ℕ) → Fits l p pw cw → Comes (step_of (card_in l p pw cw) Request.Control m) (taken_live l) p pw cw ws bs m' a
+-- .. and the message at a head, taken
+abbrev pub Attends : Live → Parts → DescriptorNumber → List ℕ → List ℕ → List ℕ → List ℕ → Result Changing Posted → Type 0
+Attends l p head m ws bs m' (Err posted) =
+    (pw cw : List ℕ) → Fits l p pw cw → Ends (walked_step (card_in l p pw cw) head m) (finish_of (Completed posted) l p) pw cw m'
+Attends l p head m ws bs m' (Ok left) =
+    (pw cw : List ℕ)
+    → Fits l p pw cw
+    → Comes (walked_step (card_in l p pw cw) head m) l p pw cw ws left.message bs m' (Ok left.change)
 
 -- ---- a Release
 

@@ -20,18 +20,18 @@ ghost use Rattle.rules.specs.Calls.{ReleaseFirst};
 ghost use Rattle.device.specs.Device.{output, input, queue_number, signalled_if};
 ghost use Rattle.device.specs.Numbers.{control_queue};
 ghost use Rattle.controlq.specs.Control.{pending_in, side_of, taken_live, counted_live, marked_live, finish_of, Ends, EmptiesFor, Finds};
-ghost use Rattle.controlq.specs.Control.{Meets, Answers, Turns, asks_in, ordered_on, change_step};
+ghost use Rattle.controlq.specs.Control.{Meets, Answers, Attends, asks_in, ordered_on, change_step};
 
 use card::{Counters, Parts};
-use chain::End;
-use control::{Change, Reading};
+use chain::Chain;
+use control::{Asking, Change};
 use counts::DescriptorNumber;
 use live::Live;
 use message::Direction;
 use ranges::Ranges;
 use registers::Answer;
 use reply::{Kind, Pending};
-use ring::{Cause, Posted, Stop};
+use ring::{Cause, Posted};
 use stream::Emptied;
 
 // What the call answers: the count is the messages completed.
@@ -52,27 +52,6 @@ enum Ending {
     Completed(Posted),
 }
 
-// Whether a side of a message can be used: it lies inside RAM and has the four bytes of a header.
-#[derive(Clone, Copy)]
-enum Side {
-    Usable,
-    Unusable,
-}
-
-// What a call finds: it ends with nothing taken, or there is a message at this head.
-#[derive(Clone, Copy)]
-enum Next {
-    Over(Ending),
-    At(DescriptorNumber),
-}
-
-// A message that is taken: completed already, or to be served by its request and its reply.
-#[derive(Clone, Copy)]
-enum Met {
-    Over(Posted),
-    Whole(Ranges, Ranges),
-}
-
 // A message that is taken, to be answered in its reply.
 #[derive(Clone, Copy)]
 struct Message {
@@ -80,19 +59,15 @@ struct Message {
     reply: Ranges,
 }
 
-// What a message that is taken comes to: it is completed, or its request may change the parts.
+// A message that is taken, whose request may change the parts.
 #[derive(Clone, Copy)]
-enum Answered {
-    Completed(Posted),
-    Changes(Message, Change),
+struct Changing {
+    message: Message,
+    change: Change,
 }
 
-// What a call comes to: it ends with nothing taken, or its message comes to this.
-#[derive(Clone, Copy)]
-enum Turn {
-    Over(Ending),
-    Taken(Answered),
-}
+// The control queue's place among the queues.
+const QUEUE: usize = registers::CONTROL_QUEUE as usize;
 
 // How many descriptors the control queue has.
 fn queue_size() -> u16
@@ -101,31 +76,24 @@ fn queue_size() -> u16
     registers::queue_size(registers::CONTROL_QUEUE)
 }
 
-fn judge(len: usize, list: &[u64], ranges: Ranges) -> Side
+// Whether a side of a message can be used: it lies inside RAM and has the four bytes of a header.
+fn judge(len: usize, list: &[u64], ranges: Ranges) -> bool
     requires { Sound list.now ranges }
     ensures { result ≡ side_of len (ranges_of list.now ranges) }
 {
-    if !ranges::all_inside(len, list, ranges) {
-        return Side::Unusable;
-    }
-    if ranges.bytes < 4 {
-        return Side::Unusable;
-    }
-    Side::Usable
+    ranges::all_inside(len, list, ranges) && ranges.bytes >= 4
 }
 
 // One message more is taken.
 fn take_one(live: Live) -> Live
     ensures { result ≡ taken_live live }
 {
-    let queues = live.queues;
-    let counters = queues[registers::CONTROL_QUEUE as usize];
-    let after = Counters {
-        taken: std::num::wrapping_add_u16(counters.taken, 1),
-        completed: counters.completed,
-    };
+    let counters = live.queues[QUEUE];
     let mut next = live;
-    next.queues[registers::CONTROL_QUEUE as usize] = after;
+    next.queues[QUEUE] = Counters {
+        taken: counters.taken.wrapping_add(1),
+        ..counters
+    };
     next
 }
 
@@ -133,20 +101,17 @@ fn take_one(live: Live) -> Live
 fn counted(live: Live, posted: Posted) -> Live
     ensures { result ≡ counted_live posted live }
 {
-    let registers = live.registers;
-    let queues = live.queues;
-    let counters = queues[registers::CONTROL_QUEUE as usize];
-    let after = Counters {
-        taken: counters.taken,
+    let mut next = signal(live, posted.interrupt);
+    next.queues[QUEUE] = Counters {
         completed: posted.completed,
+        ..live.queues[QUEUE]
     };
-    let mut next = live;
-    next.registers = stream::signal_if(posted.interrupt, registers);
-    next.queues[registers::CONTROL_QUEUE as usize] = after;
     next
 }
 
 // The answer of a call, with what its end changes of the card.
+// Each end has a copy of it: what it answers is big, and is copied once less there.
+#[inline(always)]
 fn finish(live: Live, parts: Parts, ending: Ending) -> ControlAnswer
     ensures { result ≡ finish_of ending live parts }
 {
@@ -154,25 +119,23 @@ fn finish(live: Live, parts: Parts, ending: Ending) -> ControlAnswer
         Ending::Untouched(number) => ControlAnswer {
             answer: registers::plain(number),
             count: 0,
-            live: live,
-            parts: parts,
+            live,
+            parts,
         },
-        Ending::Broke(queue, cause) => {
-            let registers = live.registers;
-            let mut next = live;
-            next.registers = registers.break_down();
-            ControlAnswer {
-                answer: rules::broken_answer(queue, cause),
-                count: 0,
-                live: next,
-                parts: parts,
-            }
-        }
+        Ending::Broke(queue, cause) => ControlAnswer {
+            answer: rules::broken_answer(queue, cause),
+            count: 0,
+            live: Live {
+                registers: live.registers.break_down(),
+                ..live
+            },
+            parts,
+        },
         Ending::Completed(posted) => ControlAnswer {
             answer: registers::plain(registers::DONE),
             count: 1,
             live: counted(live, posted),
-            parts: parts,
+            parts,
         },
     }
 }
@@ -181,14 +144,11 @@ fn finish(live: Live, parts: Parts, ending: Ending) -> ControlAnswer
 fn pending_in(live: Live, head: DescriptorNumber, reply: Ranges) -> Pending
     ensures { result ≡ pending_in live head reply }
 {
-    let registers = live.registers;
-    let queues = live.queues;
-    let counters = queues[registers::CONTROL_QUEUE as usize];
     Pending {
-        page: registers.pages[registers::CONTROL_QUEUE as usize],
-        completed: counters.completed,
-        head: head,
-        reply: reply,
+        page: live.registers.pages[QUEUE],
+        completed: live.queues[QUEUE].completed,
+        head,
+        reply,
     }
 }
 
@@ -196,28 +156,17 @@ fn pending_in(live: Live, head: DescriptorNumber, reply: Ranges) -> Pending
 fn complete_mute(live: Live, m: &mut [u8], head: DescriptorNumber) -> Posted
     ensures { completion m.new result ≡ closed_of (pending_in live head no_ranges) 0 m.old }
 {
-    let registers = live.registers;
-    let queues = live.queues;
-    let counters = queues[registers::CONTROL_QUEUE as usize];
-    let size = queue_size();
-    ring::post(
-        m,
-        registers.pages[registers::CONTROL_QUEUE as usize],
-        size,
-        counters.completed,
-        head,
-        0,
-    )
+    reply::close(m, pending_in(live, head, Ranges::none()), 0)
 }
 
-// ISR bit 0, where a stream's queue asked for it.
+// ISR bit 0, where a queue asked for it.
 fn signal(live: Live, wanted: bool) -> Live
     ensures { result ≡ with_registers (signalled_if wanted live.registers) live }
 {
-    let registers = live.registers;
-    let mut next = live;
-    next.registers = stream::signal_if(wanted, registers);
-    next
+    Live {
+        registers: stream::signal_if(wanted, live.registers),
+        ..live
+    }
 }
 
 // The stream is Released; a number that is no stream's changes nothing.
@@ -225,8 +174,7 @@ fn mark_released(live: Live, id: u32) -> Live
     requires { FitLive live × (live.config.streams ≤ 6) }
     ensures { result ≡ marked_live id live }
 {
-    let config = live.config;
-    if config.streams <= id {
+    if live.config.streams <= id {
         return live;
     }
     let mut next = live;
@@ -238,10 +186,12 @@ fn mark_released(live: Live, id: u32) -> Live
 fn queue_of(live: Live, id: u32) -> u8
     ensures { result ≡ queue_number (direction_of (streams_live live) id) }
 {
-    if id < live.outputs as u32 {
-        return message::queue_number(Direction::Output);
-    }
-    message::queue_number(Direction::Input)
+    let direction = if id < live.outputs as u32 {
+        Direction::Output
+    } else {
+        Direction::Input
+    };
+    message::queue_number(direction)
 }
 
 // A stream's line is emptied, with statuses of the backlog that the stream remembers.
@@ -294,12 +244,10 @@ fn release(
         result play_words.new capture_words.new m.new }
 {
     let emptied = empty(live, play_words, capture_words, m, id);
-    let after = emptied.live;
-    let stop = emptied.stop;
-    let signalled = signal(after, emptied.signal);
-    match stop {
-        Stop::Broke(cause) => finish(signalled, parts, Ending::Broke(queue_of(live, id), cause)),
-        Stop::Going => {
+    let signalled = signal(emptied.live, emptied.signal);
+    match emptied.stop {
+        Some(cause) => finish(signalled, parts, Ending::Broke(queue_of(live, id), cause)),
+        None => {
             let marked = mark_released(signalled, id);
             let pending = pending_in(marked, message.head, message.reply);
             let posted = reply::complete(m, list, pending, message::OK);
@@ -308,7 +256,8 @@ fn release(
     }
 }
 
-// A request that may change the parts, by its first bytes.
+// A request that may change the parts, by its first bytes. It stands apart in the card too: no other end needs its room.
+#[inline(never)]
 fn change(
     live: Live,
     parts: Parts,
@@ -329,8 +278,7 @@ fn change(
     let pending = pending_in(live, message.head, message.reply);
     let current = live::parts_now(live, parts);
     let served = control::act(m, list, current, pending, asked, request);
-    let kind = served.kind;
-    match kind {
+    match served.kind {
         Kind::Completed(posted) => {
             let after = served.parts;
             finish(live::keep(live, after), after, Ending::Completed(posted))
@@ -339,71 +287,59 @@ fn change(
     }
 }
 
-// The checks of the call, and the head of the next message.
-fn find_next(live: Live, m: &[u8]) -> Next
+// The checks of the call, and the head of the next message; or the end of a call that takes none.
+fn find_next(live: Live, m: &[u8]) -> Result<DescriptorNumber, Ending>
     ensures { Finds live m.now result }
 {
     if m.len() != live.ram_len {
-        return Next::Over(Ending::Untouched(registers::LENGTH_DIFFERS));
+        return Err(Ending::Untouched(registers::LENGTH_DIFFERS));
     }
-    let registers = live.registers;
-    if !registers.is_live() {
-        return Next::Over(Ending::Untouched(registers::NOT_LIVE));
+    if !live.registers.is_live() {
+        return Err(Ending::Untouched(registers::NOT_LIVE));
     }
-    let page = registers.pages[registers::CONTROL_QUEUE as usize];
-    let queues = live.queues;
-    let counters = queues[registers::CONTROL_QUEUE as usize];
+    let page = live.registers.pages[QUEUE];
+    let counters = live.queues[QUEUE];
     let size = queue_size();
     match ring::check_queue(m, page, size, counters.taken, 0) {
-        ring::Check::Idle => Next::Over(Ending::Untouched(registers::DONE)),
-        ring::Check::Broken(cause) => Next::Over(Ending::Broke(
-            registers::CONTROL_QUEUE as u8,
-            cause,
-        )),
-        ring::Check::New(new) => {
-            if new == 0 {
-                return Next::Over(Ending::Untouched(registers::DONE));
-            }
-            match ring::next_head(m, page, size, counters.taken) {
-                ring::Head::Broken(cause) => Next::Over(Ending::Broke(
-                    registers::CONTROL_QUEUE as u8,
-                    cause,
-                )),
-                ring::Head::At(head) => Next::At(head),
-            }
-        }
+        Ok(None) => Err(Ending::Untouched(registers::DONE)),
+        Ok(Some(0)) => Err(Ending::Untouched(registers::DONE)),
+        Ok(Some(_)) => match ring::next_head(m, page, size, counters.taken) {
+            Ok(head) => Ok(head),
+            Err(cause) => Err(Ending::Broke(QUEUE as u8, cause)),
+        },
+        Err(cause) => Err(Ending::Broke(QUEUE as u8, cause)),
     }
 }
 
 // The message at `head`, taken: its chain is walked and its sides are judged. One without a reply that can be used is
 // completed with length 0, one without such a request with BAD_MSG.
-fn meet(live: Live, m: &mut [u8], words: &mut [u64], head: DescriptorNumber) -> Met
+fn meet(
+    live: Live,
+    m: &mut [u8],
+    words: &mut [u64],
+    head: DescriptorNumber,
+) -> Result<Chain, Posted>
     requires { length words.old ≡ 68 }
     ensures { Meets live head m.old words.new m.new result }
 {
     let registers = live.registers;
-    let page = registers.pages[registers::CONTROL_QUEUE as usize];
+    let page = registers.pages[QUEUE];
     let size = queue_size();
-    let walked = chain::walk(m, words, page.address(), size, head, registers.indirect());
-    let end = walked.end;
-    let chain = walked.chain;
-    let request = chain.request;
-    let reply = chain.reply;
-    let End::Whole = end else {
-        return Met::Over(complete_mute(live, m, head));
+    let Ok(chain) = chain::walk(m, words, page.address(), size, head, registers.indirect()) else {
+        return Err(complete_mute(live, m, head));
     };
-    let Side::Usable = judge(m.len(), words, reply) else {
-        return Met::Over(complete_mute(live, m, head));
+    let true = judge(m.len(), words, chain.reply) else {
+        return Err(complete_mute(live, m, head));
     };
-    let Side::Usable = judge(m.len(), words, request) else {
-        let pending = pending_in(live, head, reply);
-        return Met::Over(reply::complete(m, words, pending, rules::BAD_MSG));
+    let true = judge(m.len(), words, chain.request) else {
+        let pending = pending_in(live, head, chain.reply);
+        return Err(reply::complete(m, words, pending, rules::BAD_MSG));
     };
-    Met::Whole(request, reply)
+    Ok(chain)
 }
 
-// A message with both sides, by its request: refused, informed, or left to do where the parts may change. The
-// request's first bytes are put into `bytes`.
+// A message with both sides, by its request: refused or informed, it is completed; else this is left to do, where the
+// parts may change. The request's first bytes are put into `bytes`.
 fn answer(
     live: Live,
     parts: Parts,
@@ -412,54 +348,42 @@ fn answer(
     bytes: &mut [u8],
     message: Message,
     request: Ranges,
-) -> Answered
+) -> Result<Change, Posted>
     requires { FitParts (parts_now live parts) × (length m.old ≡ live.ram_len) × Sound list.now request
         × (bytes.old ≡ replicate 24 0) }
     ensures { Answers live parts list.now request message m.old bytes.new m.new result }
 {
-    let head = message.head;
-    let reply = message.reply;
-    let pending = pending_in(live, head, reply);
-    match control::read(m, list, pending, request, bytes) {
-        Reading::Refused(posted) => Answered::Completed(posted),
-        Reading::Informs(l) => {
-            Answered::Completed(requests::inform(
-                m,
-                list,
-                live,
-                parts,
-                pending,
-                l,
-                bytes,
-                reply.bytes,
-            ))
+    let room = message.reply.bytes;
+    let pending = pending_in(live, message.head, message.reply);
+    match control::read(m, list, pending, request, bytes)? {
+        Asking::Informs(l) => {
+            Err(requests::inform(m, list, live, parts, pending, l, bytes, room))
         }
-        Reading::Changes(asked) => Answered::Changes(message, asked),
+        Asking::Changes(change) => Ok(change),
     }
 }
 
-// The call up to what may change the parts; the words of the message's chain and the first bytes of its request are
-// left in `words` and `bytes`.
-fn attend(live: Live, parts: Parts, m: &mut [u8], words: &mut [u64], bytes: &mut [u8]) -> Turn
-    requires { FitParts (parts_now live parts) × (length words.old ≡ 68) × (bytes.old ≡ replicate 24 0) }
-    ensures { Turns live parts m.old words.new bytes.new m.new result }
+// The message at `head`, taken: completed, or left to do where the parts may change; the words of its chain and the
+// first bytes of its request are left in `words` and `bytes`.
+fn attend(
+    live: Live,
+    parts: Parts,
+    m: &mut [u8],
+    words: &mut [u64],
+    bytes: &mut [u8],
+    head: DescriptorNumber,
+) -> Result<Changing, Posted>
+    requires { FitParts (parts_now live parts) × (length m.old ≡ live.ram_len) × (length words.old ≡ 68)
+        × (bytes.old ≡ replicate 24 0) }
+    ensures { Attends live parts head m.old words.new bytes.new m.new result }
 {
-    match find_next(live, m) {
-        Next::Over(ending) => Turn::Over(ending),
-        Next::At(head) => {
-            let taken = take_one(live);
-            match meet(taken, m, words, head) {
-                Met::Over(posted) => Turn::Taken(Answered::Completed(posted)),
-                Met::Whole(request, reply) => {
-                    let message = Message {
-                        head: head,
-                        reply: reply,
-                    };
-                    Turn::Taken(answer(taken, parts, m, words, bytes, message, request))
-                }
-            }
-        }
-    }
+    let chain = meet(live, m, words, head)?;
+    let message = Message {
+        head,
+        reply: chain.reply,
+    };
+    let change = answer(live, parts, m, words, bytes, message, chain.request)?;
+    Ok(Changing { message, change })
 }
 
 // The control call: one message of the control queue.
@@ -476,30 +400,29 @@ pub fn control(
         m.new)
         × Fits result.live result.parts play_words.new capture_words.new }
 {
+    let head = match find_next(live, m) {
+        Ok(head) => head,
+        Err(ending) => return finish(live, parts, ending),
+    };
+    let taken = take_one(live);
     let mut words = [0u64; 68];
     let mut bytes = [0u8; 24];
-    match attend(live, parts, m, &mut words, &mut bytes) {
-        Turn::Over(ending) => finish(live, parts, ending),
-        Turn::Taken(answered) => {
-            let taken = take_one(live);
+    match attend(taken, parts, m, &mut words, &mut bytes, head) {
+        Err(posted) => finish(taken, parts, Ending::Completed(posted)),
+        Ok(left) => {
             // What `change` answers has a place of its own: parts that stay as they were are copied once less.
-            match answered {
-                Answered::Completed(posted) => finish(taken, parts, Ending::Completed(posted)),
-                Answered::Changes(message, asked) => {
-                    let changed = change(
-                        taken,
-                        parts,
-                        play_words,
-                        capture_words,
-                        m,
-                        &words,
-                        message,
-                        asked,
-                        &bytes,
-                    );
-                    changed
-                }
-            }
+            let changed = change(
+                taken,
+                parts,
+                play_words,
+                capture_words,
+                m,
+                &words,
+                left.message,
+                left.change,
+                &bytes,
+            );
+            changed
         }
     }
 }

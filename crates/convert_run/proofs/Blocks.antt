@@ -1,12 +1,12 @@
 -- A block is made as the converter answers; what is written for it is a `Block` of the converter's promise, and such blocks join
 -- (`joined` of samples): what the program writes is the conversion of all that it read.
 use mathlib.Core.Path.{◌≡◌, ◌∙◌, sym, ap}
-use mathlib.Core.Bool.{true, false}
+use mathlib.Core.Bool.{true}
 use mathlib.Core.List.{List}
 use Prim.Native.Nat.{ℕ, ◌*◌, ◌/◌, ◌%◌, ◌≤◌, ◌<◌}
 use native.Mathlib.Nat.{mod-add-div}
 use native.Mathlib.Omega.{arith}
-use borrow.Author.Tests.{ne_eqb, eq-eqb, eqb-true}
+use borrow.Author.Tests.{eq-eqb, eqb-true}
 use lib.ListN.{length, get_or, take}
 use Rattle.samples.specs.Formats.{Coding, width}
 use Rattle.samples.specs.Outcome.{Outcome, outcome, converted_by, samples_in, Ready}
@@ -22,15 +22,9 @@ module _ (r : ℕ) (c : Coding) (from to out : List ℕ) (e : outcome r out ≡ 
   left : out ≡ (converted_by c from to).out
   left = ap (λ (o : Outcome). o.out) e
 
-  pub none_made : (r ≡ 0 → ⊥) → record { count = 0; sound = false; out = out } ≡ made c from to
-  none_made n = rw (← answered, ne_eqb r 0 n, ← left)
-
   module _ (d : r ≡ 0) (w : ℕ) (b : w ≡ width c) where
     made-ready : Ready c (samples_in c from) from to
     made-ready = done-only c from to (sym answered ∙ d)
-
-    pub some_bytes : 0 < w
-    some_bytes = rw b made-ready.0
 
     pub made-room : 2 * (length from / w) ≤ length to
     made-room = rw b made-ready.2

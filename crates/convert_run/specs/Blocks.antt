@@ -1,8 +1,8 @@
 -- A block of samples, converted: what is to be written of the output buffer, by the converter's outcome.
-use Rattle.std.specs.Prelude.{◌≡◌, List, Bool, cond, ℕ, ◌*◌, ◌≤◌, eqb, length}
+use Rattle.std.specs.Prelude.{◌≡◌, List, Bool, true, false, cond, ℕ, ◌*◌, ◌≤◌, eqb, length, Result, Ok, Err}
 use Rattle.samples.specs.Formats.{Coding}
 use Rattle.samples.specs.Outcome.{converted_by, samples_in}
-use Rattle.convert_run.specs.declared.Piece.{Piece}
+use Rattle.samples.specs.declared.Refusal.{Refusal}
 
 -- the bytes at the start of `out`, whether they are the block's conversion, and the buffer
 pub record Made : Type 0 where
@@ -10,8 +10,9 @@ pub record Made : Type 0 where
   pub sound : Bool
   pub out : List ℕ
 
-abbrev pub made_of : Piece → List ℕ → Made
-made_of p out = record { count = p.count; sound = p.sound; out = out }
+abbrev pub made_of : Result ℕ Refusal → List ℕ → Made
+made_of (Ok count) out = record { count = count; sound = true; out = out }
+made_of (Err refusal) out = record { count = 0; sound = false; out = out }
 
 -- the whole block, or nothing where the converter refuses it
 abbrev pub made : Coding → List ℕ → List ℕ → Made
@@ -21,6 +22,6 @@ made c from to = record {
   out = (converted_by c from to).out;
 }
 
--- what is made of a block: the piece and the buffer after it, with the piece inside the buffer
-abbrev pub MadeBy : Coding → List ℕ → List ℕ → Piece → List ℕ → Type 0
-MadeBy c from to piece out = (made_of piece out ≡ made c from to) × (piece.count ≤ length out)
+-- what is made of a block: what is answered and the buffer after it, with the bytes to write inside the buffer
+abbrev pub MadeBy : Coding → List ℕ → List ℕ → Result ℕ Refusal → List ℕ → Type 0
+MadeBy c from to result out = (made_of result out ≡ made c from to) × ((made_of result out).count ≤ length out)

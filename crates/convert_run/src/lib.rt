@@ -1,237 +1,117 @@
 // The program `convert FORMAT FROM TO`: the samples of a file, as S16, into another file, a block at a time.
 #![tactic(auto)]
 
-ghost use Rattle.std.specs.Prelude.{◌≡◌, ◌≤◌, ◌<◌, length};
-ghost use Rattle.samples.specs.Formats.{coding_of};
+ghost use Rattle.std.specs.Prelude.{◌≡◌, ◌<◌, length, OnOk};
+ghost use Rattle.std.specs.Io.KnownBytes.{Appends};
+ghost use Rattle.samples.specs.Formats.{coding};
 ghost use Rattle.convert_run.specs.Blocks.{MadeBy};
-ghost use Rattle.convert_run.specs.Reports.{refusal, length_answer, FormatFirst};
+ghost use Rattle.convert_run.specs.Reports.{report_of, line_of, length_answer, FormatFirst};
 
-use argument::Argument;
+use files::Refusal;
+use samples::Format;
 use std::fs::File;
-use std::io::{Read, Write};
-
-// Wrong arguments, and a file that can't be used.
-const USAGE: u32 = 99;
-
-const UNUSABLE: u32 = 98;
+use std::io::{ErrorKind, Write};
 
 // The bytes read at a time: whole samples of every format.
 const BLOCK: usize = 49152;
 
-// More blocks than a file can have: the loops over them count down from here, so that they end whatever is read.
-const BLOCKS: u64 = 281474976710656;
+// A number that was found, or why nothing was converted.
+type Answer = Result<u64, Refusal<samples::Refusal>>;
 
-// What is printed: an answer, and beside 0 how many samples.
-#[derive(Clone, Copy)]
-struct Report {
-    answer: u32,
-    samples: u64,
-}
-
-// Bytes at the start of a buffer, and whether all went well.
-#[derive(Clone, Copy)]
-struct Piece {
-    count: usize,
-    sound: bool,
-}
-
-// The bytes that a pass read, and whether all went well to the end.
-#[derive(Clone, Copy)]
-struct Passed {
-    bytes: u64,
-    sound: bool,
-}
-
-fn block_buffer() -> [u8; 49152]
-    ensures { 49152 ≡ length result }
+// A block of samples, converted: answers how many bytes of `out` are to be written.
+fn convert_block(format: Format, block: &[u8], out: &mut [u8]) -> Result<usize, samples::Refusal>
+    ensures { MadeBy (coding format) block.now out.old result out.new }
 {
-    [0; 49152]
-}
-
-fn output_buffer() -> [u8; 98304]
-    ensures { 98304 ≡ length result }
-{
-    [0; 98304]
-}
-
-fn refused(answer: u32) -> Report
-    ensures { result ≡ refusal answer }
-{
-    Report {
-        answer: answer,
-        samples: 0,
-    }
-}
-
-// A block of samples, converted: the bytes to write stand in `out`.
-fn convert_block(format: u32, block: &[u8], out: &mut [u8]) -> Piece
-    ensures { MadeBy (coding_of format) block.now out.old result out.new }
-{
-    let answer = samples::wekshurag_to_s16(format, block, out);
-    if answer != samples::DONE {
-        return Piece {
-            count: 0,
-            sound: false,
-        };
-    }
-    let bytes = samples::sample_bytes(format);
-    Piece {
-        count: 2 * (block.len() / bytes),
-        sound: true,
-    }
-}
-
-// The next block of `source`, converted into `sink`; or only counted.
-fn pass_block<R: Read, W: Write>(
-    source: &mut R,
-    sink: &mut W,
-    counts: bool,
-    format: u32,
-    block: &mut [u8],
-    out: &mut [u8],
-) -> Piece
-    ensures { result.count ≤ length block.new }
-{
-    let read = files::read_block(source, block);
-    let count = read.count;
-    if counts {
-        return Piece {
-            count: count,
-            sound: read.sound,
-        };
-    }
-    let made = convert_block(format, &block[..count], out);
-    let bytes = made.count;
-    let wrote = streams::write_all(sink, &out[..bytes]);
-    Piece {
-        count: count,
-        sound: read.sound && made.sound && wrote,
-    }
-}
-
-// A pass over `source`, from where it stands to its end, converted into `sink`; or only counted.
-fn pass<R: Read, W: Write>(source: &mut R, sink: &mut W, counts: bool, format: u32) -> Passed {
-    let mut block = block_buffer();
-    let mut out = output_buffer();
-    let mut bytes: u64 = 0;
-    let mut left = BLOCKS;
-    while 0 < left {
-        let piece = pass_block(source, sink, counts, format, &mut block, &mut out);
-        bytes += piece.count as u64;
-        if !piece.sound {
-            return Passed {
-                bytes: bytes,
-                sound: false,
-            };
-        }
-        if piece.count < BLOCK {
-            return Passed {
-                bytes: bytes,
-                sound: true,
-            };
-        }
-        left -= 1;
-    }
-    Passed {
-        bytes: bytes,
-        sound: false,
-    }
+    format.to_s16(block, out)?;
+    Ok(2 * (block.len() / format.bytes()))
 }
 
 // All of `source`, which had so many bytes, converted into `sink`.
-fn write_samples(source: &mut File, sink: &mut File, format: u32, bytes: u64) -> bool {
-    if !files::rewind(source, 0) {
-        return false;
+fn write_samples(
+    format: Format,
+    source: &mut File,
+    bytes: u64,
+    sink: &mut File,
+) -> std::io::Result<()> {
+    files::rewind(source, 0)?;
+    let mut out = [0u8; 98304];
+    let again = files::pass(source, &mut [0u8; BLOCK], |block| {
+        match convert_block(format, block, &mut out) {
+            Ok(made) => sink.write_all(&out[..made]),
+            Err(_) => Err(ErrorKind::InvalidData.into()),
+        }
+    })?;
+    if again == bytes {
+        Ok(())
+    } else {
+        Err(ErrorKind::InvalidData.into())
     }
-    let passed = pass(source, sink, false, format);
-    passed.sound && passed.bytes == bytes
-}
-
-// TO made to hold the samples of `source`.
-fn write_to(rt: &HostRuntime, to: &[u8], source: &mut File, format: u32, bytes: u64) -> bool {
-    let mut name = io::buffer();
-    let Some(mut sink) = files::open_sink(rt, to, &mut name) else {
-        return false;
-    };
-    let wrote = write_samples(source, &mut sink.file, format, bytes);
-    files::close_sink(rt, sink, &name, to, wrote)
 }
 
 // FROM's length judged: 98 unless it was read to its end, 31 unless it is whole samples.
-fn judge_length(length: Passed, bytes: u64) -> u32
+#[tactic(auto, unfolding(crate::specs::Reports::length_answer))]
+fn judge_length(length: std::io::Result<u64>, bytes: u64) -> Answer
     requires { 0 < bytes }
-    ensures { result ≡ length_answer length.sound length.bytes bytes }
+    ensures { (report_of result).answer ≡ length_answer length bytes }
 {
-    if !length.sound {
-        return UNUSABLE;
+    let length = length?;
+    if length % bytes != 0 {
+        return Err(Refusal::Refused(samples::Refusal::NotWhole));
     }
-    if length.bytes % bytes != 0 {
-        return samples::NOT_WHOLE;
-    }
-    samples::DONE
+    Ok(length)
 }
 
 // The order past FROM's opening: FROM can't be read, not whole samples, TO can't be used.
-fn convert_open(rt: &HostRuntime, source: &mut File, format: u32, bytes: u64, to: &[u8]) -> Report
-    requires { 0 < bytes }
-    ensures { result.answer ≡ 30 → ⊥ }
+fn convert_open(rt: &HostRuntime, source: &mut File, format: Format, to: &[u8]) -> Answer
+    ensures { (report_of result).answer ≡ 30 → ⊥ }
 {
-    let length = pass(source, &mut std::io::sink(), true, format);
-    let answer = judge_length(length, bytes);
-    if answer != samples::DONE {
-        return refused(answer);
-    }
-    if !write_to(rt, to, source, format, length.bytes) {
-        return refused(UNUSABLE);
-    }
-    Report {
-        answer: samples::DONE,
-        samples: length.bytes / bytes,
-    }
+    let bytes = format.bytes() as u64;
+    let length = judge_length(files::pass(source, &mut [0u8; BLOCK], |_| Ok(())), bytes)?;
+    files::replace(rt, to, |sink| write_samples(format, source, length, sink))?;
+    Ok(length / bytes)
 }
 
 // The order past FORMAT's reading: not in the list (30, then only), FROM can't be opened.
-fn convert_file(rt: &HostRuntime, format: u32, from: &[u8], to: &[u8]) -> Report
-    ensures { FormatFirst format result }
+fn convert_file(rt: &HostRuntime, format: u32, from: &[u8], to: &[u8]) -> Answer
+    ensures { FormatFirst format (report_of result) }
 {
-    let bytes = samples::sample_bytes(format) as u64;
-    if bytes == 0 {
-        return refused(samples::OTHER_FORMAT);
-    }
-    let Some(mut source) = files::open_read(rt, from) else {
-        return refused(UNUSABLE);
-    };
-    convert_open(rt, &mut source, format, bytes, to)
+    let format = Format::try_from(format).map_err(Refusal::Refused)?;
+    let mut source = files::open_read(rt, from)?;
+    convert_open(rt, &mut source, format, to)
 }
 
 // The arguments: FORMAT, 1 to 10 digits; FROM; TO. One that is too long for its buffer is read as empty.
-fn from_arguments(rt: &HostRuntime) -> Report {
+fn from_arguments(rt: &HostRuntime) -> Answer {
     if !files::is_last_argument(rt, 3) {
-        return refused(USAGE);
+        return Err(Refusal::Usage);
     }
-    let Argument::Number(format) = files::number_argument(rt, 1) else {
-        return refused(USAGE);
+    let Some(format) = files::number_argument(rt, 1) else {
+        return Err(Refusal::Usage);
     };
-    if 4294967295 < format {
-        return refused(samples::OTHER_FORMAT);
-    }
+    let Ok(format) = u32::try_from(format) else {
+        return Err(Refusal::Refused(samples::Refusal::OtherFormat));
+    };
     let mut from = io::buffer();
-    let from_len = files::argument_word(rt, 2, &mut from);
     let mut to = io::buffer();
-    let to_len = files::argument_word(rt, 3, &mut to);
-    convert_file(rt, format as u32, &from[..from_len], &to[..to_len])
+    convert_file(
+        rt,
+        format,
+        files::argument_word(rt, 2, &mut from),
+        files::argument_word(rt, 3, &mut to),
+    )
 }
 
-fn print<W: Write>(output: &mut W, report: Report) {
-    streams::write_number(output, report.answer as u64);
-    if report.answer == samples::DONE {
-        streams::write_all(output, b" ");
-        streams::write_number(output, report.samples);
+// What is answered, as a line.
+fn print<W: Write>(output: &mut W, answer: Answer) -> std::io::Result<()>
+    ensures { OnOk result (Appends (W.contents output.old) (W.contents output.new) (line_of answer)) }
+{
+    match answer {
+        Ok(samples) => writeln!(output, "0 {samples}"),
+        Err(refusal) => writeln!(output, "{refusal}"),
     }
-    streams::write_all(output, b"\n");
 }
 
 // The whole program.
 pub fn run(rt: &HostRuntime) {
-    print(&mut rt.stdout(), from_arguments(rt));
+    let _printed = print(&mut rt.stdout(), from_arguments(rt));
 }

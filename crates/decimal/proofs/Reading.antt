@@ -7,12 +7,11 @@ use native.Mathlib.Nat.{pow-suc}
 use native.Mathlib.Numerals.{add-one}
 use native.Mathlib.Omega.{arith}
 use borrow.Author.Tests.{le-leb, lt-leb, leb-true}
-use lib.Dec.{eqb, leb, ltb}
+use lib.Dec.{leb}
 use lib.ListN.{length, get_or, drop, drop_of_length-le}
 use lib.Seq.{drop-cons}
-use Rattle.decimal.specs.Read.{is_digit, digits, value, one_more, is_number, number_at, field_at}
-use Rattle.decimal.specs.declared.Number.{Number}
-use Rattle.decimal.specs.declared.Number.TheVariants.{Is, None}
+use Rattle.decimal.specs.Read.{is_digit, digits, value, one_more, number_at}
+use Rattle.std.proofs.Common.{Option, Some, None}
 
 -- ---- digits at a place
 
@@ -59,7 +58,7 @@ value-below t = let e : 0 + length (digits t) ≡ length (digits t) = omega arit
 
 -- ---- the number at a place
 
-none-either-way : (b : Bool) → cond b None None ≡ None
+none-either-way : (b : Bool) → ◌≡◌ {A = Option (ℕ × ℕ)} (cond b None None) None
 none-either-way true = refl
 none-either-way false = refl
 
@@ -101,7 +100,7 @@ module _ (s : List ℕ) (at most max i v : ℕ) (r : Reading s at most max i v) 
         number = r.number ∙ ap (foldl one_more v) e;
       }
 
-  pub reading-done : at < length s → is_digit (get_or s at 0) ≡ true → digits (drop i s) ≡ [] → number_at s at most max ≡ Is v i
+  pub reading-done : at < length s → is_digit (get_or s at 0) ≡ true → digits (drop i s) ≡ [] → number_at s at most max ≡ Some (v, i)
   unfolding number_at
   reading-done h d e =
       let n : length (digits (drop at s)) ≡ i - at = omega (arith, ap length e, r.count) in
@@ -118,30 +117,3 @@ module _ (s : List ℕ) (at most max i v : ℕ) (r : Reading s at most max i v) 
       let e : value (digits (drop at s)) ≡ foldl one_more w (digits (drop (i + 1) s)) =
       r.number ∙ ap (foldl one_more v) (digits_more s i h d) in
       number-great s at most max (rw e (omega (arith, value_grows w (digits (drop (i + 1) s)))))
-
--- ---- a field is no greater than it may be
-
--- what holds of a number where there is one
-abbrev pub AtMost : ℕ → Number → Type 0
-AtMost max (Is v next) = v ≤ max
-AtMost max None = Unit {0}
-
-number-most : (s : List ℕ) (at most max : ℕ) → AtMost max (number_at s at most max)
-unfolding number_at
-number-most s at most max = by (is_number most (digits (drop at s))) (leb (value (digits (drop at s))) max) refl where
-  by : (b m : Bool) → leb (value (digits (drop at s))) max ≡ m
-      → AtMost max (cond b (cond m (Is (value (digits (drop at s))) (at + length (digits (drop at s)))) None) None)
-  by true true h = leb-true (value (digits (drop at s))) max h
-  by true false h = tt
-  by false m h = tt
-
-pub field-at-most : (s : List ℕ) (at most max : ℕ) → AtMost max (field_at s at most max)
-unfolding field_at
-field-at-most s at most max = by (ltb at (length s)) (eqb (get_or s at 0) 32) where
-  by : (a b : Bool) → AtMost max (cond a (cond b (number_at s (at + 1) most max) None) None)
-  by true true = number-most s (at + 1) most max
-  by true false = tt
-  by false b = tt
-
-pub field-most : (s : List ℕ) (at most max v next : ℕ) → field_at s at most max ≡ Is v next → v ≤ max
-field-most s at most max v next h = rw h at (field-at-most s at most max)

@@ -1,8 +1,6 @@
 -- A number in a line: decimal digits, 48 to 57, at most `most` of them, of a value of at most `max`. A space is 32.
 use mathlib.Core.List.{List, [], ◌∷◌, foldl}
-use Rattle.std.specs.Prelude.{Bool, cond, ◌&&◌, ℕ, ◌+◌, ◌-◌, ◌*◌, eqb, leb, ltb, length, get_or, drop}
-use Rattle.decimal.specs.declared.Number.{Number}
-use Rattle.decimal.specs.declared.Number.TheVariants.{Is, None}
+use Rattle.std.specs.Prelude.{Bool, Option, Some, None, cond, ◌&&◌, ℕ, ◌+◌, ◌-◌, ◌*◌, eqb, leb, ltb, length, get_or, drop}
 
 unfoldable pub is_digit : ℕ → Bool
 is_digit b = leb 48 b && leb b 57
@@ -25,16 +23,16 @@ abbrev pub is_number : ℕ → List ℕ → Bool
 is_number most ds = leb 1 (length ds) && leb (length ds) most
 
 -- the number whose first digit stands at `at`, and the place behind it
-unfoldable pub number_at : List ℕ → ℕ → ℕ → ℕ → Number
+unfoldable pub number_at : List ℕ → ℕ → ℕ → ℕ → Option (ℕ × ℕ)
 number_at s at most max =
     cond (is_number most (digits (drop at s)))
-    (cond (leb (value (digits (drop at s))) max) (Is (value (digits (drop at s))) (at + length (digits (drop at s)))) None)
+    (cond (leb (value (digits (drop at s))) max) (Some (value (digits (drop at s)), at + length (digits (drop at s)))) None)
     None
 
 -- a single space at `at` and a number behind it
-unfoldable pub field_at : List ℕ → ℕ → ℕ → ℕ → Number
+unfoldable pub field_at : List ℕ → ℕ → ℕ → ℕ → Option (ℕ × ℕ)
 field_at s at most max = cond (ltb at (length s)) (cond (eqb (get_or s at 0) 32) (number_at s (at + 1) most max) None) None
 
-abbrev pub by_number : {A : Type 0} → Number → (ℕ → ℕ → A) → A → A
-by_number (Is v next) found none = found v next
+abbrev pub by_number : {A : Type 0} → Option (ℕ × ℕ) → (ℕ → ℕ → A) → A → A
+by_number (Some (v, next)) found none = found v next
 by_number None found none = none

@@ -1,90 +1,61 @@
 // Numbers in decimal: read from a line by their place in it, and written into a text.
 #![tactic(auto)]
 
-ghost use Rattle.std.specs.Prelude.{◌≡◌, ◌*◌, ◌+◌, ◌<◌, ◌≤◌, leb, length};
+ghost use Rattle.std.specs.Prelude.{◌≡◌, ◌+◌, ◌≤◌, IfSome, length};
 ghost use Rattle.decimal.specs.Read.{is_digit, number_at, field_at};
 ghost use Rattle.decimal.specs.Write.{field_of, Put};
 
-// A number, and the place behind its last digit.
-#[derive(Clone, Copy)]
-pub enum Number {
-    Is(u64, usize),
-    None,
-}
+// The most digits of a number in a program's arguments and in a line of the access program, and the
+// greatest number that they write.
+pub const DIGITS: usize = 10;
 
+pub const GREATEST: u64 = 9_999_999_999;
+
+#[tactic(auto, unfolding(crate::specs::Read::is_digit))]
 pub fn is_digit(b: u8) -> bool
     ensures { result ≡ is_digit b }
 {
-    if b < b'0' {
-        return false;
-    }
-    if b <= b'9' {
-        return true;
-    }
-    false
+    b.is_ascii_digit()
 }
 
-// Whether a number has room for one more digit.
-fn has_room(v: u64, digit: u64, max: u64) -> bool
-    ensures { result ≡ leb (10 * v + digit) max }
+// The number of at most `most` digits and at most `max` whose first digit stands at `at`, and the place
+// behind its last digit.
+pub fn number_at(s: &[u8], at: usize, most: usize, max: u64) -> Option<(u64, usize)>
+    ensures value { result ≡ number_at s.now at most max }
+    ensures most { IfSome result (λ n. n.0 ≤ max) }
 {
-    if max / 10 < v {
-        return false;
+    if s.len() <= at || !is_digit(s[at]) {
+        return None;
     }
-    if max - 10 * v < digit {
-        return false;
-    }
-    true
-}
-
-fn wide(x: u8) -> u64
-    ensures { (result ≡ x) × (result < 256) }
-{
-    x as u64
-}
-
-// The number of at most `most` digits and at most `max` whose first digit stands at `at`.
-pub fn number_at(s: &[u8], at: usize, most: usize, max: u64) -> Number
-    ensures { result ≡ number_at s.now at most max }
-{
-    if s.len() <= at {
-        return Number::None;
-    }
-    if !is_digit(s[at]) {
-        return Number::None;
-    }
-    let mut i = at;
     let mut v: u64 = 0;
-    while i < s.len() {
+    for i in at..s.len() {
         let b = s[i];
         if !is_digit(b) {
-            return Number::Is(v, i);
+            return Some((v, i));
         }
         // a digit too many
         if most <= i - at {
-            return Number::None;
+            return None;
         }
-        let digit = wide(b - b'0');
-        if !has_room(v, digit, max) {
-            return Number::None;
+        v = v.checked_mul(10)?.checked_add(u64::from(b - b'0'))?;
+        if max < v {
+            return None;
         }
-        v = 10 * v + digit;
-        i += 1;
     }
-    Number::Is(v, i)
+    Some((v, s.len()))
 }
 
 // A space at `at`, and the number behind it.
-pub fn field_at(s: &[u8], at: usize, most: usize, max: u64) -> Number
-    ensures { result ≡ field_at s.now at most max }
+#[tactic(auto, unfolding(crate::specs::Read::field_at))]
+pub fn field_at(s: &[u8], at: usize, most: usize, max: u64) -> Option<(u64, usize)>
+    ensures value { result ≡ field_at s.now at most max }
+    ensures most { IfSome result (λ n. n.0 ≤ max) }
 {
-    if s.len() <= at {
-        return Number::None;
+    if at < s.len() && s[at] == b' ' {
+        number_at(s, at + 1, most, max)
+    } else {
+        None
     }
-    if s[at] != b' ' {
-        return Number::None;
-    }
-    number_at(s, at + 1, most, max)
 }
 
 // These bytes, written to `out` from `at` on. The place behind them.
@@ -92,14 +63,9 @@ pub fn put_bytes(out: &mut [u8], at: usize, bytes: &[u8]) -> usize
     requires { at + length bytes.now ≤ length out.old }
     ensures { Put bytes.now out.old at out.new result }
 {
-    let mut to = at;
-    let mut i = 0;
-    while i < bytes.len() {
-        out[to] = bytes[i];
-        to += 1;
-        i += 1;
-    }
-    to
+    let end = at + bytes.len();
+    out[at..end].copy_from_slice(bytes);
+    end
 }
 
 // A number in decimal and the byte `end`, written to `out` from `at` on. The place behind them, which

@@ -1,14 +1,10 @@
 -- 01, The card at power-up: what the description must be; "Otherwise answer 10."
 use Rattle.std.specs.Prelude.{List, [], ◌∷◌, Bool, true, cond, ◌&&◌, ◌||◌, not, ℕ, suc, ◌+◌, ◌^◌, eqb, leb, ltb, take}
+use Rattle.std.specs.List.{list_all}
 use Rattle.description.specs.declared.JackInfo.{JackInfo}
 use Rattle.description.specs.declared.MapInfo.{MapInfo}
 use Rattle.description.specs.declared.StreamInfo.{StreamInfo}
 use Rattle.description.specs.declared.Description.{Description}
-
--- a test that every element passes
-unfoldable pub every : {A : Type 0} → (A → Bool) → List A → Bool
-every f [] = true
-every f (x ∷ xs) = f x && every f xs
 
 -- what stands past the end of a list
 abbrev pub no_jack : JackInfo
@@ -61,5 +57,5 @@ lawful_counts d = leb d.jack_count 4 && leb d.map_count 4 && lawful_streams d.ou
 
 unfoldable pub lawful : Description → Bool
 lawful d =
-    lawful_counts d && every lawful_jack (take d.jack_count d.jacks) && every lawful_map (take d.map_count d.maps)
-    && every lawful_stream (take (d.output_count + d.input_count) d.streams)
+    lawful_counts d && list_all lawful_jack (take d.jack_count d.jacks) && list_all lawful_map (take d.map_count d.maps)
+    && list_all lawful_stream (take (d.output_count + d.input_count) d.streams)

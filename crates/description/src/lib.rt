@@ -2,9 +2,10 @@
 #![tactic(auto)]
 
 ghost use Rattle.std.specs.Prelude.{◌≡◌, ◌+◌, ◌≤◌, ◌<◌, take};
+ghost use Rattle.std.specs.List.{list_all};
 ghost use Rattle.description.specs.Nothing.{nothing_described};
-ghost use Rattle.description.specs.Lawful.{every, lawful, lawful_jack, lawful_map, lawful_stream, lawful_channels, lawful_positions};
-ghost use Rattle.description.specs.Lawful.{lawful_position, in_bits};
+ghost use Rattle.description.specs.Lawful.{lawful, lawful_jack, lawful_map, lawful_stream, lawful_channels, lawful_positions};
+ghost use Rattle.description.specs.Lawful.{lawful_position, in_bits, lawful_counts};
 
 // How many streams a card can have: four outputs and two inputs.
 pub const STREAMS: usize = 6;
@@ -53,39 +54,43 @@ pub struct Description {
     pub streams: [StreamInfo; STREAMS],
 }
 
+// What stands in the place of a part that is not described.
+pub const NO_JACK: JackInfo = JackInfo {
+    nid: 0,
+    features: 0,
+    defconf: 0,
+    caps: 0,
+    connected: 0,
+};
+
+pub const NO_MAP: MapInfo = MapInfo {
+    nid: 0,
+    direction: 0,
+    channels: 0,
+    positions: [0; 18],
+};
+
+pub const NO_STREAM: StreamInfo = StreamInfo {
+    nid: 0,
+    features: 0,
+    formats: 0,
+    rates: 0,
+    channels_min: 0,
+    channels_max: 0,
+};
+
 // Nothing described: no part of any kind.
 pub fn nothing() -> Description
     ensures { result ≡ nothing_described }
 {
-    let jack = JackInfo {
-        nid: 0,
-        features: 0,
-        defconf: 0,
-        caps: 0,
-        connected: 0,
-    };
-    let map = MapInfo {
-        nid: 0,
-        direction: 0,
-        channels: 0,
-        positions: [0; 18],
-    };
-    let stream = StreamInfo {
-        nid: 0,
-        features: 0,
-        formats: 0,
-        rates: 0,
-        channels_min: 0,
-        channels_max: 0,
-    };
     Description {
         jack_count: 0,
         map_count: 0,
         output_count: 0,
         input_count: 0,
-        jacks: [jack; 4],
-        maps: [map; 4],
-        streams: [stream; STREAMS],
+        jacks: [NO_JACK; 4],
+        maps: [NO_MAP; 4],
+        streams: [NO_STREAM; STREAMS],
     }
 }
 
@@ -94,181 +99,112 @@ fn in_bits(mask: u64, n: u32) -> bool
     requires { n < 64 }
     ensures { result ≡ in_bits mask n }
 {
-    if mask == 0 {
-        return false;
-    }
-    if 64 - n <= u64::leading_zeros(mask) {
-        return true;
-    }
-    false
+    mask != 0 && 64 - n <= mask.leading_zeros()
 }
 
-fn jack_lawful(j: JackInfo) -> bool
-    ensures { result ≡ lawful_jack j }
-{
-    if 1 < j.features {
-        return false;
+impl JackInfo {
+    #[tactic(auto, unfolding(crate::specs::Lawful::lawful_jack))]
+    fn is_lawful(&self) -> bool
+        ensures { result ≡ lawful_jack self.now }
+    {
+        self.features <= 1 && self.connected <= 1
     }
-    if 1 < j.connected {
-        return false;
-    }
-    true
 }
 
 // Whether a position stands as it should at `i` of a map of `channels`.
-fn position_lawful(position: u8, i: usize, channels: u8) -> bool
+fn is_lawful_position(position: u8, i: usize, channels: u8) -> bool
     ensures { result ≡ lawful_position channels i position }
 {
     if i < channels as usize {
-        if position <= 36 {
-            return true;
-        }
-        return false;
+        position <= 36
+    } else {
+        position == 0
     }
-    if position == 0 {
-        return true;
-    }
-    false
 }
 
-fn map_lawful(map: MapInfo) -> bool
-    ensures { result ≡ lawful_map map }
+fn are_lawful_positions(positions: &[u8], channels: u8) -> bool
+    ensures { result ≡ lawful_positions channels 0 positions.now }
 {
-    if 1 < map.direction {
-        return false;
-    }
-    if map.channels < 1 {
-        return false;
-    }
-    if 18 < map.channels {
-        return false;
-    }
-    let positions = map.positions;
-    positions_lawful(positions, map.channels)
+    positions
+        .iter()
+        .enumerate()
+        .all(|(i, position)| is_lawful_position(*position, i, channels))
 }
 
-fn positions_lawful(positions: [u8; 18], channels: u8) -> bool
-    ensures { result ≡ lawful_positions channels 0 positions }
-{
-    let mut i = 0;
-    while i < 18 {
-        let position = positions[i];
-        if !position_lawful(position, i, channels) {
-            return false;
-        }
-        i += 1;
+impl MapInfo {
+    #[tactic(auto, unfolding(crate::specs::Lawful::lawful_map))]
+    fn is_lawful(&self) -> bool
+        ensures { result ≡ lawful_map self.now }
+    {
+        self.direction <= 1
+            && 1 <= self.channels
+            && self.channels <= 18
+            && are_lawful_positions(&self.positions, self.channels)
     }
-    true
 }
 
-fn stream_lawful(s: StreamInfo) -> bool
-    ensures { result ≡ lawful_stream s }
-{
-    if !in_bits(s.formats, 25) {
-        return false;
-    }
-    if !in_bits(s.rates, 14) {
-        return false;
-    }
-    if !channels_lawful(s.channels_min, s.channels_max) {
-        return false;
-    }
-    if s.features == 0 {
-        return true;
-    }
-    if s.features == 16 {
-        return true;
-    }
-    false
-}
-
-fn channels_lawful(min: u8, max: u8) -> bool
+fn are_lawful_channels(min: u8, max: u8) -> bool
     ensures { result ≡ lawful_channels min max }
 {
-    if min < 1 {
-        return false;
-    }
-    if max < min {
-        return false;
-    }
-    if 18 < max {
-        return false;
-    }
-    true
+    1 <= min && min <= max && max <= 18
 }
 
-fn jacks_lawful(jacks: [JackInfo; 4], n: usize) -> bool
-    requires { n ≤ 4 }
-    ensures { result ≡ every lawful_jack (take n jacks) }
-{
-    let mut i = 0;
-    while i < n {
-        let jack = jacks[i];
-        if !jack_lawful(jack) {
-            return false;
-        }
-        i += 1;
+impl StreamInfo {
+    #[tactic(auto, unfolding(crate::specs::Lawful::lawful_stream))]
+    fn is_lawful(&self) -> bool
+        ensures { result ≡ lawful_stream self.now }
+    {
+        in_bits(self.formats, 25)
+            && in_bits(self.rates, 14)
+            && are_lawful_channels(self.channels_min, self.channels_max)
+            && (self.features == 0 || self.features == 16)
     }
-    true
 }
 
-fn maps_lawful(maps: [MapInfo; 4], n: usize) -> bool
-    requires { n ≤ 4 }
-    ensures { result ≡ every lawful_map (take n maps) }
-{
-    let mut i = 0;
-    while i < n {
-        let map = maps[i];
-        if !map_lawful(map) {
-            return false;
-        }
-        i += 1;
+impl Description {
+    #[tactic(auto, unfolding(crate::specs::Lawful::lawful_counts))]
+    fn has_lawful_counts(&self) -> bool
+        ensures { result ≡ lawful_counts self.now }
+    {
+        self.jack_count <= 4
+            && self.map_count <= 4
+            && 1 <= self.output_count
+            && self.output_count <= 4
+            && self.input_count <= 2
     }
-    true
-}
 
-fn streams_lawful(streams: [StreamInfo; STREAMS], n: usize) -> bool
-    requires { n ≤ 6 }
-    ensures { result ≡ every lawful_stream (take n streams) }
-{
-    let mut i = 0;
-    while i < n {
-        let stream = streams[i];
-        if !stream_lawful(stream) {
-            return false;
-        }
-        i += 1;
+    fn has_lawful_jacks(&self) -> bool
+        requires { self.now.jack_count ≤ 4 }
+        ensures { result ≡ list_all lawful_jack (take self.now.jack_count self.now.jacks) }
+    {
+        let jacks = &self.jacks[..self.jack_count as usize];
+        jacks.iter().all(JackInfo::is_lawful)
     }
-    true
-}
 
-// Whether a card can be made of the description.
-pub fn is_lawful(d: Description) -> bool
-    ensures { result ≡ lawful d }
-{
-    if 4 < d.jack_count {
-        return false;
+    fn has_lawful_maps(&self) -> bool
+        requires { self.now.map_count ≤ 4 }
+        ensures { result ≡ list_all lawful_map (take self.now.map_count self.now.maps) }
+    {
+        let maps = &self.maps[..self.map_count as usize];
+        maps.iter().all(MapInfo::is_lawful)
     }
-    if 4 < d.map_count {
-        return false;
+
+    fn has_lawful_streams(&self) -> bool
+        requires { self.now.output_count + self.now.input_count ≤ 6 }
+        ensures { result ≡ list_all lawful_stream (take (self.now.output_count + self.now.input_count) self.now.streams) }
+    {
+        let streams = &self.streams[..(self.output_count + self.input_count) as usize];
+        streams.iter().all(StreamInfo::is_lawful)
     }
-    if d.output_count < 1 {
-        return false;
+
+    // Whether a card can be made of the description.
+    #[tactic(auto, unfolding(crate::specs::Lawful::lawful, crate::specs::Lawful::lawful_counts))]
+    pub fn is_lawful(&self) -> bool
+        ensures { result ≡ lawful self.now }
+    {
+        self.has_lawful_counts()
+            && self.has_lawful_jacks()
+            && self.has_lawful_maps()
+            && self.has_lawful_streams()
     }
-    if 4 < d.output_count {
-        return false;
-    }
-    if 2 < d.input_count {
-        return false;
-    }
-    let jacks = d.jacks;
-    if !jacks_lawful(jacks, d.jack_count as usize) {
-        return false;
-    }
-    let maps = d.maps;
-    if !maps_lawful(maps, d.map_count as usize) {
-        return false;
-    }
-    let streams = d.streams;
-    streams_lawful(streams, (d.output_count + d.input_count) as usize)
 }

@@ -1,8 +1,8 @@
 -- Cases of a Bool test, each with what the test then tells; something is not nothing; forms and endings told apart. (`by_cond`, for one
 -- choice, is the registers'.)
+use Rattle.std.specs.Prelude.{Option, None, Some}
 use mathlib.Core.Path.{◌≡◌, refl, sym, ap}
 use mathlib.Core.Bool.{Bool, true, false, cond, ◌&&◌, true≢false}
-use mathlib.Core.Option.{Option, none, some}
 use Prim.Native.Nat.{ℕ}
 use native.Mathlib.Omega.{arith}
 use Rattle.device.specs.Device.{Form, well_formed, refused, silent, unwalked, finished, released, Message}
@@ -35,13 +35,13 @@ cond_same true x = refl
 cond_same false x = refl
 
 abbrev size_of : {A : Type 0} → Option A → ℕ
-size_of none = 0
-size_of (some x) = 1
+size_of None = 0
+size_of (Some x) = 1
 
-pub none-some : {A : Type 0} (x : A) → ◌≡◌ {A = Option A} none (some x) → ⊥
+pub none-some : {A : Type 0} (x : A) → ◌≡◌ {A = Option A} None (Some x) → ⊥
 none-some x e = let z : ◌≡◌ {A = ℕ} 0 1 = ap size_of e in omega arith
 
-pub some_same : (x y : Message) → ◌≡◌ {A = Option Message} (some x) (some y) → x ≡ y
+pub some_same : (x y : Message) → ◌≡◌ {A = Option Message} (Some x) (Some y) → x ≡ y
 some_same x y e = cc
 
 pub well-of : (f : Form) → is_well f ≡ true → f ≡ well_formed

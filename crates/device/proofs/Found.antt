@@ -1,4 +1,5 @@
 -- The check of a queue that has a base: it is broken, or its new entries are found; and taking them all reaches the available index.
+use Rattle.std.specs.Prelude.{Result, Option, Ok, Err, Some}
 use mathlib.Core.Path.{◌≡◌}
 use mathlib.Core.List.{List}
 use Prim.Native.Nat.{ℕ, ◌+◌, ◌%◌}
@@ -11,7 +12,6 @@ use Rattle.counts.specs.declared.PageNumber.{PageNumber}
 use Rattle.ring.specs.Layout.{end_at}
 use Rattle.ring.specs.Rules.{base_of, new_of, found_of}
 use Rattle.ring.specs.declared.Cause.{Cause}
-use Rattle.ring.specs.declared.Check.{Check}
 
 -- so many new entries more, and the count has reached the index
 pub new-reaches : (index n : ℕ) → (n + new_of index (n % 65536)) % 65536 ≡ index % 65536
@@ -19,10 +19,10 @@ new-reaches index n = omega arith
 
 -- a queue with a base is broken, or its new entries are found
 pub found-based :
-    (P : Check → Type 0) (m : List ℕ) (page : PageNumber) (N new work : ℕ)
+    (P : Result (Option ℕ) Cause → Type 0) (m : List ℕ) (page : PageNumber) (N new work : ℕ)
     → (page.0 ≡ 0 → ⊥)
-    → ((c : Cause) → P (Check.Broken c))
-    → P (Check.New new)
+    → ((c : Cause) → P (Err c))
+    → P (Ok (Some new))
     → P (found_of m page N new work)
 unfolding found_of
 found-based P m page N new work based h k =

@@ -1,8 +1,8 @@
 -- The counts of a history are the counters', and so is the message in work after each change of it.
+use Rattle.std.specs.Prelude.{None, Some}
 use mathlib.Core.Path.{◌≡◌, refl, ap}
 use mathlib.Core.Bool.{Bool, true, false}
 use mathlib.Core.List.{List, []}
-use mathlib.Core.Option.{none, some}
 use Prim.Native.Nat.{ℕ, ◌+◌, ◌%◌}
 use native.Mathlib.Omega.{arith}
 use borrow.Author.Tests.{le-leb, lt-leb}
@@ -37,7 +37,7 @@ next-wrap n = omega arith
 
 module _ (d : Direction) where
   module _ (w : List ℕ) (h : History) (g : Good d w h) where
-    pub took-work : (t : Taking) → free h ≡ true → some (record { taking = t; done = 0 }) ≡ work_of (took d t h)
+    pub took-work : (t : Taking) → free h ≡ true → Some (record { taking = t; done = 0 }) ≡ work_of (took d t h)
     unfolding took handed_now
     took-work t e =
         rw (
@@ -48,7 +48,7 @@ module _ (d : Direction) where
           get_or-append_seam,
         )
 
-    pub entered-work : (e : Ending) (latency : ℕ) → none ≡ work_of (with_entry d e latency h)
+    pub entered-work : (e : Ending) (latency : ℕ) → None ≡ work_of (with_entry d e latency h)
     unfolding with_entry
     entered-work e latency = rw (length-append, le-leb (length h.takings) (number h + 1) (omega (arith, g.one)))
 

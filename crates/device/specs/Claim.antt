@@ -1,6 +1,5 @@
 -- What is claimed of a line's histories after any calls (`Good`), and the message in work that they stand for.
-use Rattle.std.specs.Prelude.{◌≡◌, cond, List, [], ◌++◌, map, ℕ, suc, ◌≤◌, eqb, leb, length, take, get_or}
-use Rattle.std.proofs.Math.Option.{Option, none, some}
+use Rattle.std.specs.Prelude.{Option, None, Some, ◌≡◌, cond, List, [], ◌++◌, map, ℕ, suc, ◌≤◌, eqb, leb, length, take, get_or}
 use Rattle.ranges.specs.Ranges.{up_from}
 use Rattle.device.specs.Device.{Direction, Taking, nobody, released, Message}
 use Rattle.device.specs.Histories.{Entry, Note, History, unanswered, handed_of, addresses_of, lost_of, number, current, handed_now}
@@ -32,4 +31,4 @@ pub record Good (d : Direction) (said : List ℕ) (h : History) : Type 0 where
 
 -- the message in work that a history stands for
 abbrev pub work_of : History → Option Message
-work_of h = cond (leb (length h.takings) (number h)) none (some (record { taking = current h; done = handed_now h }))
+work_of h = cond (leb (length h.takings) (number h)) None (Some (record { taking = current h; done = handed_now h }))

@@ -1,7 +1,6 @@
 -- The card as the rules see it: lists, no arrays. The stream queues are kept apart from all the rest, so that the rules can
 -- run over counters (the card) and over histories (the account) alike.
-use Rattle.std.specs.Prelude.{Bool, cond, List, [], ◌∷◌, ℕ, zero, suc, ◌+◌, ◌/◌, ◌%◌, get_or}
-use Rattle.std.proofs.Math.Option.{Option}
+use Rattle.std.specs.Prelude.{Option, Bool, cond, List, [], ◌∷◌, ℕ, zero, suc, ◌+◌, ◌/◌, ◌%◌, get_or}
 use Rattle.chain.specs.declared.Fault.{Fault}
 use Rattle.counts.specs.declared.PageNumber.{PageNumber}
 use Rattle.description.specs.declared.MapInfo.{MapInfo}

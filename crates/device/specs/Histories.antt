@@ -1,8 +1,7 @@
 -- 01, The play queue's account, of the messages of one line whose chains were read: histories without bound. Takings, used entries and
 -- handed bytes are lists; how many were taken or completed is the length of a list; the message in work is the first taking without an
 -- entry.
-use Rattle.std.specs.Prelude.{cond, List, [], ◌∷◌, ◌++◌, map, ℕ, ◌+◌, ◌-◌, eqb, drop, get_or}
-use Rattle.std.proofs.Math.Option.{Option, none}
+use Rattle.std.specs.Prelude.{Option, None, cond, List, [], ◌∷◌, ◌++◌, map, ℕ, ◌+◌, ◌-◌, eqb, drop, get_or}
 use Rattle.std.proofs.Math.ListN.{length}
 use Rattle.ranges.specs.Ranges.{up_from}
 use Rattle.device.specs.Device.{Direction, Taking, nobody, Ending, finished}
@@ -40,7 +39,7 @@ blank = record { takings = []; entries = []; notes = []; losses = [] }
 
 -- what stands past the end of the entries
 abbrev pub unanswered : Entry
-unanswered = record { head = 0; length = 0; ending = finished; status = none; latency = 0 }
+unanswered = record { head = 0; length = 0; ending = finished; status = None; latency = 0 }
 
 -- of the elements with this key, in order, the values
 abbrev pub only : {A : Type 0} → (A → ℕ) → (A → ℕ) → ℕ → List A → List ℕ

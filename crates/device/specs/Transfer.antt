@@ -1,9 +1,10 @@
 -- 01, Play, capture, events: a message of a stream queue, what its completion answers, and the steps of a queue seen at one line: moving
 -- and completing its message in work; for either direction and for any way `Q` of keeping the queue. The rules of a whole queue are
 -- `queue_lines`'.
+use Rattle.std.specs.Prelude.{Option, Some, None}
+use Rattle.ring.specs.declared.Cause.{Cause}
 use Rattle.std.specs.Prelude.{◌≡◌, Bool, true, false, cond, ◌&&◌, ◌||◌, not, List, [], ◌∷◌, ◌++◌, ℕ, ◌+◌, ◌-◌, ◌≤◌, ◌<◌, eqb, leb, ltb}
 use Rattle.std.specs.Prelude.{length, take, drop}
-use Rattle.std.proofs.Math.Option.{Option, none, some}
 use Rattle.counts.specs.declared.PageNumber.{PageNumber}
 use Rattle.memory.specs.Bytes.{le}
 use Rattle.ranges.specs.Ranges.{total, places, bytes_at, put_at}
@@ -13,7 +14,6 @@ use Rattle.registers.specs.declared.Registers.{Registers}
 use Rattle.registers.specs.declared.answers.Answer.{Answer}
 use Rattle.ring.specs.Layout.{end_at}
 use Rattle.ring.specs.Rules.{base_of, index_of, posted_at, interrupts}
-use Rattle.ring.specs.declared.Stop.{Stop}
 use Rattle.device.specs.Answers.{answer_by, broken_by}
 use Rattle.device.specs.Device.{Direction, output, input, Virtqueue, queue_size, Form, well_formed, refused, silent}
 use Rattle.device.specs.Device.{unwalked, Taking, Ending, finished, released, ill_formed, bytes_of, signalled_if}
@@ -49,27 +49,27 @@ payload_of d t = cond (is_well t.form) (payload_places d t) []
 -- the status: "Finished: OK"; a Release gives "Output: IO_ERR .. Input: OK"; "Ill-formed messages get their own
 -- answer"
 abbrev pub status_of : Direction → Ending → Form → Option ℕ
-status_of d finished f = some s_ok
-status_of output released f = some s_io_err
-status_of input released f = some s_ok
-status_of d ill_formed well_formed = none
-status_of d ill_formed refused = some s_io_err
-status_of d ill_formed silent = none
-status_of d ill_formed (unwalked f) = none
+status_of d finished f = Some s_ok
+status_of output released f = Some s_io_err
+status_of input released f = Some s_ok
+status_of d ill_formed well_formed = None
+status_of d ill_formed refused = Some s_io_err
+status_of d ill_formed silent = None
+status_of d ill_formed (unwalked f) = None
 
 -- "Status (code, latency ..) is the last 8 reply bytes.", for a capture too: never right behind the recorded bytes
 abbrev pub status_bytes : ℕ → ℕ → List ℕ
 status_bytes code latency = bytes_of 4 code ++ bytes_of 4 latency
 
 abbrev pub status_in_reply : Option ℕ → ℕ → List Range → List ℕ → List ℕ
-status_in_reply none latency reply m = m
-status_in_reply (some code) latency reply m = put_at m (drop (total reply - 8) (places reply)) (status_bytes code latency)
+status_in_reply None latency reply m = m
+status_in_reply (Some code) latency reply m = put_at m (drop (total reply - 8) (places reply)) (status_bytes code latency)
 
 -- "length 8 for play, 8 + recorded for capture"
 abbrev pub used_length : Direction → Option ℕ → ℕ → ℕ
-used_length d none done = 0
-used_length output (some code) done = 8
-used_length input (some code) done = 8 + done
+used_length d None done = 0
+used_length output (Some code) done = 8
+used_length input (Some code) done = 8 + done
 
 -- ---- what the steps ask of a queue, seen at one line
 
@@ -90,11 +90,11 @@ pub record Run (Q : Type 0) : Type 0 where
   pub bytes : List ℕ
   pub host : List ℕ
   pub room : ℕ
-  pub stop : Stop
+  pub stop : Option Cause
   pub signal : Bool
 
 abbrev pub begun : {Q : Type 0} → Q → List ℕ → List ℕ → Run Q
-begun q m host = record { queue = q; mem = m; bytes = []; host = host; room = length host; stop = Stop.Going; signal = false }
+begun q m host = record { queue = q; mem = m; bytes = []; host = host; room = length host; stop = None; signal = false }
 
 abbrev pub is_nil : List ℕ → Bool
 is_nil [] = true

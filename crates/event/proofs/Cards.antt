@@ -3,9 +3,9 @@
 use mathlib.Core.Path.{◌≡◌, ◌∙◌, refl, sym, ap}
 use mathlib.Core.Bool.{Bool, true, false, true≢false, cond, ◌||◌}
 use mathlib.Core.List.{List, [], map}
-use Prim.Native.Nat.{ℕ, ◌<◌}
+use Prim.Native.Nat.{ℕ, ◌<◌, ◌≤◌}
 use native.Mathlib.Omega.{arith}
-use borrow.Author.Tests.{ltb-true, eqb-true}
+use borrow.Author.Tests.{ltb-true, eqb-true, eqb-false, eq-eqb}
 use lib.Dec.{eqb, ltb}
 use lib.ListN.{length, get_or, set, length-take, get_or-map}
 use lib.Seq.{take-set-lt, get_or-take}
@@ -76,6 +76,16 @@ allowed-jack : (r : Rest) (code i : ℕ) → (eqb code jack_connected || eqb cod
     → i < length r.jacks
 unfolding event_allowed
 allowed-jack r code i t h = ltb-true _ _ (rw t at h)
+
+-- .. and only there
+jacks-by : (r : Rest) (code i : ℕ) → 4096 ≤ code → code < 4098 → (t : Bool) → eqb code 4096 ≡ t
+    → event_allowed r code i ≡ ltb i (length r.jacks)
+unfolding event_allowed
+jacks-by r code i a b true e = rw e
+jacks-by r code i a b false e = rw (e, eq-eqb code 4097 (omega (arith, eqb-false code 4096 e)))
+
+pub allowed-jacks : (r : Rest) (code i : ℕ) → 4096 ≤ code → code < 4098 → event_allowed r code i ≡ ltb i (length r.jacks)
+allowed-jacks r code i a b = jacks-by r code i a b (eqb code 4096) refl
 
 -- what is allowed and no XRUN is an event of a jack
 of-jack : (t u w : Bool) → cond t u w ≡ true → w ≡ false → t ≡ true

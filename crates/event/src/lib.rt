@@ -11,17 +11,10 @@ ghost use Rattle.meaning.specs.Held.{holding_live};
 ghost use Rattle.live.specs.Live.{FitBoard};
 ghost use Rattle.event.specs.Event.{rest_in, NamesJack, recorded_in, refused_by, TellsOn};
 
-use card::Parts;
-use event_queue::Attempt;
+use card::{Jack, Parts};
+use event_queue::{Attempt, Event};
 use live::Live;
 use registers::Answer;
-
-// The codes of the events.
-const JACK_CONNECTED: u32 = 4096;
-
-const JACK_DISCONNECTED: u32 = 4097;
-
-const PCM_XRUN: u32 = 4353;
 
 #[repr(C)]
 #[derive(Clone, Copy)]
@@ -35,11 +28,9 @@ pub struct EventAnswer {
 fn with_attempt(live: Live, attempt: Attempt) -> Live
     ensures { result ≡ holding_live event_queue attempt.registers attempt.counters live }
 {
-    let registers = attempt.registers;
-    let counters = attempt.counters;
     let mut next = live;
-    next.registers = registers;
-    next.queues[event_queue::NUMBER] = counters;
+    next.registers = attempt.registers;
+    next.queues[event_queue::NUMBER] = attempt.counters;
     next
 }
 
@@ -48,34 +39,24 @@ fn tells_xruns(live: Live, parts: Parts, stream: u32) -> bool
     requires { FitBoard live parts }
     ensures { result ≡ (is_running (rest_in live parts) stream && has_bit (stream_at (rest_in live parts) stream).params.features 4) }
 {
-    let config = live.config;
-    if config.streams <= stream {
+    if live.config.streams <= stream {
         return false;
     }
     let at = stream as usize;
-    let states = live.states;
-    if states[at] != card::RUNNING {
-        return false;
-    }
-    if live.fresh {
-        return false;
-    }
-    let streams = parts.streams;
-    let one = streams[at];
-    let params = one.params;
-    params.features / 16 % 2 == 1
+    live.states[at] == card::RUNNING
+        && !live.fresh
+        && parts.streams[at].params.features / 16 % 2 == 1
 }
 
 // Whether the event may be sent.
-fn is_allowed(live: Live, parts: Parts, code: u32, data: u32) -> bool
+#[tactic(auto, unfolding(rules::specs::Calls::event_allowed))]
+fn is_allowed(live: Live, parts: Parts, event: Event) -> bool
     requires { FitBoard live parts }
-    ensures { result ≡ event_allowed (rest_in live parts) code «data» }
+    ensures { result ≡ event_allowed (rest_in live parts) event.code event.«data» }
 {
-    let config = live.config;
-    match code {
-        JACK_CONNECTED => data < config.jacks,
-        JACK_DISCONNECTED => data < config.jacks,
-        PCM_XRUN => tells_xruns(live, parts, data),
+    match event.code {
+        rules::JACK_CONNECTED | rules::JACK_DISCONNECTED => event.data < live.config.jacks,
+        rules::PCM_XRUN => tells_xruns(live, parts, event.data),
         _ => false,
     }
 }
@@ -84,26 +65,23 @@ fn is_allowed(live: Live, parts: Parts, code: u32, data: u32) -> bool
 fn connection(code: u32) -> u8
     ensures { result ≡ cond (eqb code jack_connected) 1 0 }
 {
-    if code == JACK_CONNECTED {
-        return 1;
-    }
-    0
+    if code == rules::JACK_CONNECTED { 1 } else { 0 }
 }
 
 // The parts with the state that an event tells: a jack's connection.
-fn record_state(parts: Parts, code: u32, data: u32) -> Parts
-    requires { NamesJack code «data» }
-    ensures { result ≡ recorded_in code «data» parts }
+fn record_state(parts: Parts, event: Event) -> Parts
+    requires { NamesJack event.code event.«data» }
+    ensures { result ≡ recorded_in event.code event.«data» parts }
 {
-    if code == PCM_XRUN {
+    if event.code == rules::PCM_XRUN {
         return parts;
     }
-    let at = data as usize;
-    let connected = connection(code);
+    let at = event.data as usize;
     let mut next = parts;
-    let mut changed = next.jacks[at];
-    changed.connected = connected;
-    next.jacks[at] = changed;
+    next.jacks[at] = Jack {
+        connected: connection(event.code),
+        ..next.jacks[at]
+    };
     next
 }
 
@@ -113,8 +91,8 @@ fn refused(live: Live, parts: Parts, number: u8) -> EventAnswer
 {
     EventAnswer {
         answer: registers::plain(number),
-        live: live,
-        parts: parts,
+        live,
+        parts,
     }
 }
 
@@ -126,21 +104,18 @@ pub fn event(live: Live, parts: Parts, m: &mut [u8], code: u32, data: u32) -> Ev
     if m.len() != live.ram_len {
         return refused(live, parts, registers::LENGTH_DIFFERS);
     }
-    let registers = live.registers;
-    if !registers.is_live() {
+    if !live.registers.is_live() {
         return refused(live, parts, registers::NOT_LIVE);
     }
-    if !is_allowed(live, parts, code, data) {
+    let event = Event { code, data };
+    if !is_allowed(live, parts, event) {
         return refused(live, parts, registers::EVENT_NOT_ALLOWED);
     }
-    let queues = live.queues;
-    let counters = queues[event_queue::NUMBER];
-    let attempt = event_queue::send(m, registers, counters, code, data);
-    let answer = attempt.answer;
-    let after = with_attempt(live, attempt);
+    let counters = live.queues[event_queue::NUMBER];
+    let attempt = event_queue::send(m, live.registers, counters, event);
     EventAnswer {
-        answer: answer,
-        live: after,
-        parts: record_state(parts, code, data),
+        answer: attempt.answer,
+        live: with_attempt(live, attempt),
+        parts: record_state(parts, event),
     }
 }

@@ -1,6 +1,7 @@
 -- What a completion on the event queue leaves, and the turns of the loop over its entries.
-use Rattle.std.proofs.Common.{◌≡◌, ℕ, ◌+◌, Bool, true, false, List, [], get_or, replicate, sym, refl, ap, ◌∙◌, add-one, arith}
-use mathlib.Core.Option.{Option, none, some}
+use Rattle.std.specs.Prelude.{Result as Found, Ok, Err}
+use Rattle.std.proofs.Common.{Option, None, Some, ◌≡◌, ℕ, ◌+◌, Bool, true, false, List, [], get_or}
+use Rattle.std.proofs.Common.{replicate, sym, refl, ap, ◌∙◌, add-one, arith}
 use Rattle.chain.specs.Walk.{walk_of}
 use Rattle.counts.specs.declared.DescriptorNumber.{DescriptorNumber}
 use Rattle.counts.specs.declared.PageNumber.{PageNumber}
@@ -14,7 +15,6 @@ use Rattle.registers.specs.declared.Registers.{Registers}
 use Rattle.registers.specs.Rules.{has_bit}
 use Rattle.ring.specs.Rules.{Completion, completion, base_of, head_of, post_of, completed_of}
 use Rattle.ring.specs.declared.Cause.{Cause}
-use Rattle.ring.specs.declared.Head.{Head}
 use Rattle.ring.specs.declared.Posted.{Posted}
 use Rattle.card.specs.declared.Counters.{Counters}
 use Rattle.rules.specs.Calls.{Result, Ended, Further, refused_with, broke, event_bytes, event_posted, event_room, event_chain, tried}
@@ -64,22 +64,22 @@ posted-result over left r g q m after head reply bytes p h = ap (result_on r g q
 
 module _ (code data' left : ℕ) (g : Registers) (q : Counters) (m : List ℕ) where
   -- the next head of the event queue
-  abbrev pub next_head : Head
+  abbrev pub next_head : Found DescriptorNumber Cause
   next_head = head_of m (get_or g.pages event_queue (record { 0 = 0 })) (size_of event_queue) q.taken
 
-  pub tried-broken : (cause : Cause) → next_head ≡ Head.Broken cause → (r : Rest)
+  pub tried-broken : (cause : Cause) → next_head ≡ Err cause → (r : Rest)
       → tried code data' (holding g q r) m ≡ Ended (broke event_queue cause (holding g q r) m)
   unfolding tried
   tried-broken cause h r = rw h
 
   -- the chain at `n` is walked, and its room is as found
-  abbrev pub Found : DescriptorNumber → Option (List Range) → Type 0
-  Found n o =
-      (next_head ≡ Head.At n)
+  abbrev pub Roomed : DescriptorNumber → Option (List Range) → Type 0
+  Roomed n o =
+      (next_head ≡ Ok n)
       × (o ≡ event_room m (walk_of m (base_of (get_or g.pages event_queue (record { 0 = 0 }))) (size_of event_queue) n.0
       (has_bit g.features 28)))
 
-  tried-at : (n : DescriptorNumber) (o : Option (List Range)) → Found n o → (r : Rest)
+  tried-at : (n : DescriptorNumber) (o : Option (List Range)) → Roomed n o → (r : Rest)
       → tried code data' (holding g q r) m ≡ event_chain code data' (holding g q r) m n.0 o
   unfolding tried
   tried-at n o f r = rw (f.0, ← f.1)
@@ -89,14 +89,14 @@ module _ (code data' left : ℕ) (g : Registers) (q : Counters) (m : List ℕ) w
     abbrev pub Posts : List Range → List ℕ → Type 0
     Posts reply bytes = completion after p ≡ posting_of m (get_or g.pages event_queue (record { 0 = 0 })) q.completed n.0 reply bytes
 
-    pub tried-delivered : (reply : List Range) → Found n (some reply) → Posts reply (event_bytes code data') → (r : Rest)
+    pub tried-delivered : (reply : List Range) → Roomed n (Some reply) → Posts reply (event_bytes code data') → (r : Rest)
         → tried code data' (holding g q r) m ≡ tried_in r (attempt_of true left g q p) after
     tried-delivered reply f h r =
-        tried-at n (some reply) f r ∙ ap Ended (posted-result true left r g q m after n.0 reply (event_bytes code data') p h)
+        tried-at n (Some reply) f r ∙ ap Ended (posted-result true left r g q m after n.0 reply (event_bytes code data') p h)
 
-    pub tried-passed : Found n none → Posts [] [] → (r : Rest) → tried code data' (holding g q r) m
+    pub tried-passed : Roomed n None → Posts [] [] → (r : Rest) → tried code data' (holding g q r) m
         ≡ tried_in r (attempt_of false left g q p) after
-    tried-passed f h r = tried-at n none f r ∙ ap Further (posted-result false left r g q m after n.0 [] [] p h)
+    tried-passed f h r = tried-at n None f r ∙ ap Further (posted-result false left r g q m after n.0 [] [] p h)
 
 -- ---- the entries, one after the other
 

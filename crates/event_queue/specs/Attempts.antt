@@ -1,10 +1,10 @@
 -- 01, Play, capture, events, third paragraph: what the structs of an event's attempts stand for. An attempt changes the
 -- registers and the event queue's counters of a card; the rules see both as parts of the `Rest`.
-use Rattle.std.specs.Prelude.{ℕ, Bool, true, cond, List, length}
-use Rattle.std.proofs.Math.Option.{Option, none, some}
+use Rattle.std.specs.Prelude.{Option, ℕ, Bool, true, cond, List, length, Some, None}
 use Rattle.counts.specs.declared.PageNumber.{PageNumber}
 use Rattle.ranges.specs.Ranges.{ranges_of, places, put_at}
 use Rattle.ranges.specs.declared.Range.{Range}
+use Rattle.ranges.specs.declared.Ranges.{Ranges}
 use Rattle.registers.specs.Answers.{done, no_event_buffer, plain}
 use Rattle.registers.specs.Map.{size_of}
 use Rattle.registers.specs.Rules.{broken}
@@ -18,7 +18,6 @@ use Rattle.rules.specs.Calls.{Result, Sent, Tried, Ended, Further, event_found}
 use Rattle.device.specs.Device.{Rest, with_registers, with_event, page_of, signalled_if, one_taken}
 use Rattle.device.specs.Numbers.{event_queue}
 use Rattle.event_queue.specs.declared.Attempt.{Attempt}
-use Rattle.event_queue.specs.declared.Room.{Room}
 
 -- the rest with these registers and these counters of the event queue
 abbrev pub holding : Registers → Counters → Rest → Rest
@@ -35,8 +34,9 @@ abbrev pub tried_in : Rest → Attempt → List ℕ → Tried
 tried_in r a m = cond a.ended (Ended (result_in r a m)) (Further (result_in r a m))
 
 -- what a chain offers, over the words that the chain's ranges stand in
-abbrev pub room_in : List ℕ → Room → Option (List Range)
-room_in ws r = cond r.fits (some (ranges_of ws r.reply)) none
+abbrev pub room_in : List ℕ → Option Ranges → Option (List Range)
+room_in ws None = None
+room_in ws (Some reply) = Some (ranges_of ws reply)
 
 -- a chain of the event queue completed with these bytes in its reply
 unfoldable pub posting_of : List ℕ → PageNumber → ℕ → ℕ → List Range → List ℕ → Completion
@@ -57,14 +57,8 @@ attempt_of over left g q p =
 
 -- the queue is broken, or no chain has room
 abbrev pub halted_by : Cause → ℕ → Registers → Counters → Attempt
-halted_by cause left g q = record {
-  ended = true;
-  left = left;
-  answer = broken_answer event_queue cause;
-  registers = broken g;
-  counters =
-      q;
-}
+halted_by cause left g q =
+    record { ended = true; left = left; answer = broken_answer event_queue cause; registers = broken g; counters = q }
 
 abbrev pub without_buffer : Registers → Counters → Attempt
 without_buffer g q = record { ended = true; left = 0; answer = plain no_event_buffer; registers = g; counters = q }

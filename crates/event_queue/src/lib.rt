@@ -2,8 +2,7 @@
 // that has room for it.
 #![tactic(auto)]
 
-ghost use Rattle.std.specs.Prelude.{◌≡◌, ◌≤◌, true, [], length, if◌then◌else◌};
-ghost use Rattle.std.proofs.Math.Option.{none, some};
+ghost use Rattle.std.specs.Prelude.{◌≡◌, ◌≤◌, true, [], length, if◌then◌else◌, None, Some};
 ghost use Rattle.chain.specs.Walk.{whole, walk_of};
 ghost use Rattle.ranges.specs.Ranges.{ranges_of, Sound};
 ghost use Rattle.registers.specs.Fit.{FitRegisters};
@@ -22,7 +21,14 @@ use registers::{Answer, Registers};
 use ring::{Cause, Posted};
 
 // The number of the event queue.
-pub const NUMBER: usize = 1;
+pub const NUMBER: usize = registers::EVENT_QUEUE as usize;
+
+// An event as the guest reads it: its code, then its data.
+#[derive(Clone, Copy)]
+pub struct Event {
+    pub code: u32,
+    pub data: u32,
+}
 
 // Where an event stands after an entry was tried: `ended`, it was delivered or can't be; so many
 // new entries are left.
@@ -35,13 +41,6 @@ pub struct Attempt {
     pub counters: Counters,
 }
 
-// What a chain of the event queue offers: its reply, where an event fits there.
-#[derive(Clone, Copy)]
-struct Room {
-    fits: bool,
-    reply: Ranges,
-}
-
 // How many descriptors the event queue has.
 fn queue_size() -> u16
     ensures { result ≡ size_of event_queue }
@@ -52,62 +51,44 @@ fn queue_size() -> u16
 // Whether an event fits into a chain that was walked whole.
 fn has_room(m: &[u8], list: &[u64], request: Ranges, reply: Ranges) -> bool
     requires { Sound list.now request × Sound list.now reply }
-    ensures { (if result then some (ranges_of list.now reply) else none)
+    ensures { (if result then Some (ranges_of list.now reply) else None)
         ≡ event_room m.now (whole (ranges_of list.now request) (ranges_of list.now reply)) }
 {
-    if request.bytes != 0 {
-        return false;
-    }
-    if !ranges::all_inside(m.len(), list, request) {
-        return false;
-    }
-    if !ranges::all_inside(m.len(), list, reply) {
-        return false;
-    }
-    if reply.bytes < 8 {
-        return false;
-    }
-    true
+    request.bytes == 0
+        && ranges::all_inside(m.len(), list, request)
+        && ranges::all_inside(m.len(), list, reply)
+        && reply.bytes >= 8
 }
 
-// The room of the chain at `head`, whose ranges are put into the list.
+// The reply of the chain at `head`, where it has room for an event; the chain's ranges are put into the list.
 fn room_at(
     m: &[u8],
     list: &mut [u64],
     page: PageNumber,
     head: DescriptorNumber,
     indirect: bool,
-) -> Room
+) -> Option<Ranges>
     requires { 68 ≤ length list.old }
     ensures { room_in list.new result
         ≡ event_room m.now (walk_of m.now (base_of page) (size_of event_queue) head.0 indirect) }
 {
     let size = queue_size();
-    let walked = chain::walk(m, list, page.address(), size, head, indirect);
-    let end = walked.end;
-    let chain::End::Whole = end else {
-        return Room {
-            fits: false,
-            reply: Ranges::none(),
-        };
+    let Ok(chain) = chain::walk(m, list, page.address(), size, head, indirect) else {
+        return None;
     };
-    let chain = walked.chain;
-    let request = chain.request;
-    let reply = chain.reply;
-    Room {
-        fits: has_room(m, list, request, reply),
-        reply: reply,
-    }
+    has_room(m, list, chain.request, chain.reply).then_some(chain.reply)
 }
 
-// The eight bytes of an event.
-fn event_bytes(code: u32, data: u32) -> [u8; 8]
-    ensures { result ≡ event_bytes code «data» }
-{
-    let mut bytes = [0u8; 8];
-    memory::set32(&mut bytes, 0, code);
-    memory::set32(&mut bytes, 4, data);
-    bytes
+impl Event {
+    // Its eight bytes.
+    fn bytes(self) -> [u8; 8]
+        ensures { result ≡ event_bytes self.code self.«data» }
+    {
+        let mut bytes = [0u8; 8];
+        memory::set(&mut bytes, 0, self.code);
+        memory::set(&mut bytes, 4, self.data);
+        bytes
+    }
 }
 
 // The event in the first bytes of the reply, then the used entry.
@@ -118,13 +99,12 @@ fn deliver(
     completed: u16,
     head: DescriptorNumber,
     reply: Ranges,
-    code: u32,
-    data: u32,
+    event: Event,
 ) -> Posted
     ensures { completion m.new result
-        ≡ posting_of m.old page completed head.0 (ranges_of list.now reply) (event_bytes code «data») }
+        ≡ posting_of m.old page completed head.0 (ranges_of list.now reply) (event_bytes event.code event.«data») }
 {
-    let bytes = event_bytes(code, data);
+    let bytes = event.bytes();
     let size = queue_size();
     ring::complete(m, page, size, completed, head, 8, list, reply, 0, &bytes, 8)
 }
@@ -148,25 +128,19 @@ fn counted(
     requires { FitRegisters registers }
     ensures { (result ≡ attempt_of ended left registers counters posted) × FitRegisters result.registers }
 {
-    let after = Counters {
-        taken: std::num::wrapping_add_u16(counters.taken, 1),
-        completed: posted.completed,
-    };
-    if posted.interrupt {
-        return Attempt {
-            ended: ended,
-            left: left,
-            answer: registers::plain(registers::DONE),
-            registers: registers.signal(),
-            counters: after,
-        };
-    }
     Attempt {
-        ended: ended,
-        left: left,
+        ended,
+        left,
         answer: registers::plain(registers::DONE),
-        registers: registers,
-        counters: after,
+        registers: if posted.interrupt {
+            registers.signal()
+        } else {
+            registers
+        },
+        counters: Counters {
+            taken: counters.taken.wrapping_add(1),
+            completed: posted.completed,
+        },
     }
 }
 
@@ -177,10 +151,10 @@ fn halted(left: u16, registers: Registers, counters: Counters, cause: Cause) -> 
 {
     Attempt {
         ended: true,
-        left: left,
+        left,
         answer: rules::broken_answer(NUMBER as u8, cause),
         registers: registers.break_down(),
-        counters: counters,
+        counters,
     }
 }
 
@@ -192,8 +166,8 @@ fn without_buffer(registers: Registers, counters: Counters) -> Attempt
         ended: true, // there is no entry to try
         left: 0,
         answer: registers::plain(registers::NO_EVENT_BUFFER),
-        registers: registers,
-        counters: counters,
+        registers,
+        counters,
     }
 }
 
@@ -203,36 +177,28 @@ fn try_entry(
     left: u16,
     registers: Registers,
     counters: Counters,
-    code: u32,
-    data: u32,
+    event: Event,
 ) -> Attempt
     requires { FitRegisters registers }
-    ensures { ((rest : Rest) → tried code «data» (holding registers counters rest) m.old ≡ tried_in rest result m.new)
+    ensures { ((rest : Rest) → tried event.code event.«data» (holding registers counters rest) m.old ≡ tried_in rest result m.new)
         × FitRegisters result.registers × (result.left ≡ left) }
 {
     let page = registers.pages[NUMBER];
     let size = queue_size();
     match ring::next_head(m, page, size, counters.taken) {
-        ring::Head::Broken(cause) => halted(left, registers, counters, cause),
-        ring::Head::At(head) => {
-            let indirect = registers.indirect();
+        Err(cause) => halted(left, registers, counters, cause),
+        Ok(head) => {
             let mut words = [0u64; 68];
-            let room = room_at(m, &mut words, page, head, indirect);
-            if room.fits {
-                let posted = deliver(
-                    m,
-                    &words,
-                    page,
-                    counters.completed,
-                    head,
-                    room.reply,
-                    code,
-                    data,
-                );
-                return counted(true, left, registers, counters, posted);
+            match room_at(m, &mut words, page, head, registers.indirect()) {
+                Some(reply) => {
+                    let posted = deliver(m, &words, page, counters.completed, head, reply, event);
+                    counted(true, left, registers, counters, posted)
+                }
+                None => {
+                    let posted = pass_over(m, page, counters.completed, head);
+                    counted(false, left, registers, counters, posted)
+                }
             }
-            let posted = pass_over(m, page, counters.completed, head);
-            counted(false, left, registers, counters, posted)
         }
     }
 }
@@ -243,40 +209,37 @@ fn try_entries(
     registers: Registers,
     counters: Counters,
     new: u16,
-    code: u32,
-    data: u32,
+    event: Event,
 ) -> Attempt
     requires { FitRegisters registers }
-    ensures { ((rest : Rest) → event_run code «data» new (holding registers counters rest) m.old
+    ensures { ((rest : Rest) → event_run event.code event.«data» new (holding registers counters rest) m.old
         ≡ sent_in rest result m.new)
         × FitRegisters result.registers × (result.ended ≡ true) }
 {
     let mut file = registers;
     let mut counts = counters;
-    let mut left = new;
-    while 0 < left {
-        let attempt = try_entry(m, left - 1, file, counts, code, data);
+    for left in (0..new).rev() {
+        let attempt = try_entry(m, left, file, counts, event);
         if attempt.ended {
             return attempt;
         }
         file = attempt.registers;
         counts = attempt.counters;
-        left -= 1;
     }
     without_buffer(file, counts)
 }
 
 // The event queue is checked, then its new entries are tried: the attempt that is returned has ended.
-pub fn send(m: &mut [u8], registers: Registers, counters: Counters, code: u32, data: u32) -> Attempt
+pub fn send(m: &mut [u8], registers: Registers, counters: Counters, event: Event) -> Attempt
     requires { FitRegisters registers }
-    ensures { ((rest : Rest) → sent_of code «data» (holding registers counters rest) m.old ≡ sent_in rest result m.new)
+    ensures { ((rest : Rest) → sent_of event.code event.«data» (holding registers counters rest) m.old ≡ sent_in rest result m.new)
         × FitRegisters result.registers × (result.ended ≡ true) }
 {
     let page = registers.pages[NUMBER];
     let size = queue_size();
     match ring::check_queue(m, page, size, counters.taken, 0) {
-        ring::Check::Idle => without_buffer(registers, counters),
-        ring::Check::Broken(cause) => halted(0, registers, counters, cause),
-        ring::Check::New(new) => try_entries(m, registers, counters, new, code, data),
+        Ok(Some(new)) => try_entries(m, registers, counters, new, event),
+        Ok(None) => without_buffer(registers, counters),
+        Err(cause) => halted(0, registers, counters, cause),
     }
 }

@@ -1,8 +1,8 @@
 -- The play queue's account, run by computation: a play in two calls, a message with the wrong stream id between two others, STOP and
 -- RELEASE of the rest, a reset. All histories are shown after each of them; and order 5's latency, in the entries and in memory.
+use Rattle.std.specs.Prelude.{Some}
 use mathlib.Core.Path.{◌≡◌, refl}
 use mathlib.Core.List.{List, [], ◌∷◌, ◌++◌, map}
-use mathlib.Core.Option.{some}
 use Prim.Native.Nat.{ℕ}
 use lib.ListN.{take, drop}
 use Rattle.card.specs.Card.{running_state}
@@ -72,7 +72,7 @@ abbrev pub chain : ℕ → ℕ → ℕ → ℕ → Form → Taking
 chain head request len reply form = record { head = head; request = range request len ∷ []; reply = range reply 8 ∷ []; form = form }
 
 abbrev pub entry : ℕ → Ending → ℕ → ℕ → Entry
-entry head ending status latency = record { head = head; length = 8; ending = ending; status = some status; latency = latency }
+entry head ending status latency = record { head = head; length = 8; ending = ending; status = Some status; latency = latency }
 
 -- a message answered at its taking: the taking, and its answer
 abbrev pub bouncing : ℕ → Taking → Taken

@@ -1,6 +1,6 @@
 -- What the cases are made of: memory in blocks, a small card, and calls run one after the other, with every rule open.
+use Rattle.std.specs.Prelude.{None}
 use mathlib.Core.List.{List, [], ◌∷◌, ◌++◌, map}
-use mathlib.Core.Option.{none}
 use Prim.Native.Nat.{ℕ, ◌+◌, ◌-◌}
 use lib.ListN.{length, replicate}
 use Rattle.chain.specs.Walk.{descriptor_at, descriptors, joined_of, enter_of, in_table, direct}
@@ -134,7 +134,7 @@ empty d = (card both d).empty
 
 -- a line in which nothing is begun, and these heads wait
 abbrev pub waits : List ℕ → Line
-waits heads = record { begun = none; heads = heads }
+waits heads = record { begun = None; heads = heads }
 
 abbrev pub device : ℕ → ℕ → List ℕ → List Stream → Device Queue
 device ram status pages streams =

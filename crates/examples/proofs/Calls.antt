@@ -1,8 +1,8 @@
 -- The rules run on small cases, by computation: each row of 01's table of answers at least once, each case chosen so that a slip in a rule
 -- would show. Where a call writes, the whole of memory is compared. Play, capture and RELEASE are in Transfers.
+use Rattle.std.specs.Prelude.{Option, None, Some}
 use mathlib.Core.Path.{◌≡◌, refl}
 use mathlib.Core.List.{List, [], ◌∷◌, ◌++◌, map}
-use mathlib.Core.Option.{Option, none, some}
 use Prim.Native.Nat.{ℕ}
 use lib.ListN.{replicate}
 use Rattle.chain.specs.Walk.{whole}
@@ -134,7 +134,7 @@ in_work =
       completed = 65534;
       lines =
           record {
-            begun = some (record {
+            begun = Some (record {
               taking = record { head = 6; request = range 32 7 ∷ []; reply = range 56 8 ∷ []; form = well_formed };
               done = 2;
             });
@@ -291,9 +291,9 @@ abbrev pub takes : List Range → List Range → Option (List Range)
 takes request reply = event_room (replicate 16 0) (whole request reply)
 
 pub event-buffers :
-    (takes (range 99 0 ∷ []) (range 8 8 ∷ []) ≡ some (range 8 8 ∷ []))
-    × (takes (range 0 1 ∷ []) (range 8 8 ∷ []) ≡ none)
-    × (takes [] (range 8 7 ∷ []) ≡ none)
-    × (takes [] (range 9 8 ∷ []) ≡ none)
+    (takes (range 99 0 ∷ []) (range 8 8 ∷ []) ≡ Some (range 8 8 ∷ []))
+    × (takes (range 0 1 ∷ []) (range 8 8 ∷ []) ≡ None)
+    × (takes [] (range 8 7 ∷ []) ≡ None)
+    × (takes [] (range 9 8 ∷ []) ≡ None)
 unfolding runs
 event-buffers = (refl, refl, refl, refl)

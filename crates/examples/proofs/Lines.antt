@@ -1,14 +1,13 @@
 -- Order 8 by computation: a play queue with two output streams. The guest offers five chains, of streams 0, 1, 0, 7 and 1; a play of
 -- stream 0 takes them all and plays a part of the first; then the guest swaps ids; a second play, a Release of stream 1, and what each
 -- leaves.
+use Rattle.std.specs.Prelude.{Option, Some, None}
 use mathlib.Core.Path.{◌≡◌, refl}
 use mathlib.Core.Bool.{true}
 use mathlib.Core.List.{List, [], ◌∷◌, ◌++◌}
-use mathlib.Core.Option.{some}
 use Prim.Native.Nat.{ℕ}
 use lib.ListN.{take, drop, replicate}
 use Rattle.ring.specs.declared.Cause.{Cause}
-use Rattle.ring.specs.declared.Stop.{Stop}
 use Rattle.device.specs.Device.{output, well_formed, refused, Taking, finished, ill_formed, bytes_of}
 use Rattle.device.specs.Histories.{blank}
 use Rattle.device.specs.Numbers.{s_ok, s_io_err}
@@ -58,7 +57,7 @@ first ops = plays ops 480 0 (ops (queue 0)).empty (lent 0 1 0 5) (zeros 2)
 abbrev pub half : Line
 half =
     record {
-      begun = some (record {
+      begun = Some (record {
         taking = record { head = 0; request = range 16 7 ∷ []; reply = range 64 8 ∷ []; form = well_formed };
         done = 2;
       });
@@ -78,7 +77,7 @@ statuses m = take 40 (drop 64 m)
 pub record Seen : Type 0 where
   pub bytes : List ℕ
   pub queue : Queue
-  pub stop : Stop
+  pub stop : Option Cause
   pub replies : List ℕ
   pub used : List ℕ
 
@@ -97,7 +96,7 @@ bad-one-answered bytes q =
     record {
       bytes = bytes;
       queue = q;
-      stop = Stop.Going;
+      stop = None;
       replies = words (0 ∷ 0 ∷ 0 ∷ 0 ∷ 0 ∷ 0 ∷ 32771 ∷ 480 ∷ 0 ∷ 0 ∷ []);
       used = bytes_of 2 1 ++ element 3 8 ++ none-used ++ none-used;
     }
@@ -124,7 +123,7 @@ both-completed bytes status =
     record {
       bytes = bytes;
       queue = record { taken = 5; completed = 3; lines = waits [] ∷ waits (1 ∷ 4 ∷ []) ∷ [] };
-      stop = Stop.Going;
+      stop = None;
       replies = words (32768 ∷ 960 ∷ 0 ∷ 0 ∷ status ∷ 960 ∷ 0 ∷ 0 ∷ 0 ∷ 0 ∷ []);
       used = bytes_of 2 3 ++ none-used ++ element 0 8 ++ element 2 8;
     }
@@ -144,7 +143,7 @@ pub release-leaves-the-other :
     ≡ record {
       bytes = [];
       queue = record { taken = 5; completed = 3; lines = half ∷ waits [] ∷ [] };
-      stop = Stop.Going;
+      stop = None;
       replies = words (0 ∷ 0 ∷ 32771 ∷ 77 ∷ 0 ∷ 0 ∷ 0 ∷ 0 ∷ 32771 ∷ 77 ∷ []);
       used = bytes_of 2 3 ++ none-used ++ element 1 8 ++ element 4 8;
     }
@@ -202,9 +201,9 @@ pub same-head-twice :
           record {
             taken = 2;
             completed = 1;
-            lines = record { begun = some (record { taking = chain 0 16 6 64 well_formed; done = 1 }); heads = [] } ∷ waits [] ∷ [];
+            lines = record { begun = Some (record { taking = chain 0 16 6 64 well_formed; done = 1 }); heads = [] } ∷ waits [] ∷ [];
           };
-      stop = Stop.Going;
+      stop = None;
       replies = words (32768 ∷ []) ++ zeros 36;
       used = bytes_of 2 1 ++ element 0 8 ++ none-used ++ none-used;
     }
@@ -229,7 +228,7 @@ pub broken-by-an-answer :
     ≡ record {
       bytes = [];
       queue = record { taken = 2; completed = 1; lines = waits (0 ∷ []) ∷ waits [] ∷ [] };
-      stop = Stop.Broke Cause.Head;
+      stop = Some Cause.Head;
       replies = zeros 40;
       used = bytes_of 2 1 ++ element 1 8 ++ none-used ++ none-used;
     }

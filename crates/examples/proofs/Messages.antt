@@ -1,14 +1,14 @@
 -- Control messages decided, chains walked and descriptions judged, on small cases, by computation.
+use Rattle.std.specs.Prelude.{Option, None, Some}
 use mathlib.Core.Path.{◌≡◌, refl}
 use mathlib.Core.Bool.{Bool, true, false}
 use mathlib.Core.List.{List, [], ◌∷◌, ◌++◌, map}
-use mathlib.Core.Option.{Option, none, some}
 use Prim.Native.Nat.{ℕ, zero, suc, ◌+◌, ◌-◌, ◌*◌}
 use lib.ListN.{length, take, replicate}
 use Rattle.chain.specs.Walk.{Outcome, whole, faulted, walk_of}
 use Rattle.chain.specs.declared.Fault.TheVariants.{PastTable, TooMany, Order, TooLong, NotNegotiated, WithNext, Nested, TableLength}
 use Rattle.chain.specs.declared.Fault.TheVariants.{TableOutside}
-use Rattle.description.specs.Lawful.{every, lawful_stream, lawful_jack, lawful_positions, lawful_map, lawful_counts, lawful}
+use Rattle.description.specs.Lawful.{lawful_stream, lawful_jack, lawful_positions, lawful_map, lawful_counts, lawful}
 use Rattle.formats.specs.Widths.{physical_bits}
 use Rattle.memory.specs.Bytes.{le}
 use Rattle.ranges.specs.Ranges.{total}
@@ -24,8 +24,8 @@ use Rattle.examples.proofs.Blocks.{block, memory, words, ok, bad_msg, descriptor
 
 -- the status of a reply; none for a RELEASE
 abbrev pub answered : Served → Option ℕ
-answered (Reply r bytes) = some (le 4 bytes 0)
-answered (Release id) = none
+answered (Reply r bytes) = Some (le 4 bytes 0)
+answered (Release id) = None
 
 -- a jack with the remap feature and one without; one stream, in this state, with these features selected
 abbrev pub parts : ℕ → ℕ → Parts
@@ -42,18 +42,18 @@ params buffer period features channels format rate padding =
 
 -- a request wrong in two ways gets the earlier answer: the transition, then what is BAD_MSG, then what is NOT_SUPP
 pub params-in-order :
-    (asks running_state (params 8 4 0 2 5 8 0) ≡ some s_bad_msg)
-    × (asks fresh_state (params 262148 4 0 2 5 7 1) ≡ some s_bad_msg)
-    × (asks fresh_state (params 0 4 1 2 5 7 0) ≡ some s_bad_msg)
-    × (asks fresh_state (params 8 0 0 3 5 7 0) ≡ some s_bad_msg)
-    × (asks fresh_state (params 10 4 0 2 4 8 0) ≡ some s_bad_msg)
-    × (asks fresh_state (params 262148 4 0 2 5 7 0) ≡ some s_not_supp)
-    × (asks fresh_state (params 8 4 17 2 5 7 0) ≡ some s_not_supp)
-    × (asks fresh_state (params 8 4 0 0 5 7 0) ≡ some s_not_supp)
-    × (asks fresh_state (params 8 4 0 3 5 7 0) ≡ some s_not_supp)
-    × (asks fresh_state (params 8 4 0 2 69 7 0) ≡ some s_not_supp)
-    × (asks fresh_state (params 8 4 0 2 5 71 0) ≡ some s_not_supp)
-    × (asks fresh_state (params 262144 262144 16 1 5 7 0) ≡ some s_ok)
+    (asks running_state (params 8 4 0 2 5 8 0) ≡ Some s_bad_msg)
+    × (asks fresh_state (params 262148 4 0 2 5 7 1) ≡ Some s_bad_msg)
+    × (asks fresh_state (params 0 4 1 2 5 7 0) ≡ Some s_bad_msg)
+    × (asks fresh_state (params 8 0 0 3 5 7 0) ≡ Some s_bad_msg)
+    × (asks fresh_state (params 10 4 0 2 4 8 0) ≡ Some s_bad_msg)
+    × (asks fresh_state (params 262148 4 0 2 5 7 0) ≡ Some s_not_supp)
+    × (asks fresh_state (params 8 4 17 2 5 7 0) ≡ Some s_not_supp)
+    × (asks fresh_state (params 8 4 0 0 5 7 0) ≡ Some s_not_supp)
+    × (asks fresh_state (params 8 4 0 3 5 7 0) ≡ Some s_not_supp)
+    × (asks fresh_state (params 8 4 0 2 69 7 0) ≡ Some s_not_supp)
+    × (asks fresh_state (params 8 4 0 2 5 71 0) ≡ Some s_not_supp)
+    × (asks fresh_state (params 262144 262144 16 1 5 7 0) ≡ Some s_ok)
 unfolding runs physical_bits
 params-in-order = (refl, refl, refl, refl, refl, refl, refl, refl, refl, refl, refl, refl)
 
@@ -62,11 +62,11 @@ abbrev pub remaps : ℕ → ℕ → ℕ → List ℕ
 remaps id association sequence = words (2 ∷ id ∷ association ∷ sequence ∷ [])
 
 pub remap-in-order :
-    (asks fresh_state (remaps 2 0 0) ≡ some s_bad_msg)
-    × (asks fresh_state (remaps 1 16 16) ≡ some s_not_supp)
-    × (asks fresh_state (remaps 0 16 0) ≡ some s_bad_msg)
-    × (asks fresh_state (remaps 0 0 16) ≡ some s_bad_msg)
-    × (asks fresh_state (remaps 0 15 15) ≡ some s_ok)
+    (asks fresh_state (remaps 2 0 0) ≡ Some s_bad_msg)
+    × (asks fresh_state (remaps 1 16 16) ≡ Some s_not_supp)
+    × (asks fresh_state (remaps 0 16 0) ≡ Some s_bad_msg)
+    × (asks fresh_state (remaps 0 0 16) ≡ Some s_bad_msg)
+    × (asks fresh_state (remaps 0 15 15) ≡ Some s_ok)
 unfolding runs
 remap-in-order = (refl, refl, refl, refl, refl)
 
@@ -84,14 +84,14 @@ requests =
     ∷ []
 
 abbrev pub statuses : List (Option ℕ)
-statuses = some s_ok ∷ some s_ok ∷ some s_ok ∷ some s_ok ∷ some s_ok ∷ none ∷ some s_ok ∷ some s_ok ∷ []
+statuses = Some s_ok ∷ Some s_ok ∷ Some s_ok ∷ Some s_ok ∷ Some s_ok ∷ None ∷ Some s_ok ∷ Some s_ok ∷ []
 
 pub layouts :
     (map (asks prepared_state) requests ≡ statuses)
     × (map (λ (q : List ℕ). asks prepared_state (q ++ 255 ∷ [])) requests ≡ statuses)
-    × (map (λ (q : List ℕ). asks prepared_state (take (length q - 1) q)) requests ≡ replicate 8 (some s_bad_msg))
-    × (asks running_state (words (261 ∷ 0 ∷ [])) ≡ some s_ok)
-    × (asks running_state (take 7 (words (261 ∷ 0 ∷ []))) ≡ some s_bad_msg)
+    × (map (λ (q : List ℕ). asks prepared_state (take (length q - 1) q)) requests ≡ replicate 8 (Some s_bad_msg))
+    × (asks running_state (words (261 ∷ 0 ∷ [])) ≡ Some s_ok)
+    × (asks running_state (take 7 (words (261 ∷ 0 ∷ []))) ≡ Some s_bad_msg)
 unfolding runs physical_bits
 layouts = (refl, refl, refl, refl, refl)
 
@@ -149,8 +149,8 @@ walk negotiated n bytes = walk_of (memory n (block 0 bytes ∷ [])) 0 64 0 negot
 
 -- of each side the number of descriptors and their lengths' sum
 abbrev pub sides : Outcome → Option (List ℕ)
-sides (whole request reply) = some (length request ∷ total request ∷ length reply ∷ total reply ∷ [])
-sides (faulted f) = none
+sides (whole request reply) = Some (length request ∷ total request ∷ length reply ∷ total reply ∷ [])
+sides (faulted f) = None
 
 -- n descriptors of one readable byte, from number i on, each with NEXT
 abbrev pub linked : ℕ → ℕ → List ℕ
@@ -164,10 +164,10 @@ across_tables n = walk true 1024 (descriptor 0 1 1 1 ++ descriptor 32 (16 * (n +
 -- 34 descriptors without the indirect one, then 35; a chain that comes back to itself; the sums of each side; the order also at
 -- length 0; numbers past the table; the largest address, with an unknown flag
 pub walk-limits :
-    (sides (across_tables 32) ≡ some (33 ∷ 33 ∷ 1 ∷ 1 ∷ []))
+    (sides (across_tables 32) ≡ Some (33 ∷ 33 ∷ 1 ∷ 1 ∷ []))
     × (across_tables 33 ≡ faulted TooMany)
     × (walk true 16 (descriptor 0 1 1 0) ≡ faulted TooMany)
-    × (sides (walk true 32 (descriptor 0 1048576 1 1 ++ descriptor 0 1048576 2 0)) ≡ some (1 ∷ 1048576 ∷ 1 ∷ 1048576 ∷ []))
+    × (sides (walk true 32 (descriptor 0 1048576 1 1 ++ descriptor 0 1048576 2 0)) ≡ Some (1 ∷ 1048576 ∷ 1 ∷ 1048576 ∷ []))
     × (walk true 32 (descriptor 0 1048576 1 1 ++ descriptor 0 1 0 0) ≡ faulted TooLong)
     × (walk true 32 (descriptor 0 1 3 1 ++ descriptor 0 1048576 2 0) ≡ faulted TooLong)
     × (walk true 32 (descriptor 0 0 3 1 ++ descriptor 0 0 0 0) ≡ faulted Order)
@@ -222,5 +222,5 @@ pub descriptions :
     × (powers 0 1 1 0 1 1 18 36 ∷ powers 0 1 1 33554432 1 1 18 36 ∷ powers 0 1 1 1 0 1 18 36 ∷ powers 0 1 1 1 16384 1 18 36 ∷ []
     ≡ replicate 4 10)
     × (powers 0 1 1 1 1 0 18 36 ∷ powers 0 1 1 1 1 19 18 36 ∷ powers 0 1 1 1 1 1 18 37 ∷ powers 0 1 1 1 1 1 17 1 ∷ [] ≡ replicate 4 10)
-unfolding powered_of lawful every lawful_counts lawful_jack lawful_map lawful_positions lawful_stream
+unfolding powered_of lawful lawful_counts lawful_jack lawful_map lawful_positions lawful_stream
 descriptions = (refl, refl, refl, refl)

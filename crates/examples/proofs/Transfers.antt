@@ -1,16 +1,15 @@
 -- Play, capture and RELEASE run on small cases, by computation, on a card of one output and one input: each status at least once, the
 -- whole of memory compared where a call writes; and messages of the stream queues at the borders of their rules.
+use Rattle.std.specs.Prelude.{Option, Some, None}
 use mathlib.Core.Path.{◌≡◌, refl}
 use mathlib.Core.Bool.{Bool, true, false}
 use mathlib.Core.List.{List, [], ◌∷◌, ◌++◌}
-use mathlib.Core.Option.{Option, none, some}
 use Prim.Native.Nat.{ℕ}
 use lib.ListN.{take, replicate}
 use Rattle.chain.specs.Walk.{whole}
 use Rattle.ranges.specs.declared.Range.{Range}
 use Rattle.registers.specs.Answers.{plain}
 use Rattle.ring.specs.declared.Cause.{Cause}
-use Rattle.ring.specs.declared.Stop.{Stop}
 use Rattle.card.specs.Card.{prepared_state, running_state, released_state}
 use Rattle.device.specs.Device.{Direction, output, input, Form, well_formed, refused, silent, Message, Device, with_registers, with_control}
 use Rattle.device.specs.Device.{bytes_of}
@@ -229,7 +228,7 @@ speaking reply start low high =
     ++ high)
 
 -- what a Release leaves: the queue, memory, whether it broke, an interrupt wanted
-abbrev pub ended : Queue → List ℕ → Stop → Bool → Run Queue
+abbrev pub ended : Queue → List ℕ → Option Cause → Bool → Run Queue
 ended q m stop signal = record { queue = q; mem = m; bytes = []; host = []; room = 0; stop = stop; signal = signal }
 
 pub release-of-the-output :
@@ -238,7 +237,7 @@ pub release-of-the-output :
     (record { taken = 1; completed = 1; lines = waits [] ∷ [] })
     (speaking (block 56 (xfer io_err) ∷ []) (xfer io_err) (block 8710 (used 1 (element 0 0 ∷ [])) ∷ [])
     (block 10744 (element 1 8 ++ element 6 8) ∷ []))
-    Stop.Going
+    None
     false
 unfolding runs
 release-of-the-output = refl
@@ -262,7 +261,7 @@ pub release-in-line :
     (record { taken = 1; completed = 1; lines = waits [] ∷ [] })
     (waiting_to_speak (block 40 (xfer io_err) ∷ block 56 (xfer io_err) ∷ []) (block 8710 (used 1 (element 1 8 ∷ [])) ∷ [])
     (block 10744 (element 9 0 ++ element 6 8) ∷ []))
-    Stop.Going
+    None
     true
 unfolding runs
 release-in-line = refl
@@ -275,8 +274,8 @@ used-index = (refl, refl)
 
 -- on an idle queue nothing is pending; one whose region passes the end of RAM is broken, and its message in work stays
 pub release-without-a-ring :
-    (emptied (card both output) (play_at 0) 0 in_work (replicate 8 0) ≡ ended in_work (replicate 8 0) Stop.Going false)
-    × (emptied (card both output) (play_at 1) 0 in_work (replicate 8 0) ≡ ended in_work (replicate 8 0) (Stop.Broke Cause.Region) false)
+    (emptied (card both output) (play_at 0) 0 in_work (replicate 8 0) ≡ ended in_work (replicate 8 0) None false)
+    × (emptied (card both output) (play_at 1) 0 in_work (replicate 8 0) ≡ ended in_work (replicate 8 0) (Some Cause.Region) false)
 unfolding runs
 release-without-a-ring = (refl, refl)
 
@@ -311,25 +310,25 @@ forms-at-the-borders = (refl, refl, refl, refl, refl, refl, refl, refl, refl, re
 -- order 8, at the taking: a request outside RAM or under 4, or an id not on the queue, gets its answer at once; else the reply is not
 -- looked at, and the message joins its line
 abbrev pub at_once_as : Arrival → Option Form
-at_once_as (in_line i) = none
-at_once_as (at_once t) = some t.form
+at_once_as (in_line i) = None
+at_once_as (at_once t) = Some t.form
 
 abbrev pub arrives : Direction → List Range → List Range → Option Form
 arrives d request reply = at_once_as (arrival (queue_on d) (0 ∷ 0 ∷ 0 ∷ 0 ∷ 1 ∷ replicate 35 0) 0 (whole request reply))
 
 pub arrivals-at-the-borders :
-    (arrives output (range 0 4 ∷ []) (range 32 8 ∷ []) ≡ none)
-    × (arrives output (range 0 4 ∷ []) (range 8 7 ∷ []) ≡ none)
-    × (arrives output (range 0 4 ∷ []) (range 33 8 ∷ []) ≡ none)
-    × (arrives output (range 0 3 ∷ []) (range 8 8 ∷ []) ≡ some refused)
-    × (arrives output (range 4 4 ∷ []) (range 8 8 ∷ []) ≡ some refused)
-    × (arrives output (range 0 4 ∷ range 39 2 ∷ []) (range 8 8 ∷ []) ≡ some refused)
-    × (arrives output (range 39 2 ∷ []) (range 8 8 ∷ range 40 1 ∷ []) ≡ some silent)
-    × (arrives input (range 4 4 ∷ []) (range 8 8 ∷ []) ≡ none)
-    × (arrives input (range 4 5 ∷ []) (range 8 8 ∷ []) ≡ none)
-    × (arrives input (range 4 3 ∷ []) (range 8 8 ∷ []) ≡ some refused)
-    × (arrives input (range 0 4 ∷ []) (range 8 8 ∷ []) ≡ some refused)
-    × (arrives input (range 0 4 ∷ []) (range 8 7 ∷ []) ≡ some silent)
+    (arrives output (range 0 4 ∷ []) (range 32 8 ∷ []) ≡ None)
+    × (arrives output (range 0 4 ∷ []) (range 8 7 ∷ []) ≡ None)
+    × (arrives output (range 0 4 ∷ []) (range 33 8 ∷ []) ≡ None)
+    × (arrives output (range 0 3 ∷ []) (range 8 8 ∷ []) ≡ Some refused)
+    × (arrives output (range 4 4 ∷ []) (range 8 8 ∷ []) ≡ Some refused)
+    × (arrives output (range 0 4 ∷ range 39 2 ∷ []) (range 8 8 ∷ []) ≡ Some refused)
+    × (arrives output (range 39 2 ∷ []) (range 8 8 ∷ range 40 1 ∷ []) ≡ Some silent)
+    × (arrives input (range 4 4 ∷ []) (range 8 8 ∷ []) ≡ None)
+    × (arrives input (range 4 5 ∷ []) (range 8 8 ∷ []) ≡ None)
+    × (arrives input (range 4 3 ∷ []) (range 8 8 ∷ []) ≡ Some refused)
+    × (arrives input (range 0 4 ∷ []) (range 8 8 ∷ []) ≡ Some refused)
+    × (arrives input (range 0 4 ∷ []) (range 8 7 ∷ []) ≡ Some silent)
 unfolding runs
 arrivals-at-the-borders = (refl, refl, refl, refl, refl, refl, refl, refl, refl, refl, refl, refl)
 
@@ -353,12 +352,12 @@ two_bytes done =
 abbrev pub capturing : ℕ → List ℕ → List ℕ → List ℕ → ℕ → Run Queue
 capturing done mem bytes host room =
     record {
-      queue = record { taken = 1; completed = 0; lines = record { begun = some (two_bytes done); heads = [] } ∷ [] };
+      queue = record { taken = 1; completed = 0; lines = record { begun = Some (two_bytes done); heads = [] } ∷ [] };
       mem = mem;
       bytes = bytes;
       host = host;
       room = room;
-      stop = Stop.Going;
+      stop = None;
       signal = false;
     }
 

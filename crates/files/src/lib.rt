@@ -1,64 +1,103 @@
-// Files of the programs that make one file from another: blocks read, a new file that takes the other's place once it is whole, and
-// arguments that are numbers.
+// Files of the programs that make one file from another: a file read block by block, a new file that takes the other's place once it is
+// whole, the arguments, and why nothing was done.
 #![tactic(auto)]
 
-ghost use Rattle.std.specs.Prelude.{◌≡◌, ◌^◌, ◌<◌, ◌≤◌, true, length, take};
+ghost use Rattle.std.specs.Prelude.{◌≡◌, ℕ, ◌^◌, ◌<◌, ◌≤◌, List, [], length, OnOk, IfOk};
 ghost use Rattle.std.specs.Io.KnownBytes.{Consumes, IsAtEnd};
 ghost use Rattle.io.specs.Counts.{IsPrefixLen};
+ghost use Rattle.files.specs.declared.Refusal.TheVariants.{Unusable};
+ghost use Rattle.files.specs.Refusals.{output_of};
 
-use argument::Argument;
 use std::env::FillError;
-use std::fs::{File, OpenOptions};
-use std::io::{ErrorKind, Read, Seek, SeekFrom};
+use std::fs::{self, File, OpenOptions};
+use std::io::{Error, ErrorKind, Read, Result, Seek, SeekFrom};
 use std::rt::Env;
-use std::{fs, process};
+use std::{fmt, process};
 
-// Bytes at the start of a buffer, and whether all went well.
-#[derive(Clone, Copy)]
-pub struct Block {
-    pub count: usize,
-    pub sound: bool,
+// Wrong arguments, and a file that can't be used.
+const USAGE: u32 = 99;
+
+const UNUSABLE: u32 = 98;
+
+// Why a program did nothing: its arguments are wrong (99), a file can't be used (98), or what a library says of the numbers or the data.
+#[derive(Clone, Copy, Debug)]
+pub enum Refusal<E> {
+    Usage,
+    Unusable,
+    Refused(E),
 }
 
-// The file that is written: TO itself where it is a device or a pipe, else one beside it, whose name is kept.
+impl<E> From<Error> for Refusal<E> {
+    ghost from_gives = { λ _ r. r ≡ Unusable };
+
+    fn from(_: Error) -> Refusal<E> {
+        Refusal::Unusable
+    }
+}
+
+impl<E: fmt::Display> fmt::Display for Refusal<E> {
+    ghost output = { λ refusal. output_of E.output refusal };
+
+    fn fmt<W: fmt::Write>(&self, f: &mut fmt::Formatter<W>) -> fmt::Result {
+        match self {
+            Refusal::Usage => write!(f, "{USAGE}"),
+            Refusal::Unusable => write!(f, "{UNUSABLE}"),
+            Refusal::Refused(e) => write!(f, "{e}"),
+        }
+    }
+}
+
+// The file that is written: TO itself where it is a device or a pipe, else one beside it, by its name.
 #[derive(Drop)]
-pub struct Sink {
-    pub file: File,
-    pub beside: bool,
-    pub name_len: usize,
+struct Sink<'a> {
+    file: File,
+    beside: Option<&'a str>,
 }
 
-// The next block of a file. A short one is the last, unless reading failed.
-pub fn read_block<R: Read>(file: &mut R, block: &mut [u8]) -> Block
-    ensures count_in_bounds { result.count ≤ length block.new }
-    ensures bytes { result.sound ≡ true → Consumes (R.remaining file.old) (R.remaining file.new) (take result.count block.new) }
-    ensures last { result.sound ≡ true → result.count < length block.new → IsAtEnd (R.remaining file.new) }
+// At the end of a file; an error where a byte more came, or reading failed.
+fn at_end<R: Read>(file: &mut R) -> Result<()>
+    ensures end { OnOk result (IsAtEnd (R.remaining file.new)) }
+    ensures none { OnOk result (Consumes (R.remaining file.old) (R.remaining file.new) []) }
 {
-    let count = streams::read_full(file, block);
-    if count == block.len() {
-        return Block {
-            count: count,
-            sound: true,
-        };
-    }
     let mut more = [0u8; 1];
-    match file.read(&mut more) {
-        Ok(got) => Block {
-            count: count,
-            sound: got == 0,
-        },
-        Err(_) => Block {
-            count: count,
-            sound: false,
-        },
+    match file.read(&mut more)? {
+        0 => Ok(()),
+        _ => Err(ErrorKind::FileTooLarge.into()),
     }
+}
+
+// Reads a file to its end and hands it to `take`, block by block, the last one too; answers how many bytes it had.
+pub fn pass<R: Read, F: FnMut(&[u8]) -> Result<()>>(
+    file: &mut R,
+    block: &mut [u8],
+    mut take: F,
+) -> Result<u64>
+    requires { F.IsAlwaysCallable take }
+    ensures bytes { IfOk result (λ n. (read : List ℕ) × Consumes (R.remaining file.old) (R.remaining file.new) read
+        × (n ≡ length read)) }
+    ensures end { OnOk result (IsAtEnd (R.remaining file.new)) }
+{
+    let mut bytes: u64 = 0;
+    for _ in 0..u64::MAX {
+        let count = streams::read_full(file, block);
+        take(&block[..count])?;
+        bytes = bytes
+            .checked_add(count as u64)
+            .ok_or(ErrorKind::FileTooLarge)?;
+        if count < block.len() {
+            at_end(file)?;
+            return Ok(bytes);
+        }
+    }
+    Err(ErrorKind::FileTooLarge.into())
 }
 
 // The file read again from `at` on.
-pub fn rewind<S: Seek>(file: &mut S, at: u64) -> bool {
-    match file.seek(SeekFrom::Start(at)) {
-        Ok(to) => to == at,
-        Err(_) => false,
+pub fn rewind<S: Seek>(file: &mut S, at: u64) -> Result<()> {
+    if file.seek(SeekFrom::Start(at))? == at {
+        Ok(())
+    } else {
+        Err(ErrorKind::NotSeekable.into())
     }
 }
 
@@ -71,17 +110,9 @@ fn put_at(s: &[u8], at: usize, name: &mut [u8]) -> usize
     requires { at ≤ length name.old }
     ensures { IsPrefixLen result name.new }
 {
-    let mut i = 0;
-    let mut d = at;
-    while i < s.len() {
-        if name.len() <= d {
-            return d;
-        }
-        name[d] = s[i];
-        i += 1;
-        d += 1;
-    }
-    d
+    let end = at + s.len().min(name.len() - at);
+    name[at..end].copy_from_slice(&s[..end - at]);
+    end
 }
 
 // The name of the file that is written before it takes TO's place: TO, a dot and the process's number. One that does not fit fills the
@@ -104,108 +135,107 @@ fn is_special(file: &mut File) -> bool {
     }
 }
 
-// The file at `path`, opened for reading. A path is UTF-8 text; there is no file at any other.
-pub fn open_read(rt: &HostRuntime, path: &[u8]) -> Option<File> {
-    let Ok(text) = str::from_utf8(path) else {
-        return None;
-    };
-    File::open(rt, text).ok()
+// A path is UTF-8 text; there is no file at any other.
+fn path(bytes: &[u8]) -> Result<&str> {
+    str::from_utf8(bytes).map_err(|_| ErrorKind::InvalidFilename.into())
 }
 
-fn create_beside(rt: &HostRuntime, to: &[u8], name: &mut [u8]) -> Option<Sink> {
+// The file at `at`, opened for reading.
+pub fn open_read(rt: &HostRuntime, at: &[u8]) -> Result<File> {
+    File::open(rt, path(at)?)
+}
+
+fn create_beside<'a>(rt: &HostRuntime, to: &[u8], name: &'a mut [u8]) -> Result<Sink<'a>> {
     let n = part_name(process_number(rt), to, name);
-    let Ok(text) = str::from_utf8(&name[..n]) else {
-        return None;
-    };
-    let mut options = OpenOptions::new();
-    let Ok(file) = options.write(true).create_new(true).open(rt, text) else {
-        return None;
-    };
-    Some(Sink {
-        file: file,
-        beside: true,
-        name_len: n,
+    let beside = path(&name[..n])?;
+    let file = OpenOptions::new()
+        .write(true)
+        .create_new(true)
+        .open(rt, beside)?;
+    Ok(Sink {
+        file,
+        beside: Some(beside),
     })
 }
 
-// What is to become TO, opened; none where none can be had. TO is as it was.
-pub fn open_sink(rt: &HostRuntime, to: &[u8], name: &mut [u8]) -> Option<Sink> {
-    let Ok(text) = str::from_utf8(to) else {
-        return None;
-    };
-    let mut options = OpenOptions::new();
-    match options.append(true).open(rt, text) {
-        Ok(mut old) => {
-            if is_special(&mut old) {
-                return Some(Sink {
-                    file: old,
-                    beside: false,
-                    name_len: 0,
-                });
+// What is to become TO, opened; an error where none can be had. TO is as it was.
+fn open_sink<'a>(rt: &HostRuntime, to: &[u8], name: &'a mut [u8]) -> Result<Sink<'a>> {
+    match OpenOptions::new().append(true).open(rt, path(to)?) {
+        Ok(mut file) => {
+            if is_special(&mut file) {
+                return Ok(Sink { file, beside: None });
             }
         }
         Err(e) => {
             if e.kind() != ErrorKind::NotFound {
-                return None;
+                return Err(e);
             }
         }
     }
     create_beside(rt, to, name)
 }
 
-// `from` takes TO's place.
-fn put_in_place(rt: &HostRuntime, from: &str, to: &[u8]) -> bool {
-    let Ok(text) = str::from_utf8(to) else {
-        return false;
-    };
-    fs::rename(rt, from, text).is_ok()
-}
-
 // What was written takes TO's place where all went well; else TO is as it was, and nothing stray is left.
-pub fn close_sink(rt: &HostRuntime, sink: Sink, name: &[u8], to: &[u8], wrote: bool) -> bool {
-    if !sink.beside {
+fn close_sink(rt: &HostRuntime, sink: Sink<'_>, to: &[u8], wrote: Result<()>) -> Result<()> {
+    let Some(beside) = sink.beside else {
         return wrote;
-    }
-    let n = sink.name_len;
-    if name.len() < n {
-        return false;
-    }
-    let Ok(from) = str::from_utf8(&name[..n]) else {
-        return false;
     };
-    if wrote && sink.file.sync_all().is_ok() {
-        if put_in_place(rt, from, to) {
-            return true;
-        }
+    let placed = put_in_place(rt, &sink.file, beside, to, wrote);
+    if placed.is_err() {
+        let _removed = fs::remove_file(rt, beside);
     }
-    let _removed = fs::remove_file(rt, from);
-    false
+    placed
 }
 
-// The program's argument i, at the start of `word`; none of its bytes where it is missing or does not fit.
-pub fn argument_word(rt: &HostRuntime, i: usize, word: &mut [u8]) -> usize
+fn put_in_place(
+    rt: &HostRuntime,
+    file: &File,
+    beside: &str,
+    to: &[u8],
+    wrote: Result<()>,
+) -> Result<()> {
+    wrote?;
+    file.sync_all()?;
+    fs::rename(rt, beside, path(to)?)
+}
+
+// TO made to hold what `write` writes. Where that fails TO is as it was, unless it is a device or a pipe.
+pub fn replace<F: FnOnce(&mut File) -> Result<()>>(
+    rt: &HostRuntime,
+    to: &[u8],
+    write: F,
+) -> Result<()>
+    requires { F.IsAlwaysCallable write }
+{
+    let mut name = io::buffer();
+    let mut sink = open_sink(rt, to, &mut name)?;
+    let wrote = write(&mut sink.file);
+    close_sink(rt, sink, to, wrote)
+}
+
+// The program's argument i, in `word`; none of its bytes where it is missing or does not fit.
+pub fn argument_word<'a>(rt: &HostRuntime, i: usize, word: &'a mut [u8]) -> &'a [u8]
+    ensures { length result.now ≤ length word.old }
+{
+    let n = word_len(rt, i, word);
+    &word[..n]
+}
+
+fn word_len(rt: &HostRuntime, i: usize, word: &mut [u8]) -> usize
     ensures { IsPrefixLen result word.new }
 {
-    match rt.arg(i, word) {
-        Ok(count) => count,
-        Err(_) => 0,
-    }
+    rt.arg(i, word).unwrap_or(0)
 }
 
 // The program's argument i, as a number.
-pub fn number_argument(rt: &HostRuntime, i: usize) -> Argument {
+pub fn number_argument(rt: &HostRuntime, i: usize) -> Option<u64> {
     let mut word = io::buffer();
-    let n = argument_word(rt, i, &mut word);
-    argument::read_number(&word[..n])
+    argument::read_number(argument_word(rt, i, &mut word))
 }
 
 // Whether there is an argument i; argument 0 is the program's name.
 fn has_argument(rt: &HostRuntime, i: usize) -> bool {
-    match rt.arg(i, &mut []) {
-        Ok(_) => true,
-        Err(FillError::TooLong) => true,
-        Err(FillError::NotPresent) => false,
-    }
+    !matches!(rt.arg(i, &mut []), Err(FillError::NotPresent))
 }
 
 // Whether `last` is the last argument.

@@ -1,4 +1,5 @@
 -- A flow's steps as the rules have them: moving bytes on both sides.
+use Rattle.std.specs.Prelude.{Some}
 use mathlib.Core.Path.{◌≡◌, refl, sym, ◌∙◌, ap}
 use mathlib.Core.List.{List, [], ◌∷◌, ◌++◌}
 use mathlib.Core.Bool.{Bool, true, false, cond, ◌&&◌, not, true≢false}
@@ -20,7 +21,6 @@ use Rattle.device.specs.Transfer.{worked, moved, payload_of, status_of, complete
 use Rattle.message.specs.Work.{taking_of_message, message_of}
 use Rattle.message.specs.Message.{virtqueue_as, answered_of}
 use Rattle.message.specs.declared.Virtqueue.{Virtqueue}
-use mathlib.Core.Option.{some}
 use Rattle.flow.specs.Flow.{payload_bytes, run_of, advanced_by, ended_by, Busy, FitFlow, ending_of, reaches_of, over_of, job_moved}
 use Rattle.flow.specs.Flow.{job_worked}
 use Rattle.flow.specs.declared.Flow.{Flow}
@@ -155,10 +155,10 @@ no-input e = let n : ◌≡◌ {A = ℕ} 2 3 = ap rules.queue_number e in omega 
 
 -- the message's count gone, with the counters and the interrupt of a completion
 pub ended-run : (v : rules.Virtqueue) (e : rules.Ending) (code : ℕ) (ws m host : List ℕ) (f : Flow) → Busy f
-    → some code ≡ status_of v.direction e rules.well_formed
+    → Some code ≡ status_of v.direction e rules.well_formed
     → run_of ws (ended_by (answered_of v.direction m v.page f.counters.completed f.message.head.0
-    (ranges_of ws f.message.reply) (some code) v.latency f.message.done) f)
-    (answered_of v.direction m v.page f.counters.completed f.message.head.0 (ranges_of ws f.message.reply) (some code)
+    (ranges_of ws f.message.reply) (Some code) v.latency f.message.done) f)
+    (answered_of v.direction m v.page f.counters.completed f.message.head.0 (ranges_of ws f.message.reply) (Some code)
     v.latency f.message.done).memory host
     ≡ completed (counters_of v.direction) v e (run_of ws f m host)
 unfolding run_of completed answered_of

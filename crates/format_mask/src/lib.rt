@@ -8,12 +8,12 @@ ghost use Rattle.format_mask.specs.Mask.{lowest_bit, bits_set};
 pub fn lowest(mask: u64) -> u32
     ensures { result ≡ lowest_bit mask }
 {
-    u64::trailing_zeros(mask)
+    mask.trailing_zeros()
 }
 
 // How many bits are set.
 pub fn count(mask: u64) -> u32
     ensures { result ≡ bits_set mask }
 {
-    u64::count_ones(mask)
+    mask.count_ones()
 }

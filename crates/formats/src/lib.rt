@@ -34,12 +34,9 @@ const PHYSICAL_BITS: [u8; 25] = [
 ];
 
 // The physical width of a format in bits; 0 for a number that is no format.
+#[tactic(auto, unfolding(crate::specs::Widths::physical_bits))]
 pub fn physical_bits(format: u8) -> u8
     ensures { result ≡ physical_bits format }
 {
-    let at = format as usize;
-    if 25 <= at {
-        return 0;
-    }
-    PHYSICAL_BITS[at]
+    PHYSICAL_BITS.get(format as usize).copied().unwrap_or(0)
 }

@@ -3,11 +3,12 @@
 use mathlib.Core.Path.{◌≡◌, refl, sym, ◌∙◌}
 use mathlib.Core.Bool.{Bool, true, false, cond, ◌&&◌, and-eq-true_iff, true≢false}
 use Prim.Native.Nat.{ℕ, zero, suc, ◌*◌, ◌%◌, ◌≤◌, ◌<◌, ◌∣◌}
-use native.Mathlib.Nat.{one-dvd, dvd_refl, dvd-zero, dvd-mod_iff, le_of_dvd, mod-eq-zero_of_dvd, dvd_of_mod-eq-zero}
+use native.Mathlib.Nat.{one-dvd, dvd_refl, dvd-zero, le_of_dvd, mod-eq-zero_of_dvd, dvd_of_mod-eq-zero}
 use native.Mathlib.Nat.{mul-dvd-mul_right, div-mul_cancel, mul-le-mul_right, le_antisymm, pos_of_dvd_of_pos, div_self, zero-div}
 use native.Mathlib.Omega.{arith}
 use borrow.Author.Tests.{eqb-true, eqb-false, eq-eqb, ne_eqb, ltb-true, ltb-false}
 use lib.Dec.{eqb, ltb}
+use Rattle.std.specs.Int.{IsGcd}
 use Rattle.fraction.specs.Fraction.{divides, common_up_to, greatest_common, lowest_terms}
 
 divides-true : (d n : ℕ) → divides d n ≡ true → d ∣ n
@@ -49,28 +50,12 @@ greatest-divides a b = common-divides b a b
 pub greatest-most : (a b d : ℕ) → 0 < b → d ∣ a → d ∣ b → d ≤ greatest_common a b
 greatest-most a b d p x y = common-most b a b d (pos_of_dvd_of_pos y p) (le_of_dvd p y) x y
 
--- x and y have the divisors in common that a and b have
-pub record Alike (a b x y : ℕ) : Type 0 where
-  pub down : (d : ℕ) → d ∣ a → d ∣ b → (d ∣ x) × (d ∣ y)
-  pub up : (d : ℕ) → d ∣ x → d ∣ y → (d ∣ a) × (d ∣ b)
-
-pub alike-start : (a b : ℕ) → Alike a b a b
-alike-start a b = record { down = λ d p q. (p, q); up = λ d p q. (p, q) }
-
--- Euclid: the rest of a division keeps them
-pub alike-rest : (a b x y : ℕ) → Alike a b x y → Alike a b y (x % y)
-alike-rest a b x y h = record {
-  down = λ d p q. let r = h.down d p q in (r.1, (dvd-mod_iff d {m = x} {n = y} r.1).1 r.0);
-  up = λ d p q. h.up d ((dvd-mod_iff d {m = x} {n = y} p).0 q) p;
-}
-
--- with 0 beside it the other is the greatest
-pub alike-greatest : (a b x : ℕ) → 0 < b → Alike a b x 0 → (x ≡ greatest_common a b) × (0 < x)
-alike-greatest a b x p h =
-    let r = h.up x (dvd_refl x) (dvd-zero x) in
-    let g = greatest-divides a b in
-    let s : 0 < x = pos_of_dvd_of_pos r.1 p in
-    (le_antisymm (greatest-most a b x p r.0 r.1) (le_of_dvd s (h.down (greatest_common a b) g.0 g.1).0), s)
+-- a common divisor that every other divides is the greatest
+pub greatest-IsGcd : (a b g : ℕ) → 0 < b → IsGcd a b g → (g ≡ greatest_common a b) × (0 < g)
+greatest-IsGcd a b g p h =
+    let k = greatest-divides a b in
+    let s : 0 < g = pos_of_dvd_of_pos h.1 p in
+    (le_antisymm (greatest-most a b g p h.0 h.1) (le_of_dvd s (h.2 (greatest_common a b) k.0 k.1)), s)
 
 -- "in lowest terms": the parts have no divisor but 1 in common, and are those of the fraction, divided by one number
 module _ (a b : ℕ) (p : 0 < b) where

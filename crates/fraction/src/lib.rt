@@ -11,29 +11,23 @@ pub struct Fraction {
 }
 
 // The greatest number that divides both, by Euclid's division.
-fn greatest_common(a: u64, b: u64) -> u64
+fn greatest_common(mut a: u64, mut b: u64) -> u64
     requires { 0 < b }
     ensures { (result ≡ greatest_common a b) × (0 < result) }
 {
-    let mut x = a;
-    let mut y = b;
-    while 0 < y {
-        let rest = x % y;
-        x = y;
-        y = rest;
+    while b != 0 {
+        (a, b) = (b, a % b);
     }
-    x
+    a
 }
 
 // The fraction in lowest terms; one with nothing below stays as it is.
+#[tactic(auto, unfolding(crate::specs::Fraction::lowest_terms))]
 pub fn lowest_terms(above: u64, below: u64) -> Fraction
     ensures { result ≡ lowest_terms above below }
 {
     if below == 0 {
-        return Fraction {
-            above: above,
-            below: below,
-        };
+        return Fraction { above, below };
     }
     let divisor = greatest_common(above, below);
     Fraction {

@@ -19,9 +19,8 @@ fn natural_size(l: Listing) -> usize
     ensures { (result ≡ natural_size l) × (result ≤ 32) }
 {
     match l {
-        Listing::Jacks => 24,
+        Listing::Jacks | Listing::Maps => 24,
         Listing::Streams => 32,
-        Listing::Maps => 24,
     }
 }
 
@@ -41,24 +40,22 @@ pub fn total(live: Live, parts: Parts, l: Listing) -> usize
 fn defconf_now(fresh: bool, jack: Jack) -> u32
     ensures { result ≡ (jack_now fresh jack).defconf }
 {
-    let info = jack.info;
     if fresh {
-        return info.defconf;
+        jack.info.defconf
+    } else {
+        jack.defconf
     }
-    jack.defconf
 }
 
 // The item of a jack as it is, then zeros to the length of the longest.
 fn jack_item(fresh: bool, jack: Jack) -> [u8; 32]
     ensures { result ≡ jack_bytes (jack_now fresh jack) }
 {
-    let info = jack.info;
-    let defconf = defconf_now(fresh, jack);
     let mut bytes = [0u8; 32];
-    memory::set32(&mut bytes, 0, info.nid);
-    memory::set32(&mut bytes, 4, info.features);
-    memory::set32(&mut bytes, 8, defconf);
-    memory::set32(&mut bytes, 12, info.caps);
+    memory::set(&mut bytes, 0, jack.info.nid);
+    memory::set(&mut bytes, 4, jack.info.features);
+    memory::set(&mut bytes, 8, defconf_now(fresh, jack));
+    memory::set(&mut bytes, 12, jack.info.caps);
     bytes[16] = jack.connected;
     bytes
 }
@@ -67,36 +64,31 @@ fn jack_item(fresh: bool, jack: Jack) -> [u8; 32]
 fn direction_of(outputs: usize, number: usize) -> u8
     ensures { result ≡ direction_in outputs number }
 {
-    if number < outputs {
-        return 0;
-    }
-    1
+    if number < outputs { 0 } else { 1 }
 }
 
 fn pcm_item(outputs: usize, number: usize, stream: Stream) -> [u8; 32]
     ensures { result ≡ pcm_item_of (direction_in outputs number) stream }
 {
-    let info = stream.info;
     let mut bytes = [0u8; 32];
-    memory::set32(&mut bytes, 0, info.nid);
-    memory::set32(&mut bytes, 4, info.features);
-    memory::set64(&mut bytes, 8, info.formats);
-    memory::set64(&mut bytes, 16, info.rates);
+    memory::set(&mut bytes, 0, stream.info.nid);
+    memory::set(&mut bytes, 4, stream.info.features);
+    memory::set(&mut bytes, 8, stream.info.formats);
+    memory::set(&mut bytes, 16, stream.info.rates);
     bytes[24] = direction_of(outputs, number);
-    bytes[25] = info.channels_min;
-    bytes[26] = info.channels_max;
+    bytes[25] = stream.info.channels_min;
+    bytes[26] = stream.info.channels_max;
     bytes
 }
 
 fn map_item(map: MapInfo) -> [u8; 32]
     ensures { (result ≡ map_bytes map) × (length (map_item map) ≡ 24) }
 {
-    let positions = map.positions;
     let mut bytes = [0u8; 32];
     bytes[4] = map.direction;
     bytes[5] = map.channels;
-    memory::set32(&mut bytes, 0, map.nid);
-    ranges::copy(&mut bytes, 6, &positions, 0, 18);
+    memory::set(&mut bytes, 0, map.nid);
+    ranges::copy(&mut bytes, 6, &map.positions, 0, 18);
     bytes
 }
 
@@ -116,13 +108,12 @@ fn write_zeros(m: &mut [u8], list: &[u64], reply: Ranges, start: usize, n: usize
         return;
     }
     let run = zeros();
+    let end = start + n;
     let mut at = start;
-    let mut left = n;
-    while 0 < left {
-        let k = ranges::least(left, 1024);
+    while at < end {
+        let k = (end - at).min(run.len());
         ranges::scatter(m, list, reply, at, &run, 0, k);
         at += k;
-        left -= k;
     }
 }
 
@@ -141,7 +132,7 @@ fn write_item(
         ≡ put_at m.old (drop at (places (ranges_of list.now reply)))
         (fitted size (take natural item.now)) }
 {
-    let k = ranges::least(natural, size);
+    let k = natural.min(size);
     ranges::scatter(m, list, reply, at, item, 0, k);
     write_zeros(m, list, reply, at + k, size - k);
 }
@@ -166,10 +157,8 @@ pub fn write_items(
         × (result ≡ 4 + length (joined (take count (drop start (map (fitted size) (items_in l (parts_now live parts))))))) }
 {
     let natural = natural_size(l);
-    let mut at: usize = 4;
-    let mut i = start;
-    let mut left = count;
-    while 0 < left {
+    let mut at = 4;
+    for i in start..start + count {
         let item = match l {
             Listing::Jacks => jack_item(live.fresh, parts.jacks[i]),
             Listing::Streams => pcm_item(parts.output_count, i, parts.streams[i]),
@@ -177,8 +166,6 @@ pub fn write_items(
         };
         write_item(m, list, reply, at, &item, natural, size);
         at += size;
-        i += 1;
-        left -= 1;
     }
     at
 }

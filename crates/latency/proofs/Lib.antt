@@ -1,5 +1,3 @@
--- Laws of texts and of the report.
-pub mod Texts
-pub mod Lengths
+-- Laws of the report.
 pub mod Reports
 pub mod Readings

@@ -12,11 +12,8 @@ use Rattle.latency_tally.specs.Tally.{opened, taken}
 use Rattle.latency_tally.specs.declared.Input.{Input}
 use Rattle.latency_tally.proofs.Joined.{taken_none, taken-joined}
 use Rattle.latency.specs.Report.{input_text}
-use Rattle.latency.specs.Reading.{Bytes, Behind, Reported, Answered}
-use Rattle.latency.specs.Text.{collected}
-use Rattle.latency.proofs.Lengths.{text-fits}
+use Rattle.latency.specs.Reading.{Bytes, Behind, Reported}
 use Rattle.latency.proofs.Reports.{report-short, report-whole}
-use Rattle.latency.proofs.Texts.{collected-holds}
 
 -- ---- bytes
 
@@ -79,12 +76,4 @@ reported-more i r h b =
       bytes = all;
       same = ap input_text (b.same ∙ ap (λ (x : Input). taken x b.read) h.same)
           ∙ report-whole h.read b.read h.long all (omega (arith, b.few, h.long));
-    }
-
-abbrev pub answered : (i : Input) → Reported i → Answered (collected (input_text i))
-answered i r =
-    let h = collected-holds (input_text i) (omega (arith, text-fits i)) in
-    record {
-      inside = omega (arith, h.count, h.long, text-fits i);
-      handed = record { read = r.read; bytes = r.bytes; same = h.whole ∙ r.same };
     }

@@ -1,4 +1,3 @@
 -- The latency report as text, and what is read for it.
-pub mod Text
 pub mod Report
 pub mod Reading

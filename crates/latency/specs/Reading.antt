@@ -3,8 +3,6 @@ use Rattle.std.specs.Prelude.{◌≡◌, ◌⊎◌, List, ℕ, ◌≤◌, ◌<�
 use Rattle.latency_tally.specs.Tally.{taken}
 use Rattle.latency_tally.specs.declared.Input.{Input}
 use Rattle.latency.specs.Report.{report_of, input_text}
-use Rattle.latency.specs.Text.{kept}
-use Rattle.latency.specs.declared.text.Text.{Text}
 
 abbrev pub Bytes : List ℕ → Type 0
 Bytes s = (i : ℕ) → get_or s i 0 < 256
@@ -31,7 +29,3 @@ pub record Handed (text : List ℕ) : Type 0 where
   pub read : List ℕ
   pub bytes : Bytes read
   pub same : text ≡ report_of read
-
-pub record Answered (t : Text) : Type 0 where
-  pub inside : t.count ≤ length t.bytes
-  pub handed : Handed (kept t)

@@ -1,14 +1,13 @@
 // The input, read block by block, and the report of it, written out.
-ghost use Rattle.std.specs.Prelude.{◌≡◌, ◌≤◌, List, ℕ, true, length, take};
+ghost use Rattle.std.specs.Prelude.{◌≡◌, ◌≤◌, List, ℕ, length, take, OnOk};
 ghost use Rattle.std.specs.Io.KnownBytes.{Appends, Consumes};
 ghost use Rattle.latency_tally.specs.Tally.{opened, taken};
-ghost use Rattle.latency.specs.Reading.{Bytes, Behind, Last, Reported, Handed, Answered};
+ghost use Rattle.latency.specs.Reading.{Bytes, Behind, Last, Reported, Handed};
 ghost use Rattle.latency.specs.Report.{report_of};
-ghost use Rattle.latency.specs.Text.{kept};
 
-use crate::{MOST, Text};
+use crate::{MOST, Report};
 use latency_tally::Input;
-use std::io::{Read, Write};
+use std::io::{Read, Result, Write};
 
 // The bytes of a full block.
 const BLOCK: usize = 65536;
@@ -30,7 +29,7 @@ fn read_head<R: Read>(from: &mut R, buffer: &mut [u8]) -> Turn
     let count = streams::read_full(from, buffer);
     Turn {
         input: latency_tally::open(&buffer[..count]),
-        count: count,
+        count,
     }
 }
 
@@ -44,7 +43,7 @@ fn read_block<R: Read>(from: &mut R, input: Input, buffer: &mut [u8]) -> Turn
     let count = streams::read_full(from, buffer);
     Turn {
         input: latency_tally::take_block(input, &buffer[..count]),
-        count: count,
+        count,
     }
 }
 
@@ -65,7 +64,7 @@ fn read_records<R: Read>(from: &mut R, opened: Input) -> Turn
         input = turn.input;
     }
     Turn {
-        input: input,
+        input,
         count: BLOCK,
     }
 }
@@ -76,54 +75,40 @@ fn read_input<R: Read>(from: &mut R) -> Input
 {
     let mut head = [0u8; 8];
     let first = read_head(from, &mut head);
-    let opened = first.input;
     if first.count < 8 {
-        return opened;
+        return first.input;
     }
-    let last = read_records(from, opened);
+    let last = read_records(from, first.input);
     last.input
 }
 
-// The first `count` bytes of `s`, or all of `s` where it has no more, written out; and whether that went well.
-fn write<W: Write>(to: &mut W, s: &[u8], count: usize) -> bool
-    ensures { result ≡ true → Appends (W.contents to.old) (W.contents to.new) (take count s.now) }
+// A text, written out.
+pub fn print<W: Write>(to: &mut W, text: Report) -> Result<()>
+    ensures { OnOk result (Appends (W.contents to.old) (W.contents to.new) text) }
 {
-    if s.len() <= count {
-        return streams::write_all(to, s);
-    }
-    streams::write_all(to, &s[..count])
-}
-
-// A text, written out; and whether that went well.
-pub fn print<W: Write>(to: &mut W, text: Text) -> bool
-    ensures { result ≡ true → Appends (W.contents to.old) (W.contents to.new) (kept text) }
-{
-    let bytes = text.bytes;
-    write(to, &bytes, text.count)
+    to.write_all(text.as_slice())
 }
 
 // The report of what is read.
-fn answer<R: Read>(from: &mut R) -> Text
-    ensures { (a : Answered result) × Consumes (R.remaining from.old) (R.remaining from.new) a.handed.read }
+fn answer<R: Read>(from: &mut R) -> Report
+    ensures { (h : Handed result) × Consumes (R.remaining from.old) (R.remaining from.new) h.read }
 {
     crate::report(read_input(from))
 }
 
-// Writes a report, and nothing that is none; and whether that went well.
-fn hand_out<W: Write>(to: &mut W, s: &[u8]) -> bool
+// Writes a report, and nothing that is none.
+fn hand_out<W: Write>(to: &mut W, s: &[u8]) -> Result<()>
     requires { Handed s.now }
-    ensures { result ≡ true → Appends (W.contents to.old) (W.contents to.new) s.now }
+    ensures { OnOk result (Appends (W.contents to.old) (W.contents to.new) s.now) }
 {
-    streams::write_all(to, s)
+    to.write_all(s)
 }
 
-// The whole program. Answers whether all was written: then it is the report of the bytes read.
-pub fn run<R: Read, W: Write>(from: &mut R, to: &mut W) -> bool
-    ensures { result ≡ true → (read : List ℕ) × Consumes (R.remaining from.old) (R.remaining from.new) read
-        × Appends (W.contents to.old) (W.contents to.new) (report_of read) }
+// The whole program. Where all was written, it is the report of the bytes read.
+pub fn run<R: Read, W: Write>(from: &mut R, to: &mut W) -> Result<()>
+    ensures { OnOk result ((read : List ℕ) × Consumes (R.remaining from.old) (R.remaining from.new) read
+        × Appends (W.contents to.old) (W.contents to.new) (report_of read)) }
 {
     let text = answer(from);
-    let bytes = text.bytes;
-    let count = text.count;
-    hand_out(to, &bytes[..count])
+    hand_out(to, text.as_slice())
 }

@@ -1,18 +1,14 @@
 // The latency report: from the input's bytes to the one or two lines that are printed.
 #![tactic(auto)]
 
-ghost use Rattle.std.specs.Prelude.{◌≡◌};
-ghost use mathlib.Core.List.{foldl};
-ghost use Rattle.latency.specs.Text.{with_byte, collected};
+ghost use Rattle.std.specs.Prelude.{◌≡◌, ◌+◌, ◌≤◌, ◌++◌, length};
 ghost use Rattle.latency.specs.Report.{three_text, counts_text, mean_text, latencies_text, mask_text, lines_text, refusal_text, input_text};
 
 mod input;
-mod text;
 
 pub use input::{print, run};
 use latency_tally::{Input, Tally};
-pub use text::Text;
-use text::{with_bytes, with_field};
+use text::Text;
 
 // The bytes of a mask, and of an input of 1,000,000 records.
 const MASK: u64 = 8;
@@ -26,79 +22,109 @@ const TOO_MANY: u64 = 51;
 
 const CUT: u64 = 52;
 
+// No report is longer than 231 bytes.
+pub type Report = Text<256>;
+
 // Three numbers, a space behind each.
-fn with_three(text: Text, a: u64, b: u64, c: u64) -> Text
-    ensures { result ≡ foldl with_byte text (three_text a b c) }
+#[tactic(auto, unfolding(crate::specs::Report::three_text))]
+fn push_three(text: &mut Report, a: u64, b: u64, c: u64)
+    requires { length text.old + 63 ≤ 256 }
+    ensures value { text.new ≡ text.old ++ three_text a b c }
+    ensures longer { length text.new ≤ length text.old + 63 }
 {
-    let first = with_field(text, a, b' ');
-    let second = with_field(first, b, b' ');
-    with_field(second, c, b' ')
+    text.push_number(a, b' ');
+    text.push_number(b, b' ');
+    text.push_number(c, b' ');
 }
 
 // How many records there are, and how many of each kind.
-fn with_counts(text: Text, records: u64, tally: Tally) -> Text
-    ensures { result ≡ foldl with_byte text (counts_text records tally) }
+#[tactic(auto, unfolding(crate::specs::Report::counts_text))]
+fn push_counts(text: &mut Report, records: u64, tally: Tally)
+    requires { length text.old + 84 ≤ 256 }
+    ensures value { text.new ≡ text.old ++ counts_text records tally }
+    ensures longer { length text.new ≤ length text.old + 84 }
 {
-    let all = with_field(text, records, b' ');
-    with_three(
-        all,
-        tally.ok as u64,
-        tally.io_err as u64,
-        tally.others as u64,
-    )
+    text.push_number(records, b' ');
+    push_three(
+        text,
+        u64::from(tally.ok),
+        u64::from(tally.io_err),
+        u64::from(tally.others),
+    );
 }
 
 // A sum over a count, in lowest terms.
-fn with_mean(text: Text, sum: u64, count: u64) -> Text
-    ensures { result ≡ foldl with_byte text (mean_text sum count) }
+#[tactic(auto, unfolding(crate::specs::Report::mean_text))]
+fn push_mean(text: &mut Report, sum: u64, count: u64)
+    requires { length text.old + 42 ≤ 256 }
+    ensures value { text.new ≡ text.old ++ mean_text sum count }
+    ensures longer { length text.new ≤ length text.old + 42 }
 {
     let mean = fraction::lowest_terms(sum, count);
-    let above = with_field(text, mean.above, b'/');
-    with_field(above, mean.below, b'\n')
+    text.push_number(mean.above, b'/');
+    text.push_number(mean.below, b'\n');
 }
 
 // Smallest, largest and summed latency, and the mean.
-fn with_latencies(text: Text, tally: Tally) -> Text
-    ensures { result ≡ foldl with_byte text (latencies_text tally) }
+#[tactic(auto, unfolding(crate::specs::Report::latencies_text))]
+fn push_latencies(text: &mut Report, tally: Tally)
+    requires { length text.old + 105 ≤ 256 }
+    ensures value { text.new ≡ text.old ++ latencies_text tally }
+    ensures longer { length text.new ≤ length text.old + 105 }
 {
     if tally.ok == 0 {
-        return with_bytes(text, b"- - - -\n");
+        text.push_bytes(b"- - - -\n");
+        return;
     }
-    let sum = tally.sum;
-    let three = with_three(text, tally.smallest as u64, tally.largest as u64, sum);
-    with_mean(three, sum, tally.ok as u64)
+    push_three(
+        text,
+        u64::from(tally.smallest),
+        u64::from(tally.largest),
+        tally.sum,
+    );
+    push_mean(text, tally.sum, u64::from(tally.ok));
 }
 
 // The lowest bit of the mask, and how many are set.
-fn with_mask(text: Text, mask: u64) -> Text
-    ensures { result ≡ foldl with_byte text (mask_text mask) }
+#[tactic(auto, unfolding(crate::specs::Report::mask_text))]
+fn push_mask(text: &mut Report, mask: u64)
+    requires { length text.old + 42 ≤ 256 }
+    ensures { text.new ≡ text.old ++ mask_text mask }
 {
     if mask == 0 {
-        return with_bytes(text, b"- 0\n");
+        text.push_bytes(b"- 0\n");
+        return;
     }
-    let lowest = with_field(text, format_mask::lowest(mask) as u64, b' ');
-    with_field(lowest, format_mask::count(mask) as u64, b'\n')
+    text.push_number(u64::from(format_mask::lowest(mask)), b' ');
+    text.push_number(u64::from(format_mask::count(mask)), b'\n');
 }
 
 // Both lines.
-fn lines(records: u64, tally: Tally, mask: u64) -> Text
-    ensures { result ≡ collected (lines_text records tally mask) }
+#[tactic(auto, unfolding(crate::specs::Report::lines_text))]
+fn lines(records: u64, tally: Tally, mask: u64) -> Report
+    ensures { result ≡ lines_text records tally mask }
 {
-    let counted = with_counts(Text::empty(), records, tally);
-    let line = with_latencies(counted, tally);
-    with_mask(line, mask)
+    let mut text = Report::new();
+    push_counts(&mut text, records, tally);
+    push_latencies(&mut text, tally);
+    push_mask(&mut text, mask);
+    text
 }
 
 // One line with the number.
-fn refusal(number: u64) -> Text
-    ensures { result ≡ collected (refusal_text number) }
+#[tactic(auto, unfolding(crate::specs::Report::refusal_text))]
+fn refusal(number: u64) -> Report
+    ensures { result ≡ refusal_text number }
 {
-    with_field(Text::empty(), number, b'\n')
+    let mut text = Report::new();
+    text.push_number(number, b'\n');
+    text
 }
 
 // The report of an input.
-pub fn report(input: Input) -> Text
-    ensures { result ≡ collected (input_text input) }
+#[tactic(auto, unfolding(crate::specs::Report::input_text, crate::specs::Report::judged))]
+pub fn report(input: Input) -> Report
+    ensures { result ≡ input_text input }
 {
     let bytes = input.bytes;
     if bytes < MASK {
@@ -110,6 +136,5 @@ pub fn report(input: Input) -> Text
     if bytes % 8 != 0 {
         return refusal(CUT);
     }
-    let tally = input.tally;
-    lines((bytes - MASK) / 8, tally, input.mask)
+    lines((bytes - MASK) / 8, input.tally, input.mask)
 }

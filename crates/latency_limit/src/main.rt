@@ -26,28 +26,22 @@ fn code(i: u32) -> u32 {
 
 // The latencies fall from the greatest that there is.
 fn fill(block: &mut [u8]) {
-    let mut i: u32 = 0;
-    let mut at: usize = 0;
-    while i < RECORDS {
-        memory::set32(block, at, code(i));
-        memory::set32(block, at + 4, 4294967295 - i);
-        i += 1;
-        at += 8;
+    for i in 0..RECORDS {
+        let at = 8 * i as usize;
+        memory::set(block, at, code(i));
+        memory::set(block, at + 4, u32::MAX - i);
     }
 }
 
-fn with_blocks(opened: Input, block: &[u8]) -> Input {
-    let mut input = opened;
-    let mut i: u32 = 0;
-    while i < BLOCKS {
+fn with_blocks(mut input: Input, block: &[u8]) -> Input {
+    for _ in 0..BLOCKS {
         input = latency_tally::take_block(input, block);
-        i += 1;
     }
     input
 }
 
 fn show<W: Write>(to: &mut W, input: Input) {
-    latency::print(to, latency::report(input));
+    let _printed = latency::print(to, latency::report(input));
 }
 
 fn main(rt: HostRuntime) {

@@ -5,9 +5,8 @@
 use std::process::ExitCode;
 
 fn main(rt: HostRuntime) -> ExitCode {
-    if latency::run(&mut rt.stdin(), &mut rt.stdout()) {
-        ExitCode::SUCCESS
-    } else {
-        ExitCode::FAILURE
+    match latency::run(&mut rt.stdin(), &mut rt.stdout()) {
+        Ok(()) => ExitCode::SUCCESS,
+        Err(_) => ExitCode::FAILURE,
     }
 }

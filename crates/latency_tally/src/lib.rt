@@ -1,7 +1,7 @@
 // The records of a latency report, 8 bytes each, read from blocks and counted.
 #![tactic(auto)]
 
-ghost use Rattle.std.specs.Prelude.{◌≡◌, ◌+◌, ◌/◌, min, max, length};
+ghost use Rattle.std.specs.Prelude.{◌≡◌, ◌/◌, length};
 ghost use mathlib.Core.List.{foldl};
 ghost use Rattle.latency_tally.specs.Records.{status, records};
 ghost use Rattle.latency_tally.specs.Tally.{no_tally, with_code, with_latency, with_record, opened, taken};
@@ -32,18 +32,6 @@ pub struct Input {
     pub tally: Tally,
 }
 
-fn least(a: u32, b: u32) -> u32
-    ensures { result ≡ min a b }
-{
-    if a < b { a } else { b }
-}
-
-fn greatest(a: u32, b: u32) -> u32
-    ensures { result ≡ max a b }
-{
-    if a < b { b } else { a }
-}
-
 impl Tally {
     // No record yet. No latency is above 4,294,967,295.
     fn none() -> Tally
@@ -53,45 +41,57 @@ impl Tally {
             ok: 0,
             io_err: 0,
             others: 0,
-            smallest: 4294967295,
+            smallest: u32::MAX,
             largest: 0,
             sum: 0,
         }
     }
 
     // One record more, of this code.
+    #[tactic(auto, unfolding(crate::specs::Tally::with_code))]
     fn with_code(self, code: u32) -> Tally
         ensures { result ≡ with_code self code }
     {
-        let mut next = self;
         match code {
-            OK => next.ok = std::num::wrapping_add_u32(self.ok, 1),
-            IO_ERR => next.io_err = std::num::wrapping_add_u32(self.io_err, 1),
-            _ => next.others = std::num::wrapping_add_u32(self.others, 1),
+            OK => Tally {
+                ok: self.ok.wrapping_add(1),
+                ..self
+            },
+            IO_ERR => Tally {
+                io_err: self.io_err.wrapping_add(1),
+                ..self
+            },
+            _ => Tally {
+                others: self.others.wrapping_add(1),
+                ..self
+            },
         }
-        next
     }
 
     // The latency of one OK record more.
+    #[tactic(auto, unfolding(crate::specs::Tally::with_latency))]
     fn with_latency(self, latency: u32) -> Tally
         ensures { result ≡ with_latency self latency }
     {
-        let mut next = self;
-        next.smallest = least(self.smallest, latency);
-        next.largest = greatest(self.largest, latency);
-        next.sum = std::num::wrapping_add_u64(self.sum, latency as u64);
-        next
+        Tally {
+            smallest: self.smallest.min(latency),
+            largest: self.largest.max(latency),
+            sum: self.sum.wrapping_add(u64::from(latency)),
+            ..self
+        }
     }
 
     // One record more. At most 1,000,000 are reported, so no sum wraps there (`tally-exact`).
+    #[tactic(auto, unfolding(crate::specs::Tally::with_record))]
     fn with_record(self, code: u32, latency: u32) -> Tally
         ensures { result ≡ with_record self (status code latency) }
     {
         let counted = self.with_code(code);
         if code == OK {
-            return counted.with_latency(latency);
+            counted.with_latency(latency)
+        } else {
+            counted
         }
-        counted
     }
 
     // The whole records of a block, one after the other.
@@ -99,14 +99,11 @@ impl Tally {
         ensures { result ≡ foldl with_record self (records (length block.now / 8) block.now 0) }
     {
         let mut next = self;
-        let mut at = 0;
-        let mut left = block.len() / 8;
-        while 0 < left {
-            let code = memory::number32(block, at);
-            let latency = memory::number32(block, at + 4);
-            next = next.with_record(code, latency);
-            at += 8;
-            left -= 1;
+        for record in block.as_chunks::<8>().0 {
+            next = next.with_record(
+                memory::number::<u32>(record, 0),
+                memory::number::<u32>(record, 4),
+            );
         }
         next
     }
@@ -116,9 +113,7 @@ impl Tally {
 fn first_number(s: &[u8]) -> u64
     ensures { result ≡ le 8 s.now 0 }
 {
-    let low = memory::number32(s, 0);
-    let high = memory::number32(s, 4);
-    low as u64 + 4294967296 * high as u64
+    u64::from(memory::number::<u32>(s, 0)) + 4294967296 * u64::from(memory::number::<u32>(s, 4))
 }
 
 // The input's first bytes, 8 of them unless it ended.
@@ -136,10 +131,9 @@ pub fn open(head: &[u8]) -> Input
 pub fn take_block(input: Input, block: &[u8]) -> Input
     ensures { result ≡ taken input block.now }
 {
-    let tally = input.tally;
     Input {
-        bytes: std::num::wrapping_add_u64(input.bytes, block.len() as u64),
-        mask: input.mask,
-        tally: tally.with_block(block),
+        bytes: input.bytes.wrapping_add(block.len() as u64),
+        tally: input.tally.with_block(block),
+        ..input
     }
 }

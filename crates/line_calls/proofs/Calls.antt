@@ -1,8 +1,8 @@
 -- Each call of the card is the account's, shown; and on each queue it does what its part does.
+use Rattle.std.specs.Prelude.{Option, None, Some}
 use mathlib.Core.Path.{◌≡◌, refl, sym, fun_ext, subst}
 use mathlib.Core.Bool.{Bool, true, false, cond}
 use mathlib.Core.List.{List, [], ◌++◌, append-nil}
-use mathlib.Core.Option.{Option, none, some}
 use Prim.Native.Nat.{ℕ, ◌+◌, ◌-◌, ◌≤◌}
 use native.Mathlib.Decide.{ℕ_discrete}
 use native.Mathlib.Omega.{arith}
@@ -124,17 +124,17 @@ module _ (n : Streams) where
 
   -- the history, and what was said, after a part
   abbrev pub ran : Direction → Option Part → History → History
-  ran d none h = h
-  ran d (some p) h = (part_of d (first_of n d) (count_of n d) (account n d) p h).queue
+  ran d None h = h
+  ran d (Some p) h = (part_of d (first_of n d) (count_of n d) (account n d) p h).queue
 
   abbrev pub said_after : Direction → (ℕ → List ℕ) → Option Part → History → ℕ → List ℕ
-  said_after d said none h = said
-  said_after d said (some p) h = said_by d (first_of n d) (count_of n d) (account n d) said p h
+  said_after d said None h = said
+  said_after d said (Some p) h = said_by d (first_of n d) (count_of n d) (account n d) said p h
 
   pub ran-kept : (d : Direction) (said : ℕ → List ℕ) (h : History) → Kept d (first_of n d) (count_of n d) said h → (o : Option Part)
       → Kept d (first_of n d) (count_of n d) (said_after d said o h) (ran d o h)
-  ran-kept d said h k none = k
-  ran-kept d said h k (some p) = part-keeps d (first_of n d) (count_of n d) said h k p
+  ran-kept d said h k None = k
+  ran-kept d said h k (Some p) = part-keeps d (first_of n d) (count_of n d) said h k p
 
   -- a line by its stream
   same_line : (first id j : ℕ) → first ≤ id → eqb j (id - first) ≡ eqb id (first + j)
@@ -159,7 +159,7 @@ module _ (n : Streams) where
     unfolding transferred_of part_of
     transfer-fits d id backlog host =
         by-admitted (Fits d id) (runs_on n b.rest d id) b.rest m
-        {f = λ (number : ℕ). untouched (plain number) b.rest.registers (queue_for d b) m} {g = λ (number : ℕ). none}
+        {f = λ (number : ℕ). untouched (plain number) b.rest.registers (queue_for d b) m} {g = λ (number : ℕ). None}
         (λ number. record { queue = refl; heard = λ j. nothing-more (eqb id (first_of n d + j)) (said j) })
         (λ e.
         let on : is_on (virtqueue_of n b.rest d 0) id ≡ true = both _ (is_running b.rest id) e in
@@ -176,7 +176,7 @@ module _ (n : Streams) where
     release-queue : (e d : Direction) (r : Rest) (id : ℕ) (rest : Rest) (latency : ℕ)
         → let v : Virtqueue = virtqueue_of n rest e latency in
         queue_for d (with_queue e r (emptied (account n e) v (line_of v id) (queue_for e b) m).queue b)
-        ≡ ran d (cond (is_direction e d) (some (releases (lay_of rest d latency) (line_of v id) m)) none) (queue_for d b)
+        ≡ ran d (cond (is_direction e d) (Some (releases (lay_of rest d latency) (line_of v id) m)) None) (queue_for d b)
     unfolding part_of
     release-queue output output r id rest latency = refl
     release-queue output input r id rest latency = refl
@@ -220,7 +220,7 @@ module _ (n : Streams) where
     -- ---- what is said of each line
 
     released-said : (d : Direction) (x : Bool) (lay : Lay) (i j : ℕ)
-        → said_after d said (cond x (some (releases lay i m)) none) (queue_for d b) j ≡ said j ++ []
+        → said_after d said (cond x (Some (releases lay i m)) None) (queue_for d b) j ≡ said j ++ []
     released-said d true lay i j = sym (append-nil (said j))
     released-said d false lay i j = sym (append-nil (said j))
 

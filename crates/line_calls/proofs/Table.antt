@@ -1,4 +1,6 @@
 -- The P cases are proved as one statement: the rules compute, once the tests that the hypotheses decide are in place.
+use Rattle.std.specs.Prelude.{Result, Option, Ok, Err, Some}
+use Rattle.counts.specs.declared.DescriptorNumber.{DescriptorNumber}
 use mathlib.Core.Path.{◌≡◌, ◌∙◌, refl, ap}
 use mathlib.Core.Bool.{true, false, ◌&&◌}
 use mathlib.Core.List.{List, [], ◌∷◌}
@@ -13,8 +15,6 @@ use Rattle.registers.specs.Map.{size_of}
 use Rattle.registers.specs.declared.answers.Answer.{Answer}
 use Rattle.ring.specs.Rules.{entries_of, found_of, check_of, head_at, head_of}
 use Rattle.ring.specs.declared.Cause.{Cause}
-use Rattle.ring.specs.declared.Check.{Check}
-use Rattle.ring.specs.declared.Head.{Head}
 use Rattle.device.specs.Device.{Direction, output, input, Rest, Device, queue_for, page_of, stream_at, bytes_of}
 use Rattle.device.specs.Numbers.{control_queue, play_queue}
 use Rattle.device.specs.Transfer.{Shows, Run, begun}
@@ -99,7 +99,7 @@ module _ (n : Streams) (b : Device Queue) (m : List ℕ) where
   module _ (c : Controls b m) where
     -- past 1 and 5 the answer is what the queue's check says
     checked :
-        (k : Check) → check_of m (page_of b.rest control_queue) (size_of control_queue) b.rest.control.taken 0 ≡ k
+        (k : Result (Option ℕ) Cause) → check_of m (page_of b.rest control_queue) (size_of control_queue) b.rest.control.taken 0 ≡ k
         → controlled n b m ≡ orders (control_found_by (served n) b.rest m k)
     unfolding order_of
     checked k e =
@@ -110,7 +110,7 @@ module _ (n : Streams) (b : Device Queue) (m : List ℕ) where
     region-breaks : length m < ends_at b.rest control_queue → controlled n b m ≡ named 9 0
     unfolding found_of
     region-breaks h =
-        checked (Check.Broken Cause.Region)
+        checked (Err Cause.Region)
         (rw (
           ne_eqb (page_of b.rest control_queue).0 0 (λ e. omega (arith, c.based, e)),
           lt-ltb (length m) (ends_at b.rest control_queue) h,
@@ -118,7 +118,8 @@ module _ (n : Streams) (b : Device Queue) (m : List ℕ) where
 
     module _ (inside : ends_at b.rest control_queue ≤ length m) where
       inside-checked :
-          (k : Check) → entries_of 64 (new_for b.rest m) 0 ≡ k → controlled n b m ≡ orders (control_found_by (served n) b.rest m k)
+          (k : Result (Option ℕ) Cause) → entries_of 64 (new_for b.rest m) 0 ≡ k
+          → controlled n b m ≡ orders (control_found_by (served n) b.rest m k)
       unfolding found_of size_of
       inside-checked k e =
           checked k
@@ -128,27 +129,27 @@ module _ (n : Streams) (b : Device Queue) (m : List ℕ) where
           ) e)
 
       entries-break : 65 ≤ new_for b.rest m → controlled n b m ≡ named 11 0
-      entries-break h = inside-checked (Check.Broken Cause.Entries) (rw (lt-ltb 64 (new_for b.rest m + 0) (omega (arith, h))))
+      entries-break h = inside-checked (Err Cause.Entries) (rw (lt-ltb 64 (new_for b.rest m + 0) (omega (arith, h))))
 
       head-breaks : 1 ≤ new_for b.rest m → new_for b.rest m ≤ 64 → 64 ≤ head_for b.rest m → controlled n b m ≡ named 12 0
       unfolding head_at size_of
       head-breaks h i k =
-          inside-checked (Check.New (new_for b.rest m)) (rw (le-ltb 64 (new_for b.rest m + 0) (omega (arith, i))))
+          inside-checked (Ok (Some (new_for b.rest m))) (rw (le-ltb 64 (new_for b.rest m + 0) (omega (arith, i))))
           ∙ met (new_for b.rest m) h
         where
-          met : (j : ℕ) → 1 ≤ j → orders (control_found_by (served n) b.rest m (Check.New j)) ≡ named 12 0
+          met : (j : ℕ) → 1 ≤ j → orders (control_found_by (served n) b.rest m (Ok (Some j))) ≡ named 12 0
           met zero h = absurd (omega arith)
           met (suc j) h =
-              let e : head_of m (page_of b.rest control_queue) (size_of control_queue) b.rest.control.taken ≡ Head.Broken Cause.Head =
+              let e : head_of m (page_of b.rest control_queue) (size_of control_queue) b.rest.control.taken ≡ Err Cause.Head =
               rw (le-ltb (head_for b.rest m) 64 k) in
-              ap (λ (x : Head). orders (control_head_by (served n) b.rest m x)) e
+              ap (λ (x : Result DescriptorNumber Cause). orders (control_head_by (served n) b.rest m x)) e
 
   -- a Release of output 0, once its queue was checked
   module _ (p : Pending) where
     abbrev lies : Virtqueue
     lies = virtqueue_of n p.rest output (stream_at p.rest 0).backlog
 
-    abbrev released : Check → Answer
+    abbrev released : Result (Option ℕ) Cause → Answer
     released k =
         let e : Run Queue = on_found (card n output) lies (release_run (card n output) lies (line_of lies 0)) (begun b.play m []) k in
         (released_on output 0 p e.mem e.stop e.signal).answer
@@ -170,7 +171,7 @@ module _ (n : Streams) (b : Device Queue) (m : List ℕ) where
         → controlled n b m ≡ named 9 2
     unfolding found_of
     release-breaks first o based h =
-        let f : found (card n output) lies b.play m ≡ Check.Broken Cause.Region =
+        let f : found (card n output) lies b.play m ≡ Err Cause.Region =
         rw (ne_eqb (page_of p.rest play_queue).0 0 (λ e. omega (arith, based, e)), lt-ltb (length m) (ends_at p.rest play_queue) h) in
         ap orders o ∙ release-checked first ∙ ap released f
 

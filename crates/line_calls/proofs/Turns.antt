@@ -1,9 +1,9 @@
 -- What one call does to the queues' histories, to memory and to the count: by the part that it has on each.
+use Rattle.std.specs.Prelude.{Option, None, Some}
 use mathlib.Core.Path.{◌≡◌, refl, sym, ap, subst, ◌∙◌}
 use mathlib.Core.Bool.{false, cond, true≢false}
 use mathlib.Core.List.{List, []}
 use mathlib.Core.Logic.{inl, inr}
-use mathlib.Core.Option.{Option, none, some}
 use Prim.Native.Nat.{ℕ, suc, ◌≤◌, ◌<◌}
 use borrow.Author.Tests.{eqb-false}
 use lib.Dec.{eqb}
@@ -77,11 +77,11 @@ module _ (n : Streams) (d : Direction) (said : ℕ → List ℕ) (h : History) (
   -- a line that the part does not touch
   part-beside : (o : Option Part) (j : ℕ) → touches j o ≡ false → Beside (line_at h j) (line_at (ran n d o h) j)
   unfolding part_of
-  part-beside none j e = record { story = refl; joined = grows_none (line_at h j).joined }
-  part-beside (some clears) j e = absurd (true≢false e)
-  part-beside (some (transfers lay i m host)) j e =
+  part-beside None j e = record { story = refl; joined = grows_none (line_at h j).joined }
+  part-beside (Some clears) j e = absurd (true≢false e)
+  part-beside (Some (transfers lay i m host)) j e =
       (part-turn d (first_of n d) (count_of n d) said h k (transfers lay i m host)).adds.others j (eqb-false j i e)
-  part-beside (some (releases lay i m)) j e =
+  part-beside (Some (releases lay i m)) j e =
       (part-turn d (first_of n d) (count_of n d) said h k (releases lay i m)).adds.others j (eqb-false j i e)
 
   part-alone : (o : Option Part) (j : ℕ) (a : History) → a ≡ ran n d o h → touches j o ≡ false → Alone n j h a
@@ -95,7 +95,7 @@ module _ (n : Streams) (d : Direction) (said : ℕ → List ℕ) (h : History) (
 -- a transfer past its checks is told by its run
 transfer-runs : (n : Streams) (b : Device History) (m : List ℕ) (d : Direction) (id : ℕ) (host : List ℕ) (backlog : ℕ)
     → let v : Virtqueue = virtqueue_of n b.rest d backlog in
-    transfer_part n d id host backlog b.rest m ≡ some (transfers (lay_of b.rest d backlog) (line_of v id) m host)
+    transfer_part n d id host backlog b.rest m ≡ Some (transfers (lay_of b.rest d backlog) (line_of v id) m host)
     → transferred_of n (account n) d id backlog b m host
     ≡ transferred_by (queue_number d) b.rest.registers (transferred (account n d) v (line_of v id) (queue_for d b) m host)
 unfolding transferred_of
@@ -103,21 +103,21 @@ transfer-runs n b m d id host backlog =
     let v : Virtqueue = virtqueue_of n b.rest d backlog in
     let p : Part = transfers (lay_of b.rest d backlog) (line_of v id) m host in
     let run = transferred_by (queue_number d) b.rest.registers (transferred (account n d) v (line_of v id) (queue_for d b) m host) in
-    by-admitted (λ (t : Transferred History) (o : Option Part). o ≡ some p → t ≡ run) (runs_on n b.rest d id) b.rest m
-    {f = λ (number : ℕ). untouched (plain number) b.rest.registers (queue_for d b) m} {g = λ (number : ℕ). none}
+    by-admitted (λ (t : Transferred History) (o : Option Part). o ≡ Some p → t ≡ run) (runs_on n b.rest d id) b.rest m
+    {f = λ (number : ℕ). untouched (plain number) b.rest.registers (queue_for d b) m} {g = λ (number : ℕ). None}
     (λ number e. absurd (none-some p e)) (λ r e. refl)
 
 -- .. and one that is refused moves nothing
 transfer-refused : (n : Streams) (b : Device History) (m : List ℕ) (d : Direction) (id : ℕ) (host : List ℕ) (backlog : ℕ)
-    → transfer_part n d id host backlog b.rest m ≡ none
+    → transfer_part n d id host backlog b.rest m ≡ None
     → let t : Transferred History = transferred_of n (account n) d id backlog b m host in
     (t.mem ≡ m) × (t.bytes ≡ [])
 unfolding transferred_of
 transfer-refused n b m d id host backlog =
     let p : Part = transfers (lay_of b.rest d backlog) (line_of (virtqueue_of n b.rest d backlog) id) m host in
-    by-admitted (λ (t : Transferred History) (o : Option Part). o ≡ none → (t.mem ≡ m) × (t.bytes ≡ [])) (runs_on n b.rest d id)
+    by-admitted (λ (t : Transferred History) (o : Option Part). o ≡ None → (t.mem ≡ m) × (t.bytes ≡ [])) (runs_on n b.rest d id)
     b.rest m
-    {f = λ (number : ℕ). untouched (plain number) b.rest.registers (queue_for d b) m} {g = λ (number : ℕ). none}
+    {f = λ (number : ℕ). untouched (plain number) b.rest.registers (queue_for d b) m} {g = λ (number : ℕ). None}
     (λ number e. (refl, refl)) (λ r e. absurd (none-some p (sym e)))
 
 module _ (n : Streams) (w : Direction → ℕ → List ℕ) (b : Device History) (k : Kepts n w b) (c : Call) where
@@ -157,7 +157,7 @@ module _ (n : Streams) (w : Direction → ℕ → List ℕ) (b : Device History)
 
   moved_told : (m : List ℕ) (d : Direction) (id : ℕ) (host : List ℕ) (backlog : ℕ)
       → let v : Virtqueue = virtqueue_of n b.rest d backlog in
-      part_in n d (transfer_of d id host backlog) b.rest m ≡ some (transfers (lay_of b.rest d backlog) (line_of v id) m host)
+      part_in n d (transfer_of d id host backlog) b.rest m ≡ Some (transfers (lay_of b.rest d backlog) (line_of v id) m host)
       → Moved n d host (asked n (account n) (transfer_of d id host backlog) b m).told
       (transferred (account n d) v (line_of v id) (queue_for d b) m host)
   unfolding transfer_step remembering
@@ -169,7 +169,7 @@ module _ (n : Streams) (w : Direction → ℕ → List ℕ) (b : Device History)
       (transfer-runs n b m input id host backlog e) _ refl refl refl
 
   refused-told : (m : List ℕ) (d : Direction) (id : ℕ) (host : List ℕ) (backlog : ℕ)
-      → part_in n d (transfer_of d id host backlog) b.rest m ≡ none
+      → part_in n d (transfer_of d id host backlog) b.rest m ≡ None
       → let t : Told = (asked n (account n) (transfer_of d id host backlog) b m).told in
       (t.memory ≡ m) × (t.bytes ≡ []) × (t.count ≡ 0)
   unfolding transfer_step remembering

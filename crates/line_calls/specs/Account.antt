@@ -1,7 +1,6 @@
 -- "01's account runs by these rules": which part a call has on the queue of a direction, told by the rest of the device and the memory lent
 -- alone, and what it then does to the queue's histories, to memory and to the count (`Turn`).
-use Rattle.std.specs.Prelude.{◌≡◌, Bool, true, false, cond, List, [], ℕ, ◌≤◌, ◌<◌, eqb, length, drop, take}
-use Rattle.std.proofs.Math.Option.{Option, none, some}
+use Rattle.std.specs.Prelude.{Option, None, Some, ◌≡◌, Bool, true, false, cond, List, [], ℕ, ◌≤◌, ◌<◌, eqb, length, drop, take}
 use Rattle.registers.specs.Answers.{done}
 use Rattle.device.specs.Account.{Each}
 use Rattle.device.specs.Device.{Direction, output, input, queue_number, Rest, Device, queue_for, stream_at}
@@ -35,30 +34,30 @@ module _ (n : Streams) where
   -- a transfer of stream id, past 1, 5 and 6
   abbrev pub transfer_part : Direction → ℕ → List ℕ → ℕ → Rest → List ℕ → Option Part
   transfer_part d id host backlog r m =
-      admitted_if (runs_on n r d id) r m (λ (number : ℕ). none)
-      (some (transfers (lay_of r d backlog) (line_of (virtqueue_of n r d backlog) id) m host))
+      admitted_if (runs_on n r d id) r m (λ (number : ℕ). None)
+      (Some (transfers (lay_of r d backlog) (line_of (virtqueue_of n r d backlog) id) m host))
 
   -- a Release past its checks
   abbrev pub release_part : Direction → Order → List ℕ → Option Part
-  release_part d (Done o) m = none
+  release_part d (Done o) m = None
   release_part d (ReleaseFirst id p) m =
       cond (is_direction (direction_of n id) d)
-      (some (releases (lay_of p.rest d (stream_at p.rest id).backlog) (line_of (release_queue n id p.rest) id) m)) none
+      (Some (releases (lay_of p.rest d (stream_at p.rest id).backlog) (line_of (release_queue n id p.rest) id) m)) None
 
   -- "What drops 01's message in work drops the lines.": a reset, and a base write of that queue
   abbrev pub write_part : Bool → Option Part
-  write_part anew = cond anew (some clears) none
+  write_part anew = cond anew (Some clears) None
 
   -- "On an idle queue neither adds anything" (a part that does nothing), "nor do other calls or those stopped by a check."
   abbrev pub part_in : Direction → Request → Rest → List ℕ → Option Part
-  part_in d (ReadRegister offset width) r m = none
+  part_in d (ReadRegister offset width) r m = None
   part_in d (WriteRegister offset width v) r m = write_part (writes_anew (queue_number d) offset width v r.registers)
   part_in d Control r m = release_part d (order_of n r m) m
   part_in output (Play id host backlog) r m = transfer_part output id host backlog r m
-  part_in input (Play id host backlog) r m = none
-  part_in output (Capture id host backlog) r m = none
+  part_in input (Play id host backlog) r m = None
+  part_in output (Capture id host backlog) r m = None
   part_in input (Capture id host backlog) r m = transfer_part input id host backlog r m
-  part_in d (Event code data') r m = none
+  part_in d (Event code data') r m = None
 
   -- ---- what it does
 
@@ -93,19 +92,19 @@ module _ (n : Streams) where
 
   -- one call: of the queue of direction d, from the account's device b to `a`
   pub record Turn (d : Direction) (said : ℕ → List ℕ) (b : Device History) (c : Call) (t : Told) (a : Device History) : Type 0 where
-    pub nothing : part_in d c.asked b.rest c.lent ≡ none → queue_for d a ≡ queue_for d b
-    pub part : (p : Part) → part_in d c.asked b.rest c.lent ≡ some p → Acted d said p (queue_for d b) (queue_for d a)
+    pub nothing : part_in d c.asked b.rest c.lent ≡ None → queue_for d a ≡ queue_for d b
+    pub part : (p : Part) → part_in d c.asked b.rest c.lent ≡ Some p → Acted d said p (queue_for d b) (queue_for d a)
     pub moved :
         (id : ℕ) (host : List ℕ) (backlog : ℕ)
         → c.asked ≡ transfer_of d id host backlog
         → let v : Virtqueue = virtqueue_of n b.rest d backlog in
-        part_in d c.asked b.rest c.lent ≡ some (transfers (lay_of b.rest d backlog) (line_of v id) c.lent host)
+        part_in d c.asked b.rest c.lent ≡ Some (transfers (lay_of b.rest d backlog) (line_of v id) c.lent host)
         → Moved d host t (transferred (accounts d (first_of n d) (count_of n d)) v (line_of v id) (queue_for d b) c.lent host)
     -- "nothing changed": a transfer that is refused
     pub refused :
         (id : ℕ) (host : List ℕ) (backlog : ℕ)
         → c.asked ≡ transfer_of d id host backlog
-        → part_in d c.asked b.rest c.lent ≡ none
+        → part_in d c.asked b.rest c.lent ≡ None
         → (t.memory ≡ c.lent) × (t.bytes ≡ []) × (t.count ≡ 0)
     -- a Release that breaks the queue does not reply
     pub released :

@@ -1,6 +1,7 @@
 -- 01, Numbers on each side: "The P cases stand together as one table and one proved statement over the definitions". `Cases` is the
 -- table, in the paper's order; `cases` of proofs/Cases proves it. What orders add is in Table, and in the Table of queue_lines and of
 -- rules.
+use Rattle.std.specs.Prelude.{Result, Option, Ok, Err, Some}
 use Rattle.std.specs.Prelude.{◌≡◌, Bool, List, [], ◌∷◌, ◌++◌, ℕ, ◌≤◌, length}
 use Rattle.counts.specs.declared.PageNumber.{PageNumber}
 use Rattle.registers.specs.Rules.{read_of, write_of, power_on, value_read}
@@ -8,7 +9,6 @@ use Rattle.registers.specs.declared.Config.{Config}
 use Rattle.registers.specs.declared.Registers.{Registers}
 use Rattle.ring.specs.Rules.{new_of}
 use Rattle.ring.specs.declared.Cause.{Cause}
-use Rattle.ring.specs.declared.Check.{Check}
 use Rattle.card.specs.declared.Jack.{Jack}
 use Rattle.card.specs.declared.Stream.{Stream}
 use Rattle.device.specs.Device.{output, bytes_of}
@@ -25,7 +25,7 @@ use Rattle.line_calls.specs.Table.{asks, one_output}
 
 -- what the check of a play queue of one stream finds_one with 10 taken, at this available index and with this many in its line: in every
 -- memory and at every page that shows it
-abbrev pub finds_one : ℕ → ℕ → Check → Type 0
+abbrev pub finds_one : ℕ → ℕ → Result (Option ℕ) Cause → Type 0
 finds_one index line check =
     (m : List ℕ) (page : PageNumber) (negotiated : Bool) (latency completed : ℕ) (a : Line)
     → Shows m page index
@@ -56,10 +56,10 @@ pub record Cases : Type 0 where
   pub one-new : new_of 0 65535 ≡ 1
   pub ten-new : new_of 4 65530 ≡ 10
   -- "Play, taken 10, none in work: index 266 works, 267 breaks; one in work: 265 works, 266 breaks."; in line, by order 8
-  pub none-works : finds_one 266 0 (Check.New 256)
-  pub none-breaks : finds_one 267 0 (Check.Broken Cause.Entries)
-  pub one-works : finds_one 265 1 (Check.New 255)
-  pub one-breaks : finds_one 266 1 (Check.Broken Cause.Entries)
+  pub none-works : finds_one 266 0 (Ok (Some 256))
+  pub none-breaks : finds_one 267 0 (Err Cause.Entries)
+  pub one-works : finds_one 265 1 (Ok (Some 255))
+  pub one-breaks : finds_one 266 1 (Err Cause.Entries)
   -- "Features 0x10000001, STATUS 0x0b reads 0x03; with 0x10000000 it reads 0x0b."
   pub refused-features : (c : Config) → read_of (negotiated 268435457) c 18 1 ≡ value_read (negotiated 268435457) 3
   pub agreed-features : (c : Config) → read_of (negotiated 268435456) c 18 1 ≡ value_read (negotiated 268435456) 11

@@ -1,5 +1,6 @@
 -- Order 6 on a card of several streams: the queue that a broken call names. What holds of each call's answer is `Split` of
 -- rules/specs/Causes; the theorem is `split` of proofs/Causes.
+use Rattle.std.specs.Prelude.{Err, Some}
 use Rattle.std.specs.Prelude.{List, ℕ, ◌≡◌, Bool}
 use Rattle.registers.specs.Answers.{no_queue}
 use Rattle.device.specs.Device.{output, input, queue_number, Rest, Direction}
@@ -9,9 +10,6 @@ use Rattle.line_calls.specs.Calls.{Request, ReadRegister, WriteRegister, Control
 use Rattle.line_calls.specs.Streams.{Streams, direction_of}
 use Rattle.registers.specs.declared.Registers.{Registers}
 use Rattle.ring.specs.declared.Cause.{Cause}
-use Rattle.ring.specs.declared.Check.{Check}
-use Rattle.ring.specs.declared.Head.{Head}
-use Rattle.ring.specs.declared.Stop.{Stop}
 use Rattle.device.specs.Answers.{broken_answer}
 use Rattle.device.specs.Transfer.{Run, transferred_by}
 use Rattle.rules.specs.Calls.{Pending, released_on}
@@ -34,13 +32,13 @@ pub record UnchangedOn {Q : Type 0} (ops : Ops Q) (c c' : Cause) : Type 0 where
   -- a Release, by the queue of its stream
   pub releases :
       (d : Direction) (id : ℕ) (p : Pending) (m : List ℕ) (signal : Bool)
-      → released_on d id p m (Stop.Broke c) signal
-      ≡ answering (broken_answer (queue_number d) c) (released_on d id p m (Stop.Broke c') signal)
+      → released_on d id p m (Some c) signal
+      ≡ answering (broken_answer (queue_number d) c) (released_on d id p m (Some c') signal)
   -- play and capture, at the check and at a head
   pub checks :
       (v : Virtqueue) (run : ℕ → Run Q → Run Q) (r : Run Q)
-      → (on_found ops v run r (Check.Broken c) ≡ stopped c r) × (on_found ops v run r (Check.Broken c') ≡ stopped c' r)
-  pub heads : (v : Virtqueue) (r : Run Q) → (met ops v (Head.Broken c) r ≡ stopped c r) × (met ops v (Head.Broken c') r ≡ stopped c' r)
+      → (on_found ops v run r (Err c) ≡ stopped c r) × (on_found ops v run r (Err c') ≡ stopped c' r)
+  pub heads : (v : Virtqueue) (r : Run Q) → (met ops v (Err c) r ≡ stopped c r) × (met ops v (Err c') r ≡ stopped c' r)
   pub transfers :
       (queue : ℕ) (g : Registers) (r : Run Q)
       → transferred_by queue g (stopped c r) ≡ transferring (broken_answer queue c) (transferred_by queue g (stopped c' r))

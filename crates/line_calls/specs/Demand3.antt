@@ -11,9 +11,9 @@
 --   its stream that was answered 0, since reset.
 -- The account is fed what power-up is given, then each call's arguments and the memory lent to it. `Demand3` is the claim; the theorem is
 -- `demand-3` of proofs/Demand3.
-use Rattle.std.specs.Prelude.{◌≡◌, Bool, true, false, cond, List, [], ◌∷◌, ◌++◌, map, ℕ, suc, ◌+◌, ◌-◌, ◌%◌, ◌≤◌, ◌<◌, eqb, length, take}
+use Rattle.std.specs.Prelude.{Option, None, Some, ◌≡◌, Bool, true, false, cond, List, [], ◌∷◌, ◌++◌, map, ℕ, suc}
+use Rattle.std.specs.Prelude.{◌+◌, ◌-◌, ◌%◌, ◌≤◌, ◌<◌, eqb, length, take}
 use Rattle.std.specs.Prelude.{get_or}
-use Rattle.std.proofs.Math.Option.{Option, none, some}
 use Rattle.description.specs.declared.Description.{Description}
 use Rattle.ranges.specs.Ranges.{up_from}
 use Rattle.registers.specs.Map.{size_of}
@@ -46,10 +46,10 @@ available_in v m = index_of m v.page (queue_size v)
 
 -- whether a part of a call touches line j: a transfer or a Release of its stream, or one that drops all lines
 abbrev pub touches : ℕ → Option Part → Bool
-touches j none = false
-touches j (some clears) = true
-touches j (some (transfers lay i m host)) = eqb j i
-touches j (some (releases lay i m)) = eqb j i
+touches j None = false
+touches j (Some clears) = true
+touches j (Some (transfers lay i m host)) = eqb j i
+touches j (Some (releases lay i m)) = eqb j i
 
 module _ (n : Streams) where
   -- "A play or capture works, and a Release ends, its own stream's line only": line j, of the account and of the card
@@ -143,7 +143,7 @@ pub record OfStream (d : Direction) (i : ℕ) (h : History) (bytes : List ℕ) (
   pub few : number (line_at h i).story ≤ length (line_at h i).story.takings
   pub one : length (line_at h i).story.takings ≤ suc (number (line_at h i).story)
   -- a message in work is well-formed, and something of it waits
-  pub in-work : (w : Message) → work_of (line_at h i).story ≡ some w → Waits d w
+  pub in-work : (w : Message) → work_of (line_at h i).story ≡ Some w → Waits d w
   -- each position of each message read is in exactly one place, once and in order: handed on, given up or waiting
   pub places :
       (t : ℕ)

@@ -1,16 +1,13 @@
 -- What a walk and the tests behind it make of a chain, in the rules' terms.
+use Rattle.std.specs.Prelude.{None, Some}
 use mathlib.Core.Path.{◌≡◌, ◌∙◌, refl, sym, ap}
 use mathlib.Core.Bool.{Bool, true, false, cond, ◌&&◌, and-eq-true_iff}
 use mathlib.Core.List.{List, []}
-use mathlib.Core.Option.{none, some}
 use Prim.Native.Nat.{ℕ, ◌+◌}
 use lib.Dec.{eqb, leb}
 use lib.ListN.{length}
-use Rattle.chain.specs.Walk.{Outcome, whole, by_end, outcome_of, SoundChain}
+use Rattle.chain.specs.Walk.{Outcome, whole, SoundChain}
 use Rattle.chain.specs.declared.Chain.{Chain}
-use Rattle.chain.specs.declared.End.{End}
-use Rattle.chain.specs.declared.End.TheVariants.{Whole}
-use Rattle.chain.specs.declared.Walked.{Walked}
 use Rattle.counts.specs.declared.DescriptorNumber.{DescriptorNumber}
 use Rattle.ranges.specs.Ranges.{ranges_of, total, all_inside}
 use Rattle.ranges.specs.declared.Range.{Range}
@@ -24,12 +21,6 @@ use Rattle.message.proofs.Laws.{both-tests}
 use Rattle.queue_lines.specs.Chains.{Virtqueue, walked, judged, line_of, is_on, Arrival, in_line, at_once, arrival, arrival_of, reading}
 use Rattle.queue_lines.specs.Chains.{reading_of}
 use Rattle.line_chains.specs.Queue.{joined_line, place_of, own_status}
-
--- a walk that no fault ended
-pub walked_whole : (ws : List ℕ) (w : Walked) (o : Outcome) → w.end ≡ Whole → outcome_of ws w ≡ o
-    → whole (ranges_of ws w.chain.request) (ranges_of ws w.chain.reply) ≡ o
-walked_whole ws w o h e =
-    sym (ap (λ (x : End). by_end x (whole (ranges_of ws w.chain.request) (ranges_of ws w.chain.reply))) h) ∙ e
 
 module _ (v : Virtqueue) (m : List ℕ) (head : ℕ) where
   -- arrivals and readings go by the outcome of the walk
@@ -50,18 +41,18 @@ module _ (v : Virtqueue) (m : List ℕ) (head : ℕ) where
     abbrev refusal : ℕ → List Range → Arrival
     refusal h r = at_once (record { head = h; request = request; reply = r; form = judged m r false })
 
-    pub in-line : (i : ℕ) → some i ≡ place_of v m request → in_line i ≡ arrival v m head (whole request reply)
+    pub in-line : (i : ℕ) → Some i ≡ place_of v m request → in_line i ≡ arrival v m head (whole request reply)
     in-line i h = by joining h where
-      by : (b : Bool) → some i ≡ joined_line (cond b (in_line (line_of v (id_of m request))) (refusal 0 []))
+      by : (b : Bool) → Some i ≡ joined_line (cond b (in_line (line_of v (id_of m request))) (refusal 0 []))
           → in_line i ≡ cond b (in_line (line_of v (id_of m request))) (refusal head reply)
       by true e = cc
       by false e = absurd (none-some i (sym e))
 
-    pub at-once : none ≡ place_of v m request
+    pub at-once : None ≡ place_of v m request
         → at_once (record { head = head; request = request; reply = reply; form = judged m reply false })
         ≡ arrival v m head (whole request reply)
     at-once h = by joining h where
-      by : (b : Bool) → none ≡ joined_line (cond b (in_line (line_of v (id_of m request))) (refusal 0 []))
+      by : (b : Bool) → None ≡ joined_line (cond b (in_line (line_of v (id_of m request))) (refusal 0 []))
           → refusal head reply ≡ cond b (in_line (line_of v (id_of m request))) (refusal head reply)
       by true e = absurd (none-some _ e)
       by false e = refl

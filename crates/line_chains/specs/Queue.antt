@@ -1,6 +1,5 @@
 -- What the code's structs of a stream queue with lines stand for in its rules.
-use Rattle.std.specs.Prelude.{List, [], ℕ}
-use Rattle.std.proofs.Math.Option.{Option, none, some}
+use Rattle.std.specs.Prelude.{Option, None, Some, List, [], ℕ}
 use Rattle.chain.specs.Walk.{whole}
 use Rattle.ranges.specs.declared.Range.{Range}
 use Rattle.ring.specs.Rules.{Completion}
@@ -10,8 +9,6 @@ use Rattle.message.specs.Message.{direction_of, taking_in, FitTaken, answered_of
 use Rattle.queue_lines.specs.Chains as rules
 use Rattle.queue_lines.specs.Chains.{Virtqueue, in_line, at_once, arrival}
 use Rattle.line_chains.specs.declared.LineQueue.{LineQueue}
-use Rattle.line_chains.specs.declared.Place.{Place}
-use Rattle.line_chains.specs.declared.Place.TheVariants as places
 use Rattle.line_chains.specs.declared.Arrival.{Arrival}
 use Rattle.line_chains.specs.declared.Arrival.TheVariants.{InLine, AtOnce}
 
@@ -32,14 +29,10 @@ single v = record { direction = v.direction; page = v.page; negotiated = v.negot
 
 -- ---- taking
 
-abbrev pub place_in : Place → Option ℕ
-place_in places.Nowhere = none
-place_in (places.InLine i) = some i
-
 -- the line that an entry joins, if any
 abbrev pub joined_line : rules.Arrival → Option ℕ
-joined_line (in_line i) = some i
-joined_line (at_once t) = none
+joined_line (in_line i) = Some i
+joined_line (at_once t) = None
 
 -- .. by its request alone
 abbrev pub place_of : Virtqueue → List ℕ → List Range → Option ℕ

@@ -3,17 +3,18 @@
 #![tactic(auto)]
 
 ghost use Rattle.std.specs.Prelude.{◌≡◌, ◌&&◌, ◌+◌, ◌≤◌, eqb, length};
-ghost use Rattle.chain.specs.Walk.{outcome_of, SoundChain};
+ghost use Rattle.chain.specs.Walk.{outcome_of, SoundWalk};
 ghost use Rattle.ring.specs.Rules.{completion};
-ghost use Rattle.ranges.specs.Ranges.{ranges_of, all_inside, Sound};
+ghost use Rattle.ranges.specs.Ranges.{ranges_of, all_inside, no_ranges, Sound};
+ghost use Rattle.message.specs.declared.Form.TheVariants.{Unwalked};
 ghost use Rattle.device.specs.Transfer.{id_of, sized};
-ghost use Rattle.message.specs.Message.{direction_of, form_in, status_in, taking_in, FitTaken};
+ghost use Rattle.message.specs.Message.{direction_of, form_in, taking_in, FitTaken};
 ghost use Rattle.queue_lines.specs.Chains.{walked, judged, arrival_of, reading_of};
-ghost use Rattle.line_chains.specs.Queue.{virtqueue_of, place_in, place_of, arrival_in, FitArrival, own_status, refused_of};
+ghost use Rattle.line_chains.specs.Queue.{virtqueue_of, place_of, arrival_in, FitArrival, own_status, refused_of};
 
-use chain::{End, Walked};
+use chain::{Chain, Fault};
 use counts::DescriptorNumber;
-use message::{Form, Status, Taken, Virtqueue};
+use message::{Form, Taken, Virtqueue};
 use ranges::Ranges;
 use ring::Posted;
 
@@ -23,13 +24,6 @@ pub struct LineQueue {
     pub queue: Virtqueue,
     pub first: u32,
     pub streams: u32,
-}
-
-// The line of a request, where its stream is on the queue.
-#[derive(Clone, Copy)]
-pub enum Place {
-    Nowhere,
-    InLine(u32),
 }
 
 // What becomes of an entry when it is taken: it joins this line, or is answered at once.
@@ -44,37 +38,29 @@ fn form_by(m: &[u8], list: &[u64], reply: Ranges, sound: bool) -> Form
     requires { Sound list.now reply }
     ensures { form_in result ≡ judged m.now (ranges_of list.now reply) sound }
 {
-    if !ranges::all_inside(m.len(), list, reply) {
-        return Form::Silent;
+    if !ranges::all_inside(m.len(), list, reply) || reply.bytes < 8 {
+        Form::Silent
+    } else if sound {
+        Form::WellFormed
+    } else {
+        Form::Refused
     }
-    if reply.bytes < 8 {
-        return Form::Silent;
-    }
-    if sound {
-        return Form::WellFormed;
-    }
-    Form::Refused
 }
 
-// The line that a request names.
-fn place_of(m: &[u8], list: &[u64], q: LineQueue, request: Ranges) -> Place
+// The line that a request names, where its stream is on the queue.
+fn place_of(m: &[u8], list: &[u64], q: LineQueue, request: Ranges) -> Option<u32>
     requires { Sound list.now request }
-    ensures { place_in result ≡ place_of (virtqueue_of q) m.now (ranges_of list.now request) }
+    ensures { result ≡ place_of (virtqueue_of q) m.now (ranges_of list.now request) }
 {
-    if !ranges::all_inside(m.len(), list, request) {
-        return Place::Nowhere;
-    }
-    if request.bytes < 4 {
-        return Place::Nowhere;
+    if !ranges::all_inside(m.len(), list, request) || request.bytes < 4 {
+        return None;
     }
     let id = message::stream_id(m, list, request);
-    if id < q.first {
-        return Place::Nowhere;
+    if q.first <= id && id - q.first < q.streams {
+        Some(id - q.first)
+    } else {
+        None
     }
-    if id - q.first < q.streams {
-        return Place::InLine(id - q.first);
-    }
-    Place::Nowhere
 }
 
 // Whether a request is one of this line, and both sides have the lengths that the direction asks.
@@ -86,25 +72,31 @@ fn is_of_line(m: &[u8], list: &[u64], q: LineQueue, line: u32, request: Ranges, 
     if !ranges::all_inside(m.len(), list, request) {
         return false;
     }
-    let id = message::stream_id(m, list, request);
-    if id as u64 != q.first as u64 + line as u64 {
-        return false;
-    }
-    let queue = q.queue;
-    let direction = queue.direction;
-    message::is_sized(direction, request.bytes, reply)
+    let id = message::stream_id(m, list, request) as u64;
+    id == q.first as u64 + line as u64 && message::is_sized(q.queue.direction, request.bytes, reply)
 }
 
-// The chain at `head`, its ranges put into the list.
-fn walk(m: &[u8], list: &mut [u64], q: LineQueue, head: DescriptorNumber) -> Walked
+// The chain at `head`, its ranges put into the list; or its fault.
+fn walk(m: &[u8], list: &mut [u64], q: LineQueue, head: DescriptorNumber) -> Result<Chain, Fault>
     requires { 68 ≤ length list.old }
     ensures { (outcome_of list.new result ≡ walked (virtqueue_of q) m.now head.0)
-        × SoundChain list.new result.chain }
+        × SoundWalk list.new result }
 {
     let queue = q.queue;
-    let direction = queue.direction;
-    let size = message::queue_size(direction);
+    let size = message::queue_size(queue.direction);
     chain::walk(m, list, queue.page.address(), size, head, queue.indirect)
+}
+
+// A chain that can't be walked.
+fn unwalked(fault: Fault, head: DescriptorNumber) -> Taken
+    ensures { result ≡ record { form = Unwalked fault; head = head; request = no_ranges; reply = no_ranges } }
+{
+    Taken {
+        form: Form::Unwalked(fault),
+        head,
+        request: Ranges::none(),
+        reply: Ranges::none(),
+    }
 }
 
 // An entry that is taken, its ranges put into the list.
@@ -113,30 +105,18 @@ pub fn arrive(m: &[u8], list: &mut [u64], q: LineQueue, head: DescriptorNumber) 
     ensures { (arrival_in list.new result ≡ arrival_of (virtqueue_of q) m.now head.0)
         × FitArrival (length m.now) list.new result }
 {
-    let walked = walk(m, list, q, head);
-    let end = walked.end;
-    if let End::Faulted(fault) = end {
-        return Arrival::AtOnce(Taken {
-            form: Form::Unwalked(fault),
-            head: head,
-            request: Ranges::none(),
-            reply: Ranges::none(),
-        });
-    }
-    let chain = walked.chain;
-    let request = chain.request;
-    let reply = chain.reply;
-    match place_of(m, list, q, request) {
-        Place::InLine(line) => Arrival::InLine(line),
-        Place::Nowhere => {
-            let form = form_by(m, list, reply, false);
-            Arrival::AtOnce(Taken {
-                form: form,
-                head: head,
-                request: request,
-                reply: reply,
-            })
-        }
+    let chain = match walk(m, list, q, head) {
+        Ok(chain) => chain,
+        Err(fault) => return Arrival::AtOnce(unwalked(fault, head)),
+    };
+    match place_of(m, list, q, chain.request) {
+        Some(line) => Arrival::InLine(line),
+        None => Arrival::AtOnce(Taken {
+            form: form_by(m, list, chain.reply, false),
+            head,
+            request: chain.request,
+            reply: chain.reply,
+        }),
     }
 }
 
@@ -146,37 +126,26 @@ pub fn read(m: &[u8], list: &mut [u64], q: LineQueue, line: u32, head: Descripto
     ensures { (taking_in list.new result ≡ reading_of (virtqueue_of q) line m.now head.0)
         × FitTaken (length m.now) list.new result }
 {
-    let walked = walk(m, list, q, head);
-    let end = walked.end;
-    if let End::Faulted(fault) = end {
-        return Taken {
-            form: Form::Unwalked(fault),
-            head: head,
-            request: Ranges::none(),
-            reply: Ranges::none(),
-        };
-    }
-    let chain = walked.chain;
-    let request = chain.request;
-    let reply = chain.reply;
-    let sound = is_of_line(m, list, q, line, request, reply.bytes);
+    let chain = match walk(m, list, q, head) {
+        Ok(chain) => chain,
+        Err(fault) => return unwalked(fault, head),
+    };
+    let sound = is_of_line(m, list, q, line, chain.request, chain.reply.bytes);
     Taken {
-        form: form_by(m, list, reply, sound),
-        head: head,
-        request: request,
-        reply: reply,
+        form: form_by(m, list, chain.reply, sound),
+        head,
+        request: chain.request,
+        reply: chain.reply,
     }
 }
 
 // The status of a chain that is ill-formed.
-fn status_of(form: Form) -> Status
-    ensures { status_in result ≡ own_status (form_in form) }
+fn status_of(form: Form) -> Option<u32>
+    ensures { result ≡ own_status (form_in form) }
 {
     match form {
-        Form::Refused => Status::Code(message::IO_ERR),
-        Form::WellFormed => Status::Nothing,
-        Form::Silent => Status::Nothing,
-        Form::Unwalked(_) => Status::Nothing,
+        Form::Refused => Some(message::IO_ERR),
+        Form::WellFormed | Form::Silent | Form::Unwalked(_) => None,
     }
 }
 
@@ -186,9 +155,14 @@ pub fn refuse(m: &mut [u8], list: &[u64], q: LineQueue, completed: u16, taken: T
     ensures { completion m.new result
         ≡ refused_of (virtqueue_of q) m.old completed (taking_in list.now taken) }
 {
-    let queue = q.queue;
-    let form = taken.form;
-    let head = taken.head;
-    let reply = taken.reply;
-    message::answer(m, list, queue, completed, head, reply, status_of(form), 0)
+    message::answer(
+        m,
+        list,
+        q.queue,
+        completed,
+        taken.head,
+        taken.reply,
+        status_of(taken.form),
+        0,
+    )
 }

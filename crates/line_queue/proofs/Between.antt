@@ -1,9 +1,10 @@
 -- What holds between calls holds after a job: the rules keep it.
+use Rattle.std.specs.Prelude.{Result, Option, Ok, Err, Some, None}
+use Rattle.ring.specs.declared.Cause.{Cause}
 use Rattle.std.proofs.Common.{◌≡◌, ℕ, ◌<◌, List, [], length, arith}
 use Rattle.flow.specs.declared.Job.{Job}
 use Rattle.flow.specs.declared.Job.TheVariants.{Transfer, Release}
 use Rattle.registers.proofs.Keeps.{by_cond}
-use Rattle.ring.specs.declared.Check.{Check}
 use Rattle.device.specs.Answers.{going}
 use Rattle.device.specs.Transfer.{Run, begun}
 use Rattle.queue_lines.specs.Chains.{Virtqueue}
@@ -41,11 +42,11 @@ module _ (v : Virtqueue) (i : ℕ) (there : i < v.streams) where
       let u : Kept 0 s = record { counted = taking-counted v n r k.counted; fine = taking-fine v n r k.fine } in
       by_cond (Kept 0) (going s.stop) (λ e. times-keeps (Kept 0) step keeps ((card v).queued i s.queue) s u) (λ e. u)
 
-  found-kept : (run : ℕ → Run Queue → Run Queue) (r : Run Queue) → ((n : ℕ) → Kept n r → Kept 0 (run n r)) → (c : Check)
+  found-kept : (run : ℕ → Run Queue → Run Queue) (r : Run Queue) → ((n : ℕ) → Kept n r → Kept 0 (run n r)) → (c : Result (Option ℕ) Cause)
       → Room v r.queue c → Kept 0 r → Kept 0 (on_found (card v) v run r c)
-  found-kept run r keeps Check.Idle room k = k
-  found-kept run r keeps (Check.Broken cause) room k = record { counted = k.counted; fine = k.fine }
-  found-kept run r keeps (Check.New n) room k =
+  found-kept run r keeps (Ok None) room k = k
+  found-kept run r keeps (Err cause) room k = record { counted = k.counted; fine = k.fine }
+  found-kept run r keeps (Ok (Some n)) room k =
       let c = k.counted in
       keeps n (record {
         counted = record { wraps = c.wraps; balanced = c.balanced; few = room; lines = c.lines };

@@ -1,12 +1,12 @@
 -- In all lines together are as many messages as were taken and not completed: the rules keep it.
+use Rattle.std.specs.Prelude.{Option, Result, Ok, Err, Some, None}
+use Rattle.ring.specs.declared.Cause.{Cause}
+use Rattle.counts.specs.declared.DescriptorNumber.{DescriptorNumber}
 use Rattle.std.proofs.Common.{◌≡◌, ℕ, zero, suc, ◌+◌, ◌-◌, ◌%◌, ◌<◌, ◌≤◌, eqb, ltb, List, [], ◌∷◌, ◌++◌, length, get_or, take, drop, set}
 use Rattle.std.proofs.Common.{refl, ◌∙◌, arith, length-append, length-set, get_or-set_same, ltb-false}
-use mathlib.Core.Option.{Option, none, some}
 use Rattle.registers.proofs.Keeps.{by_cond}
 use Rattle.ring.specs.Layout.{end_at}
 use Rattle.ring.specs.Rules.{base_of, index_of, found_of, head_at, new_of}
-use Rattle.ring.specs.declared.Check.{Check}
-use Rattle.ring.specs.declared.Head.{Head}
 use Rattle.device.specs.Answers.{going}
 use Rattle.device.specs.Counters.{further}
 use Rattle.device.specs.Device.{Direction, output, input, queue_number, Taking, Message, Ending, released, finished, ill_formed}
@@ -100,9 +100,9 @@ module _ (v : Virtqueue) where
         lines = k.lines;
       }
 
-  met-counted : (n : ℕ) (h : Head) (r : Run Queue) → Counted (suc n) r.queue → Counted n (met (card v) v h r).queue
-  met-counted n (Head.At d) r k = taken-counted n d.0 (arrival_of v r.mem d.0) r (arrival-fits v r.mem d.0) k
-  met-counted n (Head.Broken cause) r k = fewer n r.queue k
+  met-counted : (n : ℕ) (h : Result DescriptorNumber Cause) (r : Run Queue) → Counted (suc n) r.queue → Counted n (met (card v) v h r).queue
+  met-counted n (Ok d) r k = taken-counted n d.0 (arrival_of v r.mem d.0) r (arrival-fits v r.mem d.0) k
+  met-counted n (Err cause) r k = fewer n r.queue k
 
   next-counted : (n : ℕ) (r : Run Queue) → Counted (suc n) r.queue → Counted n (next (card v) v r).queue
   unfolding next
@@ -116,10 +116,10 @@ module _ (v : Virtqueue) where
   taking-counted (suc n) r k = taking-counted n (next (card v) v r) (next-counted n r k)
 
   -- the check lets no more be taken than there is room for
-  abbrev pub Room : Queue → Check → Type 0
-  Room q Check.Idle = Unit {0}
-  Room q (Check.Broken cause) = Unit {0}
-  Room q (Check.New n) = total q + n ≤ queue_size v
+  abbrev pub Room : Queue → Result (Option ℕ) Cause → Type 0
+  Room q (Ok None) = Unit {0}
+  Room q (Err cause) = Unit {0}
+  Room q (Ok (Some n)) = total q + n ≤ queue_size v
 
   pub room-found : (q : Queue) (m : List ℕ) → Room q (found (card v) v q m)
   unfolding found_of
@@ -137,28 +137,28 @@ module _ (v : Virtqueue) where
     here : (q : Queue) (x : Line) → Counted 0 q → get_or (set q.lines i x) i no_line ≡ x
     here q x k = get_or-set_same q.lines i x no_line (rw k.lines there)
 
-    completed-counted : (e : Ending) (w : Message) (r : Run Queue) → (line_in i r.queue).begun ≡ some w → Counted 0 r.queue
+    completed-counted : (e : Ending) (w : Message) (r : Run Queue) → (line_in i r.queue).begun ≡ Some w → Counted 0 r.queue
         → Counted 0 (completed (card v) v i e w r).queue
     unfolding completed posted
     completed-counted e w r busy k =
         let l = line_in i r.queue in
-        ended 0 i r.queue there (record { begun = none; heads = l.heads }) k (rw busy (omega arith))
+        ended 0 i r.queue there (record { begun = None; heads = l.heads }) k (rw busy (omega arith))
 
-    moved-counted : (w : Message) (xs : List ℕ) (r : Run Queue) → (line_in i r.queue).begun ≡ some w → Counted 0 r.queue
+    moved-counted : (w : Message) (xs : List ℕ) (r : Run Queue) → (line_in i r.queue).begun ≡ Some w → Counted 0 r.queue
         → Counted 0 (moved (card v) v i xs r).queue
     unfolding moved
     moved-counted w xs r busy k =
         let l = line_in i r.queue in
         altered 0 i r.queue there (record { begun = further (length xs) l.begun; heads = l.heads }) k (rw busy)
 
-    moved-busy : (w : Message) (xs : List ℕ) (r : Run Queue) → (line_in i r.queue).begun ≡ some w → Counted 0 r.queue
-        → (line_in i (moved (card v) v i xs r).queue).begun ≡ some (onward (length xs) w)
+    moved-busy : (w : Message) (xs : List ℕ) (r : Run Queue) → (line_in i r.queue).begun ≡ Some w → Counted 0 r.queue
+        → (line_in i (moved (card v) v i xs r).queue).begun ≡ Some (onward (length xs) w)
     unfolding moved
     moved-busy w xs r busy k =
         let l = line_in i r.queue in
         rw (here r.queue (record { begun = further (length xs) l.begun; heads = l.heads }) k, busy)
 
-    worked-counted : (w : Message) (r : Run Queue) → (line_in i r.queue).begun ≡ some w → Counted 0 r.queue
+    worked-counted : (w : Message) (r : Run Queue) → (line_in i r.queue).begun ≡ Some w → Counted 0 r.queue
         → Counted 0 (worked (card v) v i w r).queue
     unfolding worked
     worked-counted w r busy k =
@@ -169,25 +169,25 @@ module _ (v : Virtqueue) where
 
     -- what is done with a message in work keeps the count
     module _ (go : Message → Run Queue → Run Queue)
-        (keeps : (w : Message) (r : Run Queue) → (line_in i r.queue).begun ≡ some w → Counted 0 r.queue
+        (keeps : (w : Message) (r : Run Queue) → (line_in i r.queue).begun ≡ Some w → Counted 0 r.queue
         → Counted 0 (go w r).queue) where
-      opened-counted : (head : ℕ) (heads : List ℕ) (t : Taking) (r : Run Queue) → (line_in i r.queue).begun ≡ none
+      opened-counted : (head : ℕ) (heads : List ℕ) (t : Taking) (r : Run Queue) → (line_in i r.queue).begun ≡ None
           → (line_in i r.queue).heads ≡ head ∷ heads → Counted 0 r.queue → Counted 0 (opened (card v) v i go t r).queue
       unfolding opened
       opened-counted head heads t r idle e k =
           let q = r.queue in
-          let x : Line = record { begun = some (fresh t); heads = drop 1 (line_in i q).heads } in
+          let x : Line = record { begun = Some (fresh t); heads = drop 1 (line_in i q).heads } in
           let u = altered 0 i q there x k (rw (idle, e) (omega arith)) in
-          let busy : (get_or (set q.lines i x) i no_line).begun ≡ some (fresh t) = rw (here q x k) in
+          let busy : (get_or (set q.lines i x) i no_line).begun ≡ Some (fresh t) = rw (here q x k) in
           by_cond (λ (s : Run Queue). Counted 0 s.queue) (is_well t.form) (λ w. keeps (fresh t) _ busy u)
           (λ w. completed-counted ill_formed (fresh t) _ busy u)
 
       front-counted : (b : Option Message) (heads : List ℕ) (r : Run Queue) → (line_in i r.queue).begun ≡ b
           → (line_in i r.queue).heads ≡ heads → Counted 0 r.queue
           → Counted 0 (on_front (card v) v i go (front_of b heads) r).queue
-      front-counted (some w) heads r busy e k = keeps w r busy k
-      front-counted none [] r idle e k = k
-      front-counted none (head ∷ heads) r idle e k = opened-counted head heads (reading_of v i r.mem head) r idle e k
+      front-counted (Some w) heads r busy e k = keeps w r busy k
+      front-counted None [] r idle e k = k
+      front-counted None (head ∷ heads) r idle e k = opened-counted head heads (reading_of v i r.mem head) r idle e k
 
     pub transfer-counted : (r : Run Queue) → Counted 0 r.queue → Counted 0 (transfer_step (card v) v i r).queue
     unfolding transfer_step

@@ -1,13 +1,14 @@
 -- The messages of all lines have heads of the table, and something of each message in work waits: the rules keep it.
+use Rattle.std.specs.Prelude.{Option, None, Some, Result, Ok, Err}
+use Rattle.ring.specs.declared.Cause.{Cause}
+use Rattle.counts.specs.declared.DescriptorNumber.{DescriptorNumber}
 use Rattle.std.proofs.Common.{◌≡◌, ℕ, ◌+◌, ◌<◌, false, ltb, List, [], ◌∷◌, ◌++◌, length, get_or, take, drop, set, sym, refl, ap, ◌∙◌}
 use Rattle.std.proofs.Common.{length-set, get_or-set_same, drop-drop, set-set, ltb-true}
-use mathlib.Core.Option.{Option, none, some}
 use Rattle.counts.specs.declared.PageNumber.{PageNumber}
 use Rattle.memory.specs.Bytes.{le}
 use Rattle.registers.proofs.Keeps.{by_cond}
 use Rattle.ring.specs.Layout.{ring_place_at}
 use Rattle.ring.specs.Rules.{base_of, head_at}
-use Rattle.ring.specs.declared.Head.{Head}
 use Rattle.device.specs.Account.{Each}
 use Rattle.device.specs.Answers.{going}
 use Rattle.device.specs.Counters.{further}
@@ -29,9 +30,9 @@ each_more P [] x e p = (p, tt)
 each_more P (y ∷ l) x e p = (e.0, each_more P l x e.1 p)
 
 -- a head that is met is one of the table
-abbrev Below : ℕ → Head → Type 0
-Below N (Head.At n) = n.0 < N
-Below N (Head.Broken cause) = Unit {0}
+abbrev Below : ℕ → Result DescriptorNumber Cause → Type 0
+Below N (Ok n) = n.0 < N
+Below N (Err cause) = Unit {0}
 
 head-below : (m : List ℕ) (page : PageNumber) (N place : ℕ) → Below N (head_at m page N place)
 unfolding head_at
@@ -56,9 +57,9 @@ module _ (v : Virtqueue) where
       (λ l p. record { begun = p.begun; heads = each_more InTable l.heads head p.heads h }) r.queue.lines i j (f j)
   taken_fine head (at_once t) r h f j = f j
 
-  met-fine : (h : Head) (r : Run Queue) → Below (queue_size v) h → Fine r.queue → Fine (met (card v) v h r).queue
-  met-fine (Head.At n) r h f = taken_fine n.0 (arrival_of v r.mem n.0) r h f
-  met-fine (Head.Broken cause) r h f = f
+  met-fine : (h : Result DescriptorNumber Cause) (r : Run Queue) → Below (queue_size v) h → Fine r.queue → Fine (met (card v) v h r).queue
+  met-fine (Ok n) r h f = taken_fine n.0 (arrival_of v r.mem n.0) r h f
+  met-fine (Err cause) r h f = f
 
   next-fine : (r : Run Queue) → Fine r.queue → Fine (next (card v) v r).queue
   unfolding next
@@ -93,12 +94,12 @@ module _ (v : Virtqueue) where
     -- a message in work on this line, and those behind it
     record Busy (w : Message) (q : Queue) : Type 0 where
       near : Near q
-      begun : (line_in i q).begun ≡ some w
+      begun : (line_in i q).begun ≡ Some w
       heads : Each InTable (line_in i q).heads
       well : w.taking.form ≡ well_formed
       head : InTable w.taking.head
 
-    ended-fit : (heads : List ℕ) → Each InTable heads → FitIn v (record { begun = none; heads = heads })
+    ended-fit : (heads : List ℕ) → Each InTable heads → FitIn v (record { begun = None; heads = heads })
     ended-fit heads e = record { begun = λ w b. absurd (none-some w b); heads = e }
 
     completed-fine : (e : Ending) (w : Message) (r : Run Queue) → Near r.queue → Each InTable (line_in i r.queue).heads
@@ -154,7 +155,7 @@ module _ (v : Virtqueue) where
       unfolding opened
       opened-fine head heads t r there named e f =
           let q = r.queue in
-          let x : Line = record { begun = some (fresh t); heads = drop 1 (line_in i q).heads } in
+          let x : Line = record { begun = Some (fresh t); heads = drop 1 (line_in i q).heads } in
           let n = fine-near q there f in
           let all : Each InTable (head ∷ heads) = rw e at (f i).heads in
           let behind : Each InTable (drop 1 (line_in i q).heads) = rw e all.1 in
@@ -172,11 +173,11 @@ module _ (v : Virtqueue) where
 
       front-fine : (b : Option Message) (heads : List ℕ) (r : Run Queue) → i < length r.queue.lines → (line_in i r.queue).begun ≡ b
           → (line_in i r.queue).heads ≡ heads → Fine r.queue → Fine (on_front (card v) v i go (front_of b heads) r).queue
-      front-fine (some w) heads r there busy e f =
+      front-fine (Some w) heads r there busy e f =
           let g = (f i).begun w busy in
           keeps w r (record { near = fine-near r.queue there f; begun = busy; heads = (f i).heads; well = g.1.well; head = g.0 })
-      front-fine none [] r there idle e f = f
-      front-fine none (head ∷ heads) r there idle e f =
+      front-fine None [] r there idle e f = f
+      front-fine None (head ∷ heads) r there idle e f =
           opened-fine head heads (reading_of v i r.mem head) r there (reading-head v i r.mem head) e f
 
     pub transfer-fine : (r : Run Queue) → i < length r.queue.lines → Fine r.queue → Fine (transfer_step (card v) v i r).queue

@@ -1,7 +1,7 @@
 -- The line of a slot and the queue of the words, as a job finds and leaves them.
+use Rattle.std.specs.Prelude.{Result, Option, Ok, Err, Some, None}
 use Rattle.std.proofs.Common.{◌≡◌, ℕ, ◌+◌, ◌-◌, ◌%◌, ◌<◌, ◌≤◌, Bool, true, false, cond, eqb, List, length, get_or, set, sym, refl, ap}
 use Rattle.std.proofs.Common.{◌∙◌, arith, eqb-true}
-use mathlib.Core.Option.{none, some}
 use native.Mathlib.Nat.{sub-zero}
 use borrow.Author.Tests.{eqb-false}
 use lib.Seq.{set-get_or}
@@ -14,8 +14,6 @@ use Rattle.marks.specs.Marks.{message_in, line_in}
 use Rattle.message.specs.Work.{taking_of_message, message_of}
 use Rattle.ring.specs.Rules.{check_of}
 use Rattle.ring.specs.declared.Cause.{Cause}
-use Rattle.ring.specs.declared.Check.{Check}
-use Rattle.ring.specs.declared.Stop.{Stop}
 use Rattle.device.specs.Answers.{going}
 use Rattle.device.specs.Device as device
 use Rattle.device.specs.Transfer.{Run, begun}
@@ -43,7 +41,7 @@ use Rattle.line_queue.proofs.Lent.{found-lent}
 begun-count : (ws : List ℕ) (message : Message) → message.count ≤ 1 → if_begun (message_of ws message) ≡ message.count
 begun-count ws message h = by (eqb message.count 0) refl where
   by : (b : Bool) → eqb message.count 0 ≡ b
-      → if_begun (cond b none (some (record { taking = taking_of_message ws message; done = message.done }))) ≡ message.count
+      → if_begun (cond b None (Some (record { taking = taking_of_message ws message; done = message.done }))) ≡ message.count
   by true e = sym (eqb-true message.count 0 e)
   by false e = let n = eqb-false message.count 0 e in omega (arith, n)
 
@@ -113,13 +111,13 @@ module _ (v : Virtqueue) (i : ℕ) (job : Job) (ws m host : List ℕ) (p : Progr
     abbrev slot : List ℕ
     slot = slot_of (slot_words (queue_size v)) ws i
 
-    going-line : p.stop ≡ Stop.Going
+    going-line : p.stop ≡ None
         → times (job_step job v i) (length_of (line_of slot)) (run_in v ws p m host)
         ≡ line_run (card v) v i (job_step job v i) (run_in v ws p m host)
     unfolding run_with
     going-line h = rw (h, line_at (queue_size v) v.streams ws i there)
 
-    pub works-line : p.stop ≡ Stop.Going → (ys m' host' : List ℕ) (r : Progress) → length ys ≡ slot_words (queue_size v)
+    pub works-line : p.stop ≡ None → (ys m' host' : List ℕ) (r : Progress) → length ys ≡ slot_words (queue_size v)
         → WorksSlot v i job slot m host p ys m' host' r
         → WorksLine v i job ws m host p (with_slot (slot_words (queue_size v)) i ws ys) m' host' r
     works-line h ys m' host' r l w =
@@ -148,7 +146,7 @@ module _ (v : Virtqueue) (i : ℕ) (ws m host : List ℕ) (c : Counters) where
   unfolding run_with queue_in
   begun-run = rw sub-zero
 
-  pub ran-found : (job : Job) (k : Check) → found (card v) v (queue_in v ws c) m ≡ k
+  pub ran-found : (job : Job) (k : Result (Option ℕ) Cause) → found (card v) v (queue_in v ws c) m ≡ k
       → on_found (card v) v (job_run job v i) (run_in v ws (fresh c) m host) k ≡ ran_of job v i (queue_in v ws c) m host
   unfolding transferred transfer_run emptied release_run
   ran-found Transfer k e = rw (begun-run, e)
@@ -165,7 +163,7 @@ module _ (v : Virtqueue) (i : ℕ) (ws m host : List ℕ) (c : Counters) where
   unfolding queue_in
   found-by n b e = rw (e, b.balanced)
 
-  pub room-new : (n : ℕ) → found (card v) v (queue_in v ws c) m ≡ Check.New n
+  pub room-new : (n : ℕ) → found (card v) v (queue_in v ws c) m ≡ Ok (Some n)
       → sum_of length_of (lines_of (queue_size v) v.streams ws) + n ≤ queue_size v
   unfolding queue_in
   room-new n e = rw e at (room-found v (queue_in v ws c) m)
@@ -181,15 +179,15 @@ module _ (v : Virtqueue) (i : ℕ) (ws m host : List ℕ) (c : Counters) where
         rw (ap (λ (x : Run Queue). x.queue) e)
         (ran-between v i there (queue_in v ws c) (lines_long (queue_size v) v.streams ws) fit.between job m host)
 
-    pub ran-idle : found (card v) v (queue_in v ws c) m ≡ Check.Idle → Ran v i job ws m host c ws m host (fresh c)
+    pub ran-idle : found (card v) v (queue_in v ws c) m ≡ (Ok None) → Ran v i job ws m host c ws m host (fresh c)
     ran-idle e =
-        record { run = ran-found job Check.Idle e; fit = fit; inside = omega arith; long = refl; host-long = refl; read = λ d. refl }
+        record { run = ran-found job (Ok None) e; fit = fit; inside = omega arith; long = refl; host-long = refl; read = λ d. refl }
 
-    pub ran-broken : (cause : Cause) → found (card v) v (queue_in v ws c) m ≡ Check.Broken cause
+    pub ran-broken : (cause : Cause) → found (card v) v (queue_in v ws c) m ≡ Err cause
         → Ran v i job ws m host c ws m host (halted cause (fresh c))
     ran-broken cause e =
         record {
-          run = halted-run cause ∙ ran-found job (Check.Broken cause) e;
+          run = halted-run cause ∙ ran-found job (Err cause) e;
           fit = fit;
           inside = omega arith;
           long = refl;
@@ -197,13 +195,13 @@ module _ (v : Virtqueue) (i : ℕ) (ws m host : List ℕ) (c : Counters) where
           read = λ d. refl;
         }
 
-    pub ran-new : (n : ℕ) → found (card v) v (queue_in v ws c) m ≡ Check.New n → (ws₁ m₁ : List ℕ) (p : Progress)
+    pub ran-new : (n : ℕ) → found (card v) v (queue_in v ws c) m ≡ Ok (Some n) → (ws₁ m₁ : List ℕ) (p : Progress)
         → Takes v (taking_run (card v) v n) ws m (fresh c) ws₁ m₁ p → (ws' m' host' : List ℕ) (r : Progress)
         → WorksLine v i job ws₁ m₁ host p ws' m' host' r
         → Ran v i job ws m host c ws' m' host' r
     ran-new n e ws₁ m₁ p t ws' m' host' r w =
         let same : run_in v ws' r m' host' ≡ ran_of job v i (queue_in v ws c) m host =
-        w.run ∙ ap (line_run (card v) v i (job_step job v i)) (t.run host) ∙ ran-found job (Check.New n) e in
+        w.run ∙ ap (line_run (card v) v i (job_step job v i)) (t.run host) ∙ ran-found job (Ok (Some n)) e in
         record {
           run = same;
           fit = record { slots = rw t.long at w.fit; between = left-between ws' m' host' r same };

@@ -1,8 +1,9 @@
 -- A Release does the same whatever host is lent, and leaves it as it is.
+use Rattle.std.specs.Prelude.{Result, Option, Ok, Err, Some, None}
+use Rattle.ring.specs.declared.Cause.{Cause}
+use Rattle.counts.specs.declared.DescriptorNumber.{DescriptorNumber}
 use Rattle.std.proofs.Common.{◌≡◌, ℕ, List, refl, ap, ◌∙◌}
 use Rattle.ring.specs.Rules.{head_at}
-use Rattle.ring.specs.declared.Check.{Check}
-use Rattle.ring.specs.declared.Head.{Head}
 use Rattle.device.specs.Answers.{going}
 use Rattle.device.specs.Device.{Taking, released}
 use Rattle.device.specs.Transfer.{Run, is_well}
@@ -21,9 +22,9 @@ module _ (v : Virtqueue) (host : List ℕ) where
   taken-lent head (in_line j) r = refl
   taken-lent head (at_once t) r = refl
 
-  met-lent : (h : Head) (r : Run Queue) → met (card v) v h (lent host r) ≡ lent host (met (card v) v h r)
-  met-lent (Head.At n) r = taken-lent n.0 (arrival_of v r.mem n.0) r
-  met-lent (Head.Broken cause) r = refl
+  met-lent : (h : Result DescriptorNumber Cause) (r : Run Queue) → met (card v) v h (lent host r) ≡ lent host (met (card v) v h r)
+  met-lent (Ok n) r = taken-lent n.0 (arrival_of v r.mem n.0) r
+  met-lent (Err cause) r = refl
 
   next-lent : (r : Run Queue) → next (card v) v (lent host r) ≡ lent host (next (card v) v r)
   unfolding next
@@ -66,8 +67,8 @@ module _ (v : Virtqueue) (host : List ℕ) where
     unfolding release_run
     release-lent n r = ap (line_run (card v) v i (release_step (card v) v i)) (taking-lent n r) ∙ line-lent (taking_run (card v) v n r)
 
-    pub found-lent : (k : Check) (r : Run Queue)
+    pub found-lent : (k : Result (Option ℕ) Cause) (r : Run Queue)
         → on_found (card v) v (release_run (card v) v i) (lent host r) k ≡ lent host (on_found (card v) v (release_run (card v) v i) r k)
-    found-lent Check.Idle r = refl
-    found-lent (Check.Broken cause) r = refl
-    found-lent (Check.New n) r = release-lent n r
+    found-lent (Ok None) r = refl
+    found-lent (Err cause) r = refl
+    found-lent (Ok (Some n)) r = release-lent n r

@@ -1,6 +1,5 @@
 -- What holds of a stream queue with lines between calls.
-use Rattle.std.specs.Prelude.{◌≡◌, ℕ, ◌+◌, ◌-◌, ◌%◌, ◌<◌, ◌≤◌, List}
-use Rattle.std.proofs.Math.Option.{some}
+use Rattle.std.specs.Prelude.{Some, ◌≡◌, ℕ, ◌+◌, ◌-◌, ◌%◌, ◌<◌, ◌≤◌, List}
 use Rattle.card.specs.declared.Counters.{Counters}
 use Rattle.queue_lines.specs.Chains.{Virtqueue, queue_size}
 use Rattle.device.specs.Account.{Each}
@@ -11,7 +10,7 @@ use Rattle.line_words.specs.Slots.{queue_in, FitSlots}
 
 -- a line: its message in work has a head of the table, and something of its payload waits; the heads behind it are of the table too
 pub record FitIn (v : Virtqueue) (l : Line) : Type 0 where
-  pub begun : (w : rules.Message) → l.begun ≡ some w → (w.taking.head < queue_size v) × Waits v.direction w
+  pub begun : (w : rules.Message) → l.begun ≡ Some w → (w.taking.head < queue_size v) × Waits v.direction w
   pub heads : Each (λ (head : ℕ). head < queue_size v) l.heads
 
 -- as the rules keep it

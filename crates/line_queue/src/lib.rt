@@ -15,24 +15,21 @@ use line_chains::LineQueue;
 pub use line_taking::Progress;
 use line_words::{MARKS, RING};
 use line_work::Front;
-use ring::{Check, Stop};
 use waiting::Line;
 
 // The front of a line, from its marks.
 fn front_of(p: Progress, message: Message, line: Line) -> Front
     ensures { result ≡ front_in p message line }
 {
-    let counters = p.counters;
-    let stop = p.stop;
     Front {
         flow: Flow {
-            counters: counters,
-            message: message,
+            counters: p.counters,
+            message,
             moved: p.moved,
-            stop: stop,
+            stop: p.stop,
             signal: p.signal,
         },
-        line: line,
+        line,
     }
 }
 
@@ -40,12 +37,10 @@ fn front_of(p: Progress, message: Message, line: Line) -> Front
 fn progress_of(f: Flow) -> Progress
     ensures { result ≡ progress_of f }
 {
-    let counters = f.counters;
-    let stop = f.stop;
     Progress {
-        counters: counters,
+        counters: f.counters,
         moved: f.moved,
-        stop: stop,
+        stop: f.stop,
         signal: f.signal,
     }
 }
@@ -68,11 +63,9 @@ fn work_slot(
     let waiting = marks::line(&slot[MARKS..RING]);
     let front = front_of(p, message, waiting);
     let done = line_work::work_line(m, slot, host, q, front, line, job);
-    let flow = done.flow;
-    let left = done.line;
-    marks::store(&mut slot[MARKS..RING], flow.message);
-    marks::store_line(&mut slot[MARKS..RING], left);
-    progress_of(flow)
+    marks::store(&mut slot[MARKS..RING], done.flow.message);
+    marks::store_line(&mut slot[MARKS..RING], done.line);
+    progress_of(done.flow)
 }
 
 // The line of a stream worked, unless the queue broke.
@@ -89,8 +82,7 @@ fn work_words(
     ensures { WorksLine (virtqueue_of q) line job words.old m.old host.old p
         words.new m.new host.new result }
 {
-    let stop = p.stop;
-    let Stop::Going = stop else {
+    let None = p.stop else {
         return p;
     };
     let size = line_words::slot_words(q);
@@ -113,19 +105,14 @@ pub fn run(
     ensures { Ran (virtqueue_of q) line job words.old m.old host.old counters
         words.new m.new host.new result }
 {
-    let queue = q.queue;
-    let direction = queue.direction;
-    let size = message::queue_size(direction);
-    let in_line = std::num::wrapping_sub_u16(counters.taken, counters.completed);
-    match ring::check_queue(m, queue.page, size, counters.taken, in_line) {
-        Check::Idle => line_taking::begin(counters),
-        Check::Broken(cause) => {
-            let p = line_taking::begin(counters);
-            line_taking::halt(p, cause)
-        }
-        Check::New(new) => {
+    let size = message::queue_size(q.queue.direction);
+    let in_line = counters.taken.wrapping_sub(counters.completed);
+    match ring::check_queue(m, q.queue.page, size, counters.taken, in_line) {
+        Ok(Some(new)) => {
             let p = line_taking::take_all(m, words, q, counters, new);
             work_words(m, words, host, q, p, line, job)
         }
+        Ok(None) => line_taking::begin(counters),
+        Err(cause) => line_taking::halt(line_taking::begin(counters), cause),
     }
 }

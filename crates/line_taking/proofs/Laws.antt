@@ -1,10 +1,9 @@
 -- An entry taken, in the rules' terms; the lines that it can join, and how many are then in line.
+use Rattle.std.specs.Prelude.{Result, Ok, Err, None}
 use Rattle.std.proofs.Common.{◌≡◌, ℕ, zero, suc, ◌+◌, ◌-◌, ◌<◌, ◌≤◌, false, List, [], ◌∷◌, ◌++◌, length, get_or, take, drop, set, refl}
 use Rattle.std.proofs.Common.{ap, arith, length-append, length-drop, length-take}
 use Rattle.ring.specs.Rules.{head_at, head_of}
 use Rattle.ring.specs.declared.Cause.{Cause}
-use Rattle.ring.specs.declared.Head.{Head}
-use Rattle.ring.specs.declared.Stop.{Stop}
 use Rattle.counts.specs.declared.DescriptorNumber.{DescriptorNumber}
 use Rattle.marks.specs.Marks as marks
 use Rattle.message.specs.Message.{answered_of}
@@ -55,13 +54,13 @@ module _ (v : Virtqueue) (ws m host : List ℕ) (p : Progress) where
   unfolding run_with next
   next-none h = rw h
 
-  module _ (h : p.stop ≡ Stop.Going) where
-    pub next-taken : (n : DescriptorNumber) → head_of m v.page (queue_size v) p.counters.taken ≡ Head.At n
+  module _ (h : p.stop ≡ None) where
+    pub next-taken : (n : DescriptorNumber) → head_of m v.page (queue_size v) p.counters.taken ≡ Ok n
         → next (card v) v (run_in v ws p m host) ≡ taken (card v) v n.0 (arrival_of v m n.0) (run_in v ws p m host)
     unfolding run_with next
     next-taken n e = rw (h, e)
 
-    pub next-broken : (cause : Cause) → head_of m v.page (queue_size v) p.counters.taken ≡ Head.Broken cause
+    pub next-broken : (cause : Cause) → head_of m v.page (queue_size v) p.counters.taken ≡ Err cause
         → run_in v ws (halted cause p) m host ≡ next (card v) v (run_in v ws p m host)
     unfolding run_with next
     next-broken cause e = rw (h, e)
@@ -98,9 +97,9 @@ module _ (v : Virtqueue) where
       (rw more (omega arith))
   taken-sum head (at_once t) r = omega arith
 
-  met-sum : (h : Head) (r : Run Queue) → in_lines (met (card v) v h r) ≤ in_lines r + 1
-  met-sum (Head.At n) r = taken-sum n.0 (arrival_of v r.mem n.0) r
-  met-sum (Head.Broken cause) r = omega arith
+  met-sum : (h : Result DescriptorNumber Cause) (r : Run Queue) → in_lines (met (card v) v h r) ≤ in_lines r + 1
+  met-sum (Ok n) r = taken-sum n.0 (arrival_of v r.mem n.0) r
+  met-sum (Err cause) r = omega arith
 
   -- an entry taken is at most one more
   pub next-sum : (r : Run Queue) → in_lines (next (card v) v r) ≤ in_lines r + 1

@@ -1,8 +1,8 @@
 -- What a call's progress on a stream queue with lines stands for: the rules' `Run`.
+use Rattle.std.specs.Prelude.{Some, None}
 use Rattle.std.specs.Prelude.{◌≡◌, ℕ, ◌-◌, ◌<◌, false, ◌||◌, List, length, take, drop}
 use Rattle.ring.specs.Rules.{Completion}
 use Rattle.ring.specs.declared.Cause.{Cause}
-use Rattle.ring.specs.declared.Stop.{Stop}
 use Rattle.card.specs.declared.Counters.{Counters}
 use Rattle.device.specs.Device.{one_taken}
 use Rattle.device.specs.Transfer.{Run}
@@ -30,10 +30,10 @@ run_in v ws p m host = run_with (lines_of (queue_size v) v.streams ws) p m host
 
 -- a call that begins
 abbrev pub fresh : Counters → Progress
-fresh c = record { counters = c; moved = 0; stop = Stop.Going; signal = false }
+fresh c = record { counters = c; moved = 0; stop = None; signal = false }
 
 abbrev pub halted : Cause → Progress → Progress
-halted cause p = record { counters = p.counters; moved = p.moved; stop = Stop.Broke cause; signal = p.signal }
+halted cause p = record { counters = p.counters; moved = p.moved; stop = Some cause; signal = p.signal }
 
 -- an entry taken into a line
 abbrev pub joined : Progress → Progress

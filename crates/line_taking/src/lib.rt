@@ -17,14 +17,15 @@ use counts::DescriptorNumber;
 use line_chains::{Arrival, LineQueue};
 use line_words::MARKS;
 use message::Taken;
-use ring::{Cause, Head, Stop};
+use ring::Cause;
 
-// A call's progress on a queue: its counters, the host bytes moved so far, where it stands, an interrupt wanted.
+// A call's progress on a queue: its counters, the host bytes moved so far, why the queue broke, where it did, an
+// interrupt wanted.
 #[derive(Clone, Copy)]
 pub struct Progress {
     pub counters: Counters,
     pub moved: usize,
-    pub stop: Stop,
+    pub stop: Option<Cause>,
     pub signal: bool,
 }
 
@@ -33,9 +34,9 @@ pub fn begin(counters: Counters) -> Progress
     ensures { result ≡ fresh counters }
 {
     Progress {
-        counters: counters,
+        counters,
         moved: 0,
-        stop: Stop::Going,
+        stop: None,
         signal: false,
     }
 }
@@ -44,28 +45,18 @@ pub fn begin(counters: Counters) -> Progress
 pub fn halt(p: Progress, cause: Cause) -> Progress
     ensures { result ≡ halted cause p }
 {
-    let counters = p.counters;
     Progress {
-        counters: counters,
-        moved: p.moved,
-        stop: Stop::Broke(cause),
-        signal: p.signal,
+        stop: Some(cause),
+        ..p
     }
 }
 
 // An entry that joined its line.
-fn count_taken(p: Progress) -> Progress
+fn count_taken(mut p: Progress) -> Progress
     ensures { result ≡ joined p }
 {
-    let mut counters = p.counters;
-    counters.taken = std::num::wrapping_add_u16(counters.taken, 1);
-    let stop = p.stop;
-    Progress {
-        counters: counters,
-        moved: p.moved,
-        stop: stop,
-        signal: p.signal,
-    }
+    p.counters.taken = p.counters.taken.wrapping_add(1);
+    p
 }
 
 // An entry that is answered at once.
@@ -84,14 +75,12 @@ fn bounce(
 {
     let mut counters = p.counters;
     let posted = line_chains::refuse(m, list, q, counters.completed, chain);
-    counters.taken = std::num::wrapping_add_u16(counters.taken, 1);
+    counters.taken = counters.taken.wrapping_add(1);
     counters.completed = posted.completed;
-    let stop = p.stop;
     Progress {
-        counters: counters,
-        moved: p.moved,
-        stop: stop,
-        signal: flow::either(p.signal, posted.interrupt),
+        counters,
+        signal: p.signal | posted.interrupt,
+        ..p
     }
 }
 
@@ -130,17 +119,13 @@ fn take_next(
     ensures { Takes (virtqueue_of q) (next (card (virtqueue_of q)) (virtqueue_of q))
         words.old m.old p words.new m.new result }
 {
-    let stop = p.stop;
-    let Stop::Going = stop else {
+    let None = p.stop else {
         return p;
     };
-    let queue = q.queue;
-    let direction = queue.direction;
-    let size = message::queue_size(direction);
-    let counters = p.counters;
-    match ring::next_head(m, queue.page, size, counters.taken) {
-        Head::Broken(cause) => halt(p, cause),
-        Head::At(head) => take(m, words, list, q, p, head),
+    let size = message::queue_size(q.queue.direction);
+    match ring::next_head(m, q.queue.page, size, p.counters.taken) {
+        Ok(head) => take(m, words, list, q, p, head),
+        Err(cause) => halt(p, cause),
     }
 }
 
@@ -159,10 +144,8 @@ pub fn take_all(
 {
     let mut list = [0u64; MARKS];
     let mut p = begin(counters);
-    let mut left = new;
-    while 0 < left {
+    for _ in 0..new {
         p = take_next(m, words, &mut list, q, p);
-        left -= 1;
     }
     p
 }

@@ -22,9 +22,7 @@ pub const RING: usize = MARKS + marks::WORDS;
 pub fn slot_words(q: LineQueue) -> usize
     ensures { result ≡ slot_words (queue_size (virtqueue_of q)) }
 {
-    let queue = q.queue;
-    let direction = queue.direction;
-    RING + message::queue_size(direction) as usize
+    RING + message::queue_size(q.queue.direction) as usize
 }
 
 // A head more at the end of the line of a slot.
@@ -34,7 +32,7 @@ fn push(slot: &mut [u64], head: DescriptorNumber)
 {
     let line = marks::line(&slot[MARKS..RING]);
     let end = slot.len();
-    let longer = waiting::join(&mut slot[RING..end], line, head);
+    let longer = line.join(&mut slot[RING..end], head);
     marks::store_line(&mut slot[MARKS..RING], longer);
 }
 
@@ -54,9 +52,8 @@ fn vacate(slot: &mut [u64])
     requires { (79 < length slot.old) × (length slot.old ≤ 79 + 65535) }
     ensures { Vacant slot.new }
 {
-    let none = card::no_message();
-    marks::store(&mut slot[MARKS..RING], none);
-    marks::store_line(&mut slot[MARKS..RING], Line { start: 0, count: 0 });
+    marks::store(&mut slot[MARKS..RING], card::no_message());
+    marks::store_line(&mut slot[MARKS..RING], Line::empty());
 }
 
 // A line of the queue empty; the others stay.
@@ -75,9 +72,7 @@ pub fn clear(words: &mut [u64], q: LineQueue)
     requires { slot_words (queue_size (virtqueue_of q)) * q.streams ≤ length words.old }
     ensures { Cleared (virtqueue_of q) words.new }
 {
-    let mut line = 0;
-    while line < q.streams {
+    for line in 0..q.streams {
         vacate_line(words, q, line);
-        line += 1;
     }
 }

@@ -20,7 +20,7 @@ use Rattle.waiting.specs.Waiting.{heads_in, heads_from}
 use Rattle.device.specs.Device as device
 use Rattle.device.specs.Transfer.{Run, is_well, completed}
 use Rattle.queue_lines.specs.Chains.{Virtqueue, reading_of}
-use Rattle.queue_lines.specs.Counters.{Line, Queue}
+use Rattle.queue_lines.specs.Counters.{Line}
 use Rattle.queue_lines.specs.Rules.{times}
 use Rattle.queue_lines.proofs.Lists.{times-fixed}
 use Rattle.line_chains.specs.Queue.{single, refused_of}

@@ -1,8 +1,8 @@
 -- A queue with lines, seen at line i, steps as a queue with one message does.
+use Rattle.std.specs.Prelude.{Option, None, Some}
 use mathlib.Core.Path.{◌≡◌, ◌∙◌, refl, sym, ap}
 use mathlib.Core.Bool.{Bool, true, false, cond, true≢false}
 use mathlib.Core.List.{List, [], ◌∷◌}
-use mathlib.Core.Option.{Option, none, some}
 use Prim.Native.Nat.{ℕ, ◌<◌}
 use lib.Dec.{ltb}
 use lib.ListN.{length, take, drop, get_or, set}
@@ -40,12 +40,12 @@ module _ (v : Virtqueue) (lines : List Line) (i : ℕ) (there : i < length lines
   here : (l : Line) → get_or (set lines i l) i no_line ≡ l
   here l = get_or-set_same lines i l no_line there
 
-  module _ (heads : List ℕ) (w : device.Message) (r : Run device.Queue) (busy : r.queue.work ≡ some w) where
+  module _ (heads : List ℕ) (w : device.Message) (r : Run device.Queue) (busy : r.queue.work ≡ Some w) where
     completed-up : (e : device.Ending) → completed (card v) v i e w (up heads r) ≡ up heads (single-rules.completed ops (single v) e r)
     unfolding lifted completed posted single-rules.completed
     completed-up e =
         let l : Line = record { begun = r.queue.work; heads = heads } in
-        rw (here l, set-set lines i l (record { begun = none; heads = heads }), busy)
+        rw (here l, set-set lines i l (record { begun = None; heads = heads }), busy)
 
     moved_up : moved (card v) v i (take r.room (left_of (card v) v w)) (up heads r) ≡ up heads (single-rules.moved ops (single v) r)
     unfolding lifted moved single-rules.moved
@@ -68,7 +68,7 @@ module _ (v : Virtqueue) (lines : List Line) (i : ℕ) (there : i < length lines
         (sym (drop-drop (length (take r.room (left_of (card v) v w))) w.done (payload_of v.direction w.taking))
         ∙ drop-taken r.room (left_of (card v) v w))
 
-    still-busy : (single-rules.moved ops (single v) r).queue.work ≡ some (onward (length (take r.room (left_of (card v) v w))) w)
+    still-busy : (single-rules.moved ops (single v) r).queue.work ≡ Some (onward (length (take r.room (left_of (card v) v w))) w)
     unfolding single-rules.moved
     still-busy = rw busy
 
@@ -77,7 +77,7 @@ module _ (v : Virtqueue) (lines : List Line) (i : ℕ) (there : i < length lines
   job_on Transfer w s = worked (card v) v i w s
   job_on Release w s = completed (card v) v i device.released w s
 
-  module _ (heads : List ℕ) (w : device.Message) (r : Run device.Queue) (busy : r.queue.work ≡ some w) where
+  module _ (heads : List ℕ) (w : device.Message) (r : Run device.Queue) (busy : r.queue.work ≡ Some w) where
     settled_up : worked (card v) v i w (up heads r) ≡ up heads (single-rules.settled ops (single v) (single-rules.moved ops (single v) r))
     unfolding worked lifted
     settled_up =
@@ -93,7 +93,7 @@ module _ (v : Virtqueue) (lines : List Line) (i : ℕ) (there : i < length lines
     worked-up Transfer reach = settled_up ∙ ap (up heads) (rw (reach, busy))
     worked-up Release reach = completed-up heads w r busy device.released ∙ ap (up heads) (rw busy)
 
-  idle-up : (job : Job) (r : Run device.Queue) → reachable job r.room ≡ true → r.queue.work ≡ none → r ≡ job_worked job (single v) r
+  idle-up : (job : Job) (r : Run device.Queue) → reachable job r.room ≡ true → r.queue.work ≡ None → r ≡ job_worked job (single v) r
   idle-up Transfer r reach idle = rw (reach, idle)
   idle-up Release r reach idle = rw idle
 
@@ -103,7 +103,7 @@ module _ (v : Virtqueue) (lines : List Line) (i : ℕ) (there : i < length lines
   unfolding lifted
   begun-up head heads t r =
       let l : Line = record { begun = r.queue.work; heads = head ∷ heads } in
-      rw (here l, set-set lines i l (record { begun = some (fresh t); heads = heads }))
+      rw (here l, set-set lines i l (record { begun = Some (fresh t); heads = heads }))
 
   read-idle : (job : Job) (t : device.Taking) (r : Run device.Queue) → reachable job r.room ≡ true
       → single-rules.completed ops (single v) device.ill_formed (begun_run t r)
@@ -129,9 +129,9 @@ module _ (v : Virtqueue) (lines : List Line) (i : ℕ) (there : i < length lines
       → on_front (card v) v i (job_on job) (front_of work heads) (up heads r)
       ≡ (let s = open_by v i work heads r in up s.heads (job_worked job (single v) s.run))
   unfolding lifted
-  front-up job r reach (some w) heads busy = worked-up heads w r busy job reach
-  front-up job r reach none [] idle = ap (up []) (idle-up job r reach idle)
-  front-up job r reach none (head ∷ heads) idle = read_up job head heads (reading_of v i r.mem head) r reach
+  front-up job r reach (Some w) heads busy = worked-up heads w r busy job reach
+  front-up job r reach None [] idle = ap (up []) (idle-up job r reach idle)
+  front-up job r reach None (head ∷ heads) idle = read_up job head heads (reading_of v i r.mem head) r reach
 
   step-front : (job : Job) (s : Station) → reachable job s.run.room ≡ true
       → job_step job v i (lifted lines i s) ≡ on_front (card v) v i (job_on job) (front_of s.run.queue.work s.heads) (lifted lines i s)

@@ -1,7 +1,6 @@
 -- Work on the line of one stream. The code has its message in work as that of a queue with one message (`flow`), and the heads behind it;
 -- `lifted` says which run of a queue with lines this is.
-use Rattle.std.specs.Prelude.{◌≡◌, cond, ◌||◌, List, [], ◌∷◌, ℕ, ◌+◌, ◌<◌, length, set}
-use Rattle.std.proofs.Math.Option.{Option, none, some}
+use Rattle.std.specs.Prelude.{Option, None, Some, ◌≡◌, cond, ◌||◌, List, [], ◌∷◌, ℕ, ◌+◌, ◌<◌, length, set}
 use Rattle.ring.specs.Rules.{Completion}
 use Rattle.card.specs.Fit.{FitMessage}
 use Rattle.flow.specs.Flow.{run_of, FitFlow}
@@ -10,7 +9,6 @@ use Rattle.flow.specs.declared.Job.{Job}
 use Rattle.flow.specs.declared.Job.TheVariants.{Transfer, Release}
 use Rattle.message.specs.declared.Taken.{Taken}
 use Rattle.waiting.specs.Waiting.{heads_in, FitLine}
-use Rattle.waiting.specs.declared.Line as waiting
 use Rattle.device.specs.Counters as one
 use Rattle.device.specs.Device as device
 use Rattle.device.specs.Transfer.{Run, is_well, completed}
@@ -57,7 +55,7 @@ job_step Release v i r = release_step (card v) v i r
 abbrev pub begun_run : device.Taking → Run device.Queue → Run device.Queue
 begun_run t r =
     record {
-      queue = record { taken = r.queue.taken; completed = r.queue.completed; work = some (fresh t) };
+      queue = record { taken = r.queue.taken; completed = r.queue.completed; work = Some (fresh t) };
       mem = r.mem;
       bytes = r.bytes;
       host = r.host;
@@ -76,9 +74,9 @@ open_run v i head r = read_run v (reading_of v i r.mem head) r
 
 -- the front is opened, where none is in work
 abbrev pub open_by : Virtqueue → ℕ → Option device.Message → List ℕ → Run device.Queue → Station
-open_by v i (some w) heads r = record { heads = heads; run = r }
-open_by v i none [] r = record { heads = []; run = r }
-open_by v i none (head ∷ heads) r = record { heads = heads; run = open_run v i head r }
+open_by v i (Some w) heads r = record { heads = heads; run = r }
+open_by v i None [] r = record { heads = []; run = r }
+open_by v i None (head ∷ heads) r = record { heads = heads; run = open_run v i head r }
 
 unfoldable pub opened : Virtqueue → ℕ → Station → Station
 opened v i s = open_by v i s.run.queue.work s.heads s.run

@@ -29,35 +29,22 @@ pub struct Front {
 fn is_well(form: Form) -> bool
     ensures { result ≡ is_well (form_in form) }
 {
-    match form {
-        Form::WellFormed => true,
-        Form::Refused => false,
-        Form::Silent => false,
-        Form::Unwalked(_) => false,
-    }
+    matches!(form, Form::WellFormed)
 }
 
 // A well-formed message is in work, nothing of it moved.
 fn begin(f: Flow, chain: Taken) -> Flow
     ensures { result ≡ begun_flow chain f }
 {
-    let counters = f.counters;
-    let stop = f.stop;
-    let head = chain.head;
-    let request = chain.request;
-    let reply = chain.reply;
     Flow {
-        counters: counters,
         message: card::Message {
             count: 1,
-            head: head,
+            head: chain.head,
             done: 0,
-            request: request,
-            reply: reply,
+            request: chain.request,
+            reply: chain.reply,
         },
-        moved: f.moved,
-        stop: stop,
-        signal: f.signal,
+        ..f
     }
 }
 
@@ -68,21 +55,16 @@ fn enter(m: &mut [u8], list: &[u64], q: LineQueue, f: Flow, chain: Taken) -> Flo
     ensures { Steps (read_run (virtqueue_of q) (taking_in list.now chain))
         list.now m.old f list.now m.new result }
 {
-    let form = chain.form;
-    if is_well(form) {
+    if is_well(chain.form) {
         return begin(f, chain);
     }
     let mut counters = f.counters;
     let posted = line_chains::refuse(m, list, q, counters.completed, chain);
     counters.completed = posted.completed;
-    let message = f.message;
-    let stop = f.stop;
     Flow {
-        counters: counters,
-        message: message,
-        moved: f.moved,
-        stop: stop,
-        signal: flow::either(f.signal, posted.interrupt),
+        counters,
+        signal: f.signal | posted.interrupt,
+        ..f
     }
 }
 
@@ -118,13 +100,10 @@ fn open_front(m: &mut [u8], slot: &mut [u64], q: LineQueue, front: Front, line: 
         return front;
     }
     let end = slot.len();
-    let head = waiting::front(&slot[RING..end], waiting);
-    let rest = waiting::leave(&slot[RING..end], waiting);
+    let head = waiting.front(&slot[RING..end]);
+    let rest = waiting.leave(&slot[RING..end]);
     let flow = read_front(m, &mut slot[0..MARKS], q, f, line, head);
-    Front {
-        flow: flow,
-        line: rest,
-    }
+    Front { flow, line: rest }
 }
 
 // A job on the messages of a line, as far as it goes on.
@@ -141,19 +120,13 @@ pub fn work_line(
     ensures { Works (virtqueue_of q) line job slot.old m.old host.old front
         slot.new m.new host.new result }
 {
-    let queue = q.queue;
     let mut at = front;
-    let first = front.flow;
-    let mut left = first.message.count as u32 + front.line.count as u32;
-    while 0 < left {
-        let before = at.flow;
-        if !flow::reaches(job, before.moved, host.len()) {
+    for _ in 0..front.flow.message.count as u32 + front.line.count as u32 {
+        if !flow::reaches(job, at.flow.moved, host.len()) {
             return at;
         }
         at = open_front(m, slot, q, at, line);
-        let opened = at.flow;
-        at.flow = flow::work(m, &slot[0..MARKS], host, queue, opened, job);
-        left -= 1;
+        at.flow = flow::work(m, &slot[0..MARKS], host, q.queue, at.flow, job);
     }
     at
 }

@@ -8,14 +8,12 @@ ghost use Rattle.lines.specs.Lines.{span_of, behind_of};
 pub fn find(s: &[u8], at: usize, byte: u8) -> usize
     ensures { result ≡ at + span_of byte (drop at s.now) }
 {
-    let mut i = at;
-    while i < s.len() {
+    for i in at..s.len() {
         if s[i] == byte {
             return i;
         }
-        i += 1;
     }
-    i
+    at.max(s.len())
 }
 
 // The place of the first line feed from `at` on, or the end.
@@ -29,8 +27,5 @@ pub fn line_end(s: &[u8], at: usize) -> usize
 pub fn behind(s: &[u8], end: usize) -> usize
     ensures { result ≡ behind_of (length s.now) end }
 {
-    if end < s.len() {
-        return end + 1;
-    }
-    s.len()
+    if end < s.len() { end + 1 } else { s.len() }
 }

@@ -15,6 +15,12 @@ use card::{CAPTURE_WORDS, Card, Counters, Jack, PLAY_WORDS, Params, Parts, Strea
 use description::{Description, STREAMS};
 use registers::{Config, Effect, Registers};
 
+// The counters of a queue at power-up and after a reset.
+const NO_COUNTERS: Counters = Counters {
+    taken: 0,
+    completed: 0,
+};
+
 // What every call may touch. `config` counts the parts, `outputs` and `inputs` the streams of each
 // direction; `states` and `backlogs` are those of the streams; `fresh`: since the parts were written a
 // reset came, so that streams have no parameters and jacks the configuration default that was described;
@@ -70,28 +76,14 @@ pub struct PoweredBoard {
 fn states_of(streams: [Stream; STREAMS]) -> [u8; STREAMS]
     ensures { result ≡ states_of streams }
 {
-    [
-        streams[0].state,
-        streams[1].state,
-        streams[2].state,
-        streams[3].state,
-        streams[4].state,
-        streams[5].state,
-    ]
+    streams.map(|stream| stream.state)
 }
 
 // The backlogs of the streams.
 fn backlogs_of(streams: [Stream; STREAMS]) -> [u32; STREAMS]
     ensures { result ≡ backlogs_of streams }
 {
-    [
-        streams[0].backlog,
-        streams[1].backlog,
-        streams[2].backlog,
-        streams[3].backlog,
-        streams[4].backlog,
-        streams[5].backlog,
-    ]
+    streams.map(|stream| stream.backlog)
 }
 
 // The counts of the parts, as the guest reads them.
@@ -113,13 +105,10 @@ fn board_of(parts: Parts, ram_len: usize) -> Board
 {
     let streams = parts.streams;
     let live = Live {
-        ram_len: ram_len,
+        ram_len,
         registers: Registers::power_on(),
         config: config_of(parts),
-        queues: [Counters {
-            taken: 0,
-            completed: 0,
-        }; 4],
+        queues: [NO_COUNTERS; 4],
         outputs: parts.output_count as u8,
         inputs: (parts.stream_count - parts.output_count) as u8,
         states: states_of(streams),
@@ -128,17 +117,14 @@ fn board_of(parts: Parts, ram_len: usize) -> Board
         capture_dropped: true,
         backlogs: backlogs_of(streams),
     };
-    Board {
-        live: live,
-        parts: parts,
-    }
+    Board { live, parts }
 }
 
 // Power-up: a card with `ram_len` bytes of memory, or answer 10. The words of its queues may hold anything.
 pub fn power_up(d: Description, ram_len: usize) -> PoweredBoard
     ensures { (result ≡ powered_board d ram_len) × FitBoard result.board.live result.board.parts }
 {
-    if !description::is_lawful(d) {
+    if !d.is_lawful() {
         return PoweredBoard {
             answer: registers::BAD_DESCRIPTION,
             board: board_of(card::no_parts(), 0),
@@ -155,12 +141,9 @@ pub fn read(live: Live, offset: u64, width: u64) -> LiveRead
     requires { FitLive live }
     ensures { (result ≡ read_live live offset width) × FitLive result.live }
 {
-    let registers = live.registers;
-    let config = live.config;
-    let read = registers.read(config, offset, width);
+    let read = live.registers.read(live.config, offset, width);
     let mut next = live;
-    let after = read.registers;
-    next.registers = after;
+    next.registers = read.registers;
     LiveRead {
         answer: read.answer,
         value: read.value,
@@ -169,14 +152,12 @@ pub fn read(live: Live, offset: u64, width: u64) -> LiveRead
 }
 
 // After a reset, but for the registers.
+#[tactic(auto, unfolding(crate::specs::Live::reset_live))]
 fn reset(live: Live) -> Live
     ensures { result ≡ reset_live live }
 {
     let mut next = live;
-    next.queues = [Counters {
-        taken: 0,
-        completed: 0,
-    }; 4];
+    next.queues = [NO_COUNTERS; 4];
     next.states = [card::FRESH; STREAMS];
     next.backlogs = [0; STREAMS];
     next.fresh = true;
@@ -190,42 +171,25 @@ fn without(queues: [Counters; 4], queue: u16) -> [Counters; 4]
     requires { queue < 4 }
     ensures { result ≡ set queues queue no_counters }
 {
-    let none = Counters {
-        taken: 0,
-        completed: 0,
-    };
     let mut next = queues;
     match queue {
-        registers::CONTROL_QUEUE => {
-            next[0] = none;
-            next
-        }
-        registers::EVENT_QUEUE => {
-            next[1] = none;
-            next
-        }
-        registers::PLAY_QUEUE => {
-            next[2] = none;
-            next
-        }
-        _ => {
-            next[3] = none;
-            next
-        }
+        registers::CONTROL_QUEUE => next[0] = NO_COUNTERS,
+        registers::EVENT_QUEUE => next[1] = NO_COUNTERS,
+        registers::PLAY_QUEUE => next[2] = NO_COUNTERS,
+        _ => next[3] = NO_COUNTERS,
     }
+    next
 }
 
 // Whether the lines of queue `which` are dropped after a base write of `queue`.
 fn dropped_after(before: bool, which: u16, queue: u16) -> bool
     ensures { result ≡ (eqb queue which || before) }
 {
-    if queue == which {
-        return true;
-    }
-    before
+    queue == which || before
 }
 
 // After a base write of `queue`, but for the registers. Both flags are written, so that none is reached by an address.
+#[tactic(auto, unfolding(crate::specs::Live::based_live))]
 fn based(live: Live, queue: u16) -> Live
     requires { queue < 4 }
     ensures { result ≡ based_live queue live }
@@ -246,31 +210,28 @@ pub fn write(live: Live, offset: u64, width: u64, value: u64) -> LiveWrite
     requires { FitLive live }
     ensures { (result ≡ write_live live offset width value) × FitLive result.live }
 {
-    let registers = live.registers;
-    let written = registers.write(offset, width, value);
+    let written = live.registers.write(offset, width, value);
     let answer = written.answer;
-    let effect = written.effect;
     let mut next = live;
-    let after = written.registers;
-    next.registers = after;
-    match effect {
+    next.registers = written.registers;
+    match written.effect {
         Effect::Nothing => LiveWrite {
-            answer: answer,
-            rung: card::NO_QUEUE,
+            answer,
+            rung: registers::NO_QUEUE,
             live: next,
         },
         Effect::Reset => LiveWrite {
-            answer: answer,
-            rung: card::NO_QUEUE,
+            answer,
+            rung: registers::NO_QUEUE,
             live: reset(next),
         },
         Effect::Based(queue) => LiveWrite {
-            answer: answer,
-            rung: card::NO_QUEUE,
+            answer,
+            rung: registers::NO_QUEUE,
             live: based(next, queue),
         },
         Effect::Rung(queue) => LiveWrite {
-            answer: answer,
+            answer,
             rung: queue as u8,
             live: next,
         },
@@ -281,41 +242,24 @@ pub fn write(live: Live, offset: u64, width: u64, value: u64) -> LiveWrite
 pub fn line(live: Live) -> bool
     ensures { result ≡ raised live.registers }
 {
-    let registers = live.registers;
-    registers.line()
+    live.registers.line()
 }
 
 // A jack with the configuration default that was described.
 fn undone(jack: Jack) -> Jack
     ensures { result ≡ jack_now true jack }
 {
-    let info = jack.info;
     Jack {
-        info: info,
-        defconf: info.defconf,
-        connected: jack.connected,
+        defconf: jack.info.defconf,
+        ..jack
     }
-}
-
-fn all_undone(jacks: [Jack; 4]) -> [Jack; 4]
-    ensures { result ≡ map (jack_now true) jacks }
-{
-    [
-        undone(jacks[0]),
-        undone(jacks[1]),
-        undone(jacks[2]),
-        undone(jacks[3]),
-    ]
 }
 
 // The jacks as they are, of those in the parts.
 fn jacks_now(fresh: bool, jacks: [Jack; 4]) -> [Jack; 4]
     ensures { result ≡ map (jack_now fresh) jacks }
 {
-    if fresh {
-        return all_undone(jacks);
-    }
-    jacks
+    if fresh { jacks.map(undone) } else { jacks }
 }
 
 // A stream as it is, of one in the parts.
@@ -327,7 +271,6 @@ fn stream_now(fresh: bool, state: u8, backlog: u32, stream: Stream) -> Stream
     next.backlog = backlog;
     if fresh {
         next.params = card::no_params();
-        return next;
     }
     next
 }
@@ -388,9 +331,9 @@ pub fn of_card(card: Card) -> Live
     let streams = parts.streams;
     Live {
         ram_len: card.ram_len,
-        registers: registers,
+        registers,
         config: config_of(parts),
-        queues: queues,
+        queues,
         outputs: parts.output_count as u8,
         inputs: (parts.stream_count - parts.output_count) as u8,
         states: states_of(streams),
@@ -415,12 +358,12 @@ pub fn joined(
     let now = parts_now(live, parts);
     Card {
         ram_len: live.ram_len,
-        registers: registers,
-        queues: queues,
+        registers,
+        queues,
         parts: now,
         play_dropped: live.play_dropped,
         capture_dropped: live.capture_dropped,
-        play_words: play_words,
-        capture_words: capture_words,
+        play_words,
+        capture_words,
     }
 }

@@ -14,6 +14,7 @@ use waiting::Line;
 pub const WORDS: usize = 11;
 
 // The message in work.
+#[tactic(auto, unfolding(crate::specs::Marks::message_in))]
 pub fn message(w: &[u64]) -> Message
     requires { length w.now ≡ 11 }
     ensures { result ≡ message_in w.now }
@@ -40,21 +41,19 @@ pub fn store(w: &mut [u64], m: Message)
     requires { length w.old ≡ 11 }
     ensures { (message_in w.new ≡ m) × (line_in w.new ≡ line_in w.old) }
 {
-    let request = m.request;
-    let reply = m.reply;
-    let head = m.head;
     w[0] = m.count as u64;
-    w[1] = head.number() as u64;
+    w[1] = m.head.number() as u64;
     w[2] = m.done as u64;
-    w[3] = request.first as u64;
-    w[4] = request.count as u64;
-    w[5] = request.bytes as u64;
-    w[6] = reply.first as u64;
-    w[7] = reply.count as u64;
-    w[8] = reply.bytes as u64;
+    w[3] = m.request.first as u64;
+    w[4] = m.request.count as u64;
+    w[5] = m.request.bytes as u64;
+    w[6] = m.reply.first as u64;
+    w[7] = m.reply.count as u64;
+    w[8] = m.reply.bytes as u64;
 }
 
 // The line.
+#[tactic(auto, unfolding(crate::specs::Marks::line_in))]
 pub fn line(w: &[u64]) -> Line
     requires { length w.now ≡ 11 }
     ensures { result ≡ line_in w.now }

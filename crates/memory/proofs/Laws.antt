@@ -10,6 +10,7 @@ use native.Mathlib.Numerals.{add-one}
 use native.Mathlib.Nat.{zero-add, add-zero, suc-add, mul_assoc, div-one, div-div-eq-div-mul, pow-suc, pow-succ', pow-le-pow_right}
 use native.Mathlib.Nat.{lt_of_lt_of_le, min-eq_left, min-eq_right}
 use native.Mathlib.Omega.{arith}
+use Rattle.std.proofs.Math.Arith.{mod-mul}
 use lib.ListN.{length, get_or, set, length-set, get_or-eq_default}
 use lib.Seq.{get_or-set_same, get_or-set_other, set_out}
 use Rattle.memory.specs.Bytes.{le, put}
@@ -129,3 +130,25 @@ le_same (suc k) l m at h = rw (h at (omega arith) (omega arith), le_same k l m (
 pub le-put-other : (n k : ℕ) (m : List ℕ) (at v a : ℕ) → (a + k ≤ at) ⊎ (at + n ≤ a) → le k (put n m at v) a ≡ le k m a
 le-put-other n k m at v a (inl h) = le_same k (put n m at v) m a (λ i x y. get_d-put n m at v i (omega arith))
 le-put-other n k m at v a (inr h) = le_same k (put n m at v) m a (λ i x y. get_d-put-above n m at v i (omega arith))
+
+pos : (k : ℕ) → 0 < 256 ^ k
+pos zero = omega arith
+pos (suc k) = rw pow-suc (omega (arith, pos k))
+
+-- of a number only the bytes that are put count
+pub put-low : (n : ℕ) (m : List ℕ) (at v : ℕ) → put n m at (v % 256 ^ n) ≡ put n m at v
+unfolding put
+put-low zero m at v = refl
+put-low (suc k) m at v =
+    let high = v / 256 % 256 ^ k in
+    let e : v % 256 ^ suc k ≡ high * 256 + v % 256 = rw pow-suc (mod-mul v (omega (arith, pos k)) (omega arith)) in
+    let low : (high * 256 + v % 256) % 256 ≡ v % 256 = omega arith in
+    let rest : (high * 256 + v % 256) / 256 ≡ high = omega arith in
+    rw (e, low, rest) (put-low k (set m at (v % 256)) (at + 1) (v / 256))
+
+-- where the bytes are all put, or lie past the end, nothing more is
+pub put-over : (n : ℕ) (m : List ℕ) (at v : ℕ) → (at < length m → n ≡ 0) → put n m at v ≡ m
+put-over n m at v h = by (leb (length m) at) refl where
+  by : (b : Bool) → leb (length m) at ≡ b → put n m at v ≡ m
+  by true e = put-past n m at v (leb-true _ _ e)
+  by false e = put-none n m at v (h (omega (arith, leb-false _ _ e)))

@@ -1,4 +1,5 @@
 -- What a form says of the ranges, and the bytes of ids and statuses.
+use Rattle.std.specs.Prelude.{Some}
 use mathlib.Core.Path.{◌≡◌, ◌∙◌, refl, ap}
 use mathlib.Core.List.{List, [], ◌∷◌, ◌++◌, append-nil}
 use mathlib.Core.Bool.{Bool, true, false, cond, false≢true}
@@ -17,7 +18,6 @@ use Rattle.ranges.proofs.Laws.{length-places}
 use Rattle.message.specs.Message.{answered_of, answered_length, FitTaken}
 use Rattle.message.specs.declared.Form.TheVariants.{Unwalked}
 use Rattle.counts.specs.declared.DescriptorNumber.{DescriptorNumber}
-use mathlib.Core.Option.{some}
 use Rattle.memory.specs.Bytes.{le, put}
 use Rattle.ranges.specs.Ranges.{all_inside, total, places, no_ranges, range_in, ranges_in, up_from, bytes_at, put_at}
 use Rattle.ranges.specs.declared.Range.{Range}
@@ -92,9 +92,9 @@ status-take m as' code latency = put_at-take 8 m as' (status_bytes code latency)
 -- a status in the reply's last eight bytes, then the used entry, is an answer
 pub posted-answer : (d : rules.Direction) (m : List ℕ) (page : PageNumber) (completed : ℕ) (head : DescriptorNumber) (reply : List Range)
     (code latency recorded : ℕ)
-    → post_of (status_in_reply (some code) latency reply m) page (size_of (rules.queue_number d)) completed head
+    → post_of (status_in_reply (Some code) latency reply m) page (size_of (rules.queue_number d)) completed head
     (answered_length d recorded)
-    ≡ answered_of d m page completed head.0 reply (some code) latency recorded
+    ≡ answered_of d m page completed head.0 reply (Some code) latency recorded
 unfolding post_of answered_of
 posted-answer rules.output m page completed head reply code latency recorded = refl
 posted-answer rules.input m page completed head reply code latency recorded = refl

@@ -1,6 +1,5 @@
 -- What the code's structs of a message stand for, and what a completion leaves.
-use Rattle.std.specs.Prelude.{◌≡◌, true, List, ℕ, ◌+◌, ◌≤◌}
-use Rattle.std.proofs.Math.Option.{Option, none, some}
+use Rattle.std.specs.Prelude.{Option, None, Some, ◌≡◌, true, List, ℕ, ◌+◌, ◌≤◌}
 use Rattle.counts.specs.declared.PageNumber.{PageNumber}
 use Rattle.ranges.specs.Ranges.{ranges_of, Sound, all_inside}
 use Rattle.ranges.specs.declared.Range.{Range}
@@ -12,8 +11,6 @@ use Rattle.message.specs.declared.Direction.{Direction}
 use Rattle.message.specs.declared.Direction.TheVariants.{Output, Input}
 use Rattle.message.specs.declared.Form.{Form}
 use Rattle.message.specs.declared.Form.TheVariants.{WellFormed, Refused, Silent, Unwalked}
-use Rattle.message.specs.declared.Status.{Status}
-use Rattle.message.specs.declared.Status.TheVariants.{Nothing, Code}
 use Rattle.message.specs.declared.Taken.{Taken}
 use Rattle.message.specs.declared.Virtqueue.{Virtqueue}
 
@@ -34,10 +31,6 @@ form_in Refused = rules.refused
 form_in Silent = rules.silent
 form_in (Unwalked f) = rules.unwalked f
 
-abbrev pub status_in : Status → Option ℕ
-status_in Nothing = none
-status_in (Code c) = some c
-
 -- a chain that was taken, its ranges in the words of its list
 abbrev pub taking_in : List ℕ → Taken → rules.Taking
 taking_in ws t = record { head = t.head.0; request = ranges_of ws t.request; reply = ranges_of ws t.reply; form = form_in t.form }
@@ -55,7 +48,7 @@ pub record FitTaken (len : ℕ) (ws : List ℕ) (t : Taken) : Type 0 where
 
 -- the length of a used entry whose status is written
 abbrev pub answered_length : rules.Direction → ℕ → ℕ
-answered_length d recorded = used_length d (some 0) recorded
+answered_length d recorded = used_length d (Some 0) recorded
 
 -- one completion: status, used element and index, and whether an interrupt is wanted
 unfoldable pub answered_of : rules.Direction → List ℕ → PageNumber → ℕ → ℕ → List Range → Option ℕ → ℕ → ℕ → Completion

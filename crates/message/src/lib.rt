@@ -2,14 +2,13 @@
 // that answers it.
 #![tactic(auto)]
 
-ghost use Rattle.std.specs.Prelude.{◌≡◌, ◌-◌, ◌≤◌, length};
+ghost use Rattle.std.specs.Prelude.{◌≡◌, ◌-◌, ◌≤◌, length, Some};
 ghost use Rattle.ranges.specs.Ranges.{ranges_of, Sound};
 ghost use Rattle.registers.specs.Map.{size_of};
 ghost use Rattle.ring.specs.Rules.{completion};
 ghost use Rattle.device.specs.Device.{queue_number};
 ghost use Rattle.device.specs.Transfer.{id_of, sized, status_bytes, status_in_reply};
-ghost use Rattle.std.proofs.Math.Option.{some};
-ghost use Rattle.message.specs.Message.{direction_of, status_in, answered_of, answered_length};
+ghost use Rattle.message.specs.Message.{direction_of, answered_of, answered_length};
 
 use chain::Fault;
 use counts::{DescriptorNumber, PageNumber};
@@ -32,13 +31,6 @@ pub enum Form {
     Refused,
     Silent,
     Unwalked(Fault),
-}
-
-// The status of a completion, where one is written.
-#[derive(Clone, Copy)]
-pub enum Status {
-    Nothing,
-    Code(u32),
 }
 
 // A stream's queue in a call, as its guest laid it out; `indirect`: bit 28 was negotiated; `latency`
@@ -91,7 +83,7 @@ pub fn stream_id(m: &[u8], list: &[u64], request: Ranges) -> u32
     if range.len < 4 {
         return gathered_id(m, list, request);
     }
-    memory::get32(m, range.at, 0)
+    memory::get(m, range.at, 0)
 }
 
 // The same of any ranges.
@@ -100,7 +92,7 @@ fn gathered_id(m: &[u8], list: &[u64], request: Ranges) -> u32
 {
     let mut bytes = [0u8; 4];
     ranges::gather(m, list, request, 0, &mut bytes, 0, 4);
-    memory::number32(&bytes, 0)
+    memory::number(&bytes, 0)
 }
 
 // Whether both sides have the lengths that the direction asks.
@@ -108,21 +100,8 @@ pub fn is_sized(d: Direction, request: u32, reply: u32) -> bool
     ensures { result ≡ sized (direction_of d) request reply }
 {
     match d {
-        Direction::Output => {
-            if request < 4 {
-                return false;
-            }
-            if reply == 8 {
-                return true;
-            }
-            false
-        }
-        Direction::Input => {
-            if request == 4 {
-                return true;
-            }
-            false
-        }
+        Direction::Output => 4 <= request && reply == 8,
+        Direction::Input => request == 4,
     }
 }
 
@@ -131,8 +110,8 @@ fn status_bytes(code: u32, latency: u32) -> [u8; 8]
     ensures { result ≡ status_bytes code latency }
 {
     let mut bytes = [0u8; 8];
-    memory::set32(&mut bytes, 0, code);
-    memory::set32(&mut bytes, 4, latency);
+    memory::set(&mut bytes, 0, code);
+    memory::set(&mut bytes, 4, latency);
     bytes
 }
 
@@ -147,7 +126,7 @@ fn used_length(d: Direction, recorded: u32) -> u32
     }
 }
 
-// A chain answered: its status in the last eight bytes of the reply, then the used entry.
+// A chain answered: its status in the last eight bytes of the reply, where it has one, then the used entry.
 pub fn answer(
     m: &mut [u8],
     list: &[u64],
@@ -155,19 +134,19 @@ pub fn answer(
     completed: u16,
     head: DescriptorNumber,
     reply: Ranges,
-    status: Status,
+    status: Option<u32>,
     recorded: u32,
 ) -> Posted
     requires { Sound list.now reply × (recorded ≤ 1048576) }
     ensures { completion m.new result
         ≡ answered_of (direction_of q.direction) m.old q.page completed head.0
-        (ranges_of list.now reply) (status_in status) q.latency recorded }
+        (ranges_of list.now reply) status q.latency recorded }
 {
     let direction = q.direction;
     let size = queue_size(direction);
     match status {
-        Status::Nothing => ring::post(m, q.page, size, completed, head, 0),
-        Status::Code(code) => {
+        None => ring::post(m, q.page, size, completed, head, 0),
+        Some(code) => {
             put_status(m, list, reply, code, q.latency);
             let len = used_length(direction, recorded);
             ring::post(m, q.page, size, completed, head, len)
@@ -178,7 +157,7 @@ pub fn answer(
 // The status in the last eight bytes of the reply: two numbers where the last range has them all.
 fn put_status(m: &mut [u8], list: &[u64], reply: Ranges, code: u32, latency: u32)
     requires { Sound list.now reply }
-    ensures { m.new ≡ status_in_reply (some code) latency (ranges_of list.now reply) m.old }
+    ensures { m.new ≡ status_in_reply (Some code) latency (ranges_of list.now reply) m.old }
 {
     if reply.count == 0 {
         scatter_status(m, list, reply, code, latency);
@@ -189,14 +168,14 @@ fn put_status(m: &mut [u8], list: &[u64], reply: Ranges, code: u32, latency: u32
         scatter_status(m, list, reply, code, latency);
         return;
     }
-    memory::put32(m, last.at, last.len - 8, code);
-    memory::put32(m, last.at, last.len - 4, latency);
+    memory::put(m, last.at, last.len - 8, code);
+    memory::put(m, last.at, last.len - 4, latency);
 }
 
 // The same in any ranges.
 fn scatter_status(m: &mut [u8], list: &[u64], reply: Ranges, code: u32, latency: u32)
     requires { Sound list.now reply }
-    ensures { m.new ≡ status_in_reply (some code) latency (ranges_of list.now reply) m.old }
+    ensures { m.new ≡ status_in_reply (Some code) latency (ranges_of list.now reply) m.old }
 {
     let bytes = status_bytes(code, latency);
     ranges::scatter(m, list, reply, last_eight(reply.bytes), &bytes, 0, 8);
@@ -206,8 +185,5 @@ fn scatter_status(m: &mut [u8], list: &[u64], reply: Ranges, code: u32, latency:
 fn last_eight(bytes: u32) -> usize
     ensures { result ≡ bytes - 8 }
 {
-    if bytes < 8 {
-        return 0;
-    }
-    (bytes - 8) as usize
+    bytes.saturating_sub(8) as usize
 }

@@ -1,4 +1,7 @@
 -- The host buffer after a transfer: the bytes moved in front, the rest as it was.
+use Rattle.std.specs.Prelude.{Result, Option, Ok, Err, Some, None}
+use Rattle.ring.specs.declared.Cause.{Cause}
+use Rattle.counts.specs.declared.DescriptorNumber.{DescriptorNumber}
 use mathlib.Core.Path.{◌≡◌}
 use mathlib.Core.List.{List}
 use Prim.Native.Nat.{ℕ, ◌≤◌}
@@ -9,8 +12,6 @@ use lib.ListN.{length, take, drop, length-take, take-append-drop}
 use lib.Seq.{sets, sets-eq}
 use Rattle.registers.proofs.Keeps.{by_cond}
 use Rattle.ring.specs.Rules.{head_at}
-use Rattle.ring.specs.declared.Check.{Check}
-use Rattle.ring.specs.declared.Head.{Head}
 use Rattle.device.specs.Answers.{going}
 use Rattle.device.specs.Device.{Message, Taking, Ending, finished, ill_formed}
 use Rattle.device.specs.Transfer.{Run, begun, is_nil, is_well}
@@ -37,9 +38,9 @@ module _ {Q : Type 0} (ops : Ops Q) (v : Virtqueue) (host : List ℕ) where
   taken-past head (in_line i) s p = queue-past host (ops.join i head s.queue) s p
   taken-past head (at_once t) s p = posted-past host ops v ill_formed (fresh t) (ops.bounce t v.latency s.queue) s p
 
-  met-past : (h : Head) (s : Run Q) → Rests s → Rests (met ops v h s)
-  met-past (Head.At n) s p = taken-past n.0 (arrival_of v s.mem n.0) s p
-  met-past (Head.Broken cause) s p = stopped-past host cause s p
+  met-past : (h : Result DescriptorNumber Cause) (s : Run Q) → Rests s → Rests (met ops v h s)
+  met-past (Ok n) s p = taken-past n.0 (arrival_of v s.mem n.0) s p
+  met-past (Err cause) s p = stopped-past host cause s p
 
   next_past : (s : Run Q) → Rests s → Rests (next ops v s)
   unfolding next
@@ -82,10 +83,10 @@ module _ {Q : Type 0} (ops : Ops Q) (v : Virtqueue) (host : List ℕ) where
         let q = times-keeps Rests (next ops v) next_past n s p in
         by_cond Rests (going u.stop) (λ e. times-keeps Rests (transfer_step ops v i) step_past (ops.queued i u.queue) u q) (λ e. q)
 
-    found-past : (k : Check) (s : Run Q) → Rests s → Rests (on_found ops v (transfer_run ops v i) s k)
-    found-past Check.Idle s p = p
-    found-past (Check.Broken cause) s p = stopped-past host cause s p
-    found-past (Check.New n) s p = run_past n s p
+    found-past : (k : Result (Option ℕ) Cause) (s : Run Q) → Rests s → Rests (on_found ops v (transfer_run ops v i) s k)
+    found-past (Ok None) s p = p
+    found-past (Err cause) s p = stopped-past host cause s p
+    found-past (Ok (Some n)) s p = run_past n s p
 
     pub transferred-past : (q : Q) (m : List ℕ) → Past host (transferred ops v i q m host)
     unfolding transferred

@@ -15,7 +15,6 @@ use Rattle.live.specs.Setters.{with_registers, with_backlogs}
 use Rattle.live.specs.declared.Live.{Live}
 use Rattle.live.proofs.Laws.{board-with-registers}
 use Rattle.live.proofs.Streams.{board-with-backlogs}
-use Rattle.device.specs.Device as rules
 use Rattle.message.specs.Message.{direction_of}
 use Rattle.message.specs.declared.Direction.{Direction}
 use Rattle.message.specs.declared.Direction.TheVariants.{Output, Input}

@@ -16,7 +16,7 @@ use description::STREAMS;
 use live::Live;
 use message::Direction;
 use registers::{Answer, Registers};
-use ring::Stop;
+use ring::Cause;
 use stream::{Job, Progress};
 
 // What a call answers: the count is the bytes handed on, or consumed.
@@ -33,21 +33,8 @@ fn is_on(live: Live, direction: Direction, id: u32) -> bool
 {
     let outputs = live.outputs as u32;
     match direction {
-        Direction::Output => {
-            if id < outputs {
-                return true;
-            }
-            false
-        }
-        Direction::Input => {
-            if id < outputs {
-                return false;
-            }
-            if id - outputs < live.inputs as u32 {
-                return true;
-            }
-            false
-        }
+        Direction::Output => id < outputs,
+        Direction::Input => outputs <= id && id - outputs < live.inputs as u32,
     }
 }
 
@@ -78,10 +65,7 @@ fn is_running(live: Live, direction: Direction, id: u32) -> bool
         return false;
     }
     let states = live.states;
-    if state_of(states, id) == card::RUNNING {
-        return true;
-    }
-    false
+    state_of(states, id) == card::RUNNING
 }
 
 // The answer that refuses a transfer of stream `id`, of this direction, over `len` bytes of memory, or 0.
@@ -92,18 +76,18 @@ fn refusal(live: Live, len: usize, direction: Direction, id: u32) -> u8
     if len != live.ram_len {
         return registers::LENGTH_DIFFERS;
     }
-    let registers = live.registers;
-    if !registers.is_live() {
+    if !live.registers.is_live() {
         return registers::NOT_LIVE;
     }
     if is_running(live, direction, id) {
-        return registers::DONE;
+        registers::DONE
+    } else {
+        registers::NOT_RUNNING
     }
-    registers::NOT_RUNNING
 }
 
 // The registers after a job: an interrupt where it wants one, a breakdown where it broke the queue.
-fn registers_after(registers: Registers, signal: bool, stop: Stop) -> Registers
+fn registers_after(registers: Registers, signal: bool, stop: Option<Cause>) -> Registers
     ensures { result ≡ broken_by stop (signalled_if signal registers) }
 {
     stream::break_by(stop, stream::signal_if(signal, registers))
@@ -116,31 +100,14 @@ fn with_backlog(backlogs: [u32; STREAMS], id: u32, backlog: u32) -> [u32; STREAM
 {
     let mut next = backlogs;
     match id {
-        0 => {
-            next[0] = backlog;
-            next
-        }
-        1 => {
-            next[1] = backlog;
-            next
-        }
-        2 => {
-            next[2] = backlog;
-            next
-        }
-        3 => {
-            next[3] = backlog;
-            next
-        }
-        4 => {
-            next[4] = backlog;
-            next
-        }
-        _ => {
-            next[5] = backlog;
-            next
-        }
+        0 => next[0] = backlog,
+        1 => next[1] = backlog,
+        2 => next[2] = backlog,
+        3 => next[3] = backlog,
+        4 => next[4] = backlog,
+        _ => next[5] = backlog,
     }
+    next
 }
 
 // The backlogs after a call on stream `id`: it remembers that of a call that answered 0.
@@ -148,10 +115,11 @@ fn remember(number: u8, backlogs: [u32; STREAMS], id: u32, backlog: u32) -> [u32
     requires { id < 6 }
     ensures { result ≡ cond (eqb number done) (set backlogs id backlog) backlogs }
 {
-    if number != registers::DONE {
-        return backlogs;
+    if number == registers::DONE {
+        with_backlog(backlogs, id, backlog)
+    } else {
+        backlogs
     }
-    with_backlog(backlogs, id, backlog)
 }
 
 // What a call answers after a job on the line of stream `id`: the registers, the queue and the backlog that the
@@ -160,18 +128,15 @@ fn worked(live: Live, p: Progress, backlog: u32, direction: Direction, id: u32) 
     requires { id < 6 }
     ensures { result ≡ remembered_by id backlog (worked_answer direction p live) }
 {
-    let stop = p.stop;
-    let answer = answer_by(direction, stop);
-    let registers = live.registers;
-    let after = registers_after(registers, p.signal, stop);
+    let answer = answer_by(direction, p.stop);
     let mut next = live;
-    next.registers = after;
+    next.registers = registers_after(live.registers, p.signal, p.stop);
     let mut told = stream::with_progress(next, direction, p);
     let backlogs = told.backlogs;
     let remembered = remember(answer.number, backlogs, id, backlog);
     told.backlogs = remembered;
     TransferAnswer {
-        answer: answer,
+        answer,
         count: p.moved,
         live: told,
     }
@@ -245,16 +210,16 @@ fn untouched(live: Live, number: u8) -> TransferAnswer
     TransferAnswer {
         answer: registers::plain(number),
         count: 0,
-        live: live,
+        live,
     }
 }
 
 // The answer of a call on the queue of a direction that went on, or was stopped by it.
-fn answer_by(direction: Direction, stop: Stop) -> Answer
+fn answer_by(direction: Direction, stop: Option<Cause>) -> Answer
     ensures { result ≡ answer_by (queue_number (direction_of direction)) stop }
 {
     match stop {
-        Stop::Going => registers::plain(registers::DONE),
-        Stop::Broke(cause) => rules::broken_answer(message::queue_number(direction), cause),
+        Some(cause) => rules::broken_answer(message::queue_number(direction), cause),
+        None => registers::plain(registers::DONE),
     }
 }

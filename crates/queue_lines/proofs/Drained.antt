@@ -1,5 +1,8 @@
 -- A call that breaks nothing takes every new entry; a Release then leaves its line empty, and so does a transfer that ends with room left:
 -- each step completes the front, or leaves no room.
+use Rattle.std.specs.Prelude.{Result, Option, Ok, Err}
+use Rattle.ring.specs.declared.Cause.{Cause}
+use Rattle.counts.specs.declared.DescriptorNumber.{DescriptorNumber}
 use mathlib.Core.Path.{◌≡◌, refl, sym, ap, ◌∙◌}
 use mathlib.Core.Bool.{Bool, true, false, cond, false≢true, true≢false}
 use mathlib.Core.List.{List, [], ◌∷◌}
@@ -11,8 +14,6 @@ use lib.ListN.{length, take, drop, length-append, length-take, length-drop}
 use lib.Seq.{get_or-set_same}
 use Rattle.registers.proofs.Keeps.{by_cond}
 use Rattle.ring.specs.Rules.{head_at, index_of}
-use Rattle.ring.specs.declared.Check.{Check}
-use Rattle.ring.specs.declared.Head.{Head}
 use Rattle.device.specs.Answers.{going}
 use Rattle.device.specs.Device.{Taking, Ending, finished, released, ill_formed, Message}
 use Rattle.device.specs.Histories.{number, took, noted, with_entry}
@@ -51,9 +52,9 @@ module _ (v : Virtqueue) where
   taken-one head (in_line i) s = record { one-is = λ e. rw length-append }
   taken-one head (at_once t) s = record { one-is = λ e. rw length-append }
 
-  met-one : (x : Head) (s : Run History) → One s (met ops v x s)
-  met-one (Head.At n) s = taken-one n.0 (arrival_of v s.mem n.0) s
-  met-one (Head.Broken cause) s = record { one-is = λ e. absurd (false≢true e) }
+  met-one : (x : Result DescriptorNumber Cause) (s : Run History) → One s (met ops v x s)
+  met-one (Ok n) s = taken-one n.0 (arrival_of v s.mem n.0) s
+  met-one (Err cause) s = record { one-is = λ e. absurd (false≢true e) }
 
   next_one : (s : Run History) → going s.stop ≡ true → One s (next ops v s)
   unfolding next
@@ -91,9 +92,9 @@ module _ (v : Virtqueue) where
   taken-few head (in_line i) s = rw length-append (omega arith)
   taken-few head (at_once t) s = rw length-append (omega arith)
 
-  met-few : (x : Head) (s : Run History) → size (met ops v x s) ≤ size s + 1
-  met-few (Head.At n) s = taken-few n.0 (arrival_of v s.mem n.0) s
-  met-few (Head.Broken cause) s = omega arith
+  met-few : (x : Result DescriptorNumber Cause) (s : Run History) → size (met ops v x s) ≤ size s + 1
+  met-few (Ok n) s = taken-few n.0 (arrival_of v s.mem n.0) s
+  met-few (Err cause) s = omega arith
 
   next-few : (s : Run History) → size (next ops v s) ≤ size s + 1
   unfolding next
@@ -395,7 +396,7 @@ module _ (v : Virtqueue) where
     unfolding emptied
     release-drains =
         found-based
-        (λ (c : Check). going (on_found ops v (release_run ops v i) (begun q m []) c).stop ≡ true
+        (λ (c : Result (Option ℕ) Cause). going (on_found ops v (release_run ops v i) (begun q m []) c).stop ≡ true
         → Drained (index_in m) i (on_found ops v (release_run ops v i) (begun q m []) c).queue)
         m v.page (queue_size v) (ops.new q (index_in m)) (ops.in_work q) based (λ c e. absurd (false≢true e))
         (λ e.
@@ -413,7 +414,7 @@ module _ (v : Virtqueue) where
       unfolding transferred
       transfer-ends =
           found-based
-          (λ (c : Check).
+          (λ (c : Result (Option ℕ) Cause).
           let r : Run History = on_found ops v (transfer_run ops v i) (begun q m host) c in
           going r.stop ≡ true → TakenAll (index_in m) r.queue × (0 < r.room → standing (line_at r.queue i) ≡ []))
           m v.page (queue_size v) (ops.new q (index_in m)) (ops.in_work q) based (λ c e. absurd (false≢true e))

@@ -1,8 +1,8 @@
 -- What the front of a line tells of the line's histories.
+use Rattle.std.specs.Prelude.{Option, None, Some}
 use mathlib.Core.Path.{◌≡◌, refl, sym, ap, ◌∙◌}
 use mathlib.Core.Bool.{Bool, true, false, cond}
 use mathlib.Core.List.{List, [], ◌∷◌}
-use mathlib.Core.Option.{Option, none, some}
 use Prim.Native.Nat.{ℕ, zero, suc, ◌≤◌, ◌<◌}
 use native.Mathlib.Omega.{arith}
 use borrow.Author.Tests.{leb-true, ltb-true, ltb-false}
@@ -22,9 +22,9 @@ use lib.Seq.{get_or-set_same}
 -- ---- a front
 
 abbrev message_of : Front → Option Message
-message_of vacant = none
-message_of (unread head) = none
-message_of (working m) = some m
+message_of vacant = None
+message_of (unread head) = None
+message_of (working m) = Some m
 
 abbrev head_of : Front → List ℕ
 head_of vacant = []
@@ -32,19 +32,19 @@ head_of (unread head) = head ∷ []
 head_of (working m) = []
 
 message-front : (o : Option Message) (heads : List ℕ) → message_of (front_of o heads) ≡ o
-message-front none [] = refl
-message-front none (head ∷ heads) = refl
-message-front (some m) heads = refl
+message-front None [] = refl
+message-front None (head ∷ heads) = refl
+message-front (Some m) heads = refl
 
-head-front : (heads : List ℕ) → head_of (front_of none heads) ≡ take 1 heads
+head-front : (heads : List ℕ) → head_of (front_of None heads) ≡ take 1 heads
 head-front [] = refl
 head-front (head ∷ heads) = refl
 
 module _ (o : Option Message) (heads : List ℕ) where
-  front-working : (m : Message) → front_of o heads ≡ working m → o ≡ some m
+  front-working : (m : Message) → front_of o heads ≡ working m → o ≡ Some m
   front-working m e = sym (message-front o heads) ∙ ap message_of e
 
-  front-none : (head : ℕ) → front_of o heads ≡ unread head → o ≡ none
+  front-none : (head : ℕ) → front_of o heads ≡ unread head → o ≡ None
   front-none head e = sym (message-front o heads) ∙ ap message_of e
 
   front-head : (head : ℕ) → front_of o heads ≡ unread head → take 1 heads ≡ head ∷ []
@@ -55,17 +55,17 @@ module _ (o : Option Message) (heads : List ℕ) where
 abbrev now_of : Story → Message
 now_of s = record { taking = current s; done = handed_now s }
 
-work-free : (s : Story) → work_of s ≡ none → free s ≡ true
+work-free : (s : Story) → work_of s ≡ None → free s ≡ true
 work-free s e = go (free s) e
   where
-    go : (b : Bool) → cond b none (some (now_of s)) ≡ none → b ≡ true
+    go : (b : Bool) → cond b None (Some (now_of s)) ≡ None → b ≡ true
     go true e = refl
     go false e = absurd (none-some (now_of s) (sym e))
 
-work-busy : (s : Story) (m : Message) → work_of s ≡ some m → (free s ≡ false) × (now_of s ≡ m)
+work-busy : (s : Story) (m : Message) → work_of s ≡ Some m → (free s ≡ false) × (now_of s ≡ m)
 work-busy s m e = go (free s) e
   where
-    go : (b : Bool) → cond b none (some (now_of s)) ≡ some m → (b ≡ false) × (now_of s ≡ m)
+    go : (b : Bool) → cond b None (Some (now_of s)) ≡ Some m → (b ≡ false) × (now_of s ≡ m)
     go true e = absurd (none-some m e)
     go false e = (refl, cc)
 
@@ -96,7 +96,7 @@ module _ (h : History) (i : ℕ) where
     pub working-inside : i < length h.lines
     working-inside = inside h i (λ z. none-some m (ap message_of (sym z ∙ e)))
 
-    pub is-work : work_of (line_at h i).story ≡ some m
+    pub is-work : work_of (line_at h i).story ≡ Some m
     is-work = front-working (work_of (line_at h i).story) (heads_of (unread_in (line_at h i))) m e
 
     pub is-busy : free (line_at h i).story ≡ false
@@ -123,7 +123,7 @@ module _ (h : History) (i : ℕ) where
   pub none-stands : front_at h i ≡ vacant → length (line_at h i).joined ≤ number (line_at h i).story
   none-stands e =
       let heads : List ℕ = heads_of (unread_in (line_at h i)) in
-      let none' : work_of (line_at h i).story ≡ none = sym (message-front (work_of (line_at h i).story) heads) ∙ ap message_of e in
+      let none' : work_of (line_at h i).story ≡ None = sym (message-front (work_of (line_at h i).story) heads) ∙ ap message_of e in
       let z : take 1 heads ≡ [] = sym (head-front heads) ∙ ap head_of (rw none' at e) in
       omega (
         arith,

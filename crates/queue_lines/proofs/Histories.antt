@@ -1,8 +1,8 @@
 -- Histories with lines run as counters with lines do: each operation on a history, shown as counters, is the operation on the counters.
+use Rattle.std.specs.Prelude.{Option, None, Some}
 use mathlib.Core.Path.{◌≡◌, refl, sym}
 use mathlib.Core.Bool.{Bool, true, false, cond}
 use mathlib.Core.List.{List, [], ◌∷◌, ◌++◌, map, map-append}
-use mathlib.Core.Option.{Option, none, some}
 use Prim.Native.Nat.{ℕ, zero, suc, ◌+◌, ◌-◌, ◌≤◌}
 use native.Mathlib.Omega.{arith}
 use borrow.Author.Tests.{leb-true, leb-false}
@@ -59,7 +59,7 @@ module _ (d : Direction) where
       go :
           (b : Bool)
           → free s ≡ b
-          → if_begun (cond b none (some (record { taking = current s; done = handed_now s }))) ≡ length s.takings - number s
+          → if_begun (cond b None (Some (record { taking = current s; done = handed_now s }))) ≡ length s.takings - number s
       go true e = omega (arith, leb-true (length s.takings) (number s) e)
       go false e = omega (arith, leb-false (length s.takings) (number s) e)
 
@@ -92,7 +92,7 @@ module _ (d : Direction) where
       → GoodStory d w l.story
       → (t : Taking)
       → free l.story ≡ true
-      → record { begun = some (fresh t); heads = drop 1 (shown_line l).heads } ≡ shown_line (with_story (took d t) l)
+      → record { begun = Some (fresh t); heads = drop 1 (shown_line l).heads } ≡ shown_line (with_story (took d t) l)
   unfolding shown_line took
   took-shown w l g t e = line_same (took-work d w l.story g t e)
       (rw (length-append, ← drop-drop) (sym (map-drop (λ (x : Taken). x.head) 1 (unread_in l))))
@@ -109,7 +109,7 @@ module _ (d : Direction) where
       (w : List ℕ) (l : Line)
       → GoodStory d w l.story
       → (e : Ending) (latency : ℕ)
-      → record { begun = none; heads = (shown_line l).heads } ≡ shown_line (with_story (with_entry d e latency) l)
+      → record { begun = None; heads = (shown_line l).heads } ≡ shown_line (with_story (with_entry d e latency) l)
   unfolding shown_line with_entry
   entered-shown w l g e latency = line_same (entered-work d w l.story g e latency) refl
 
@@ -142,7 +142,7 @@ module _ (d : Direction) where
           (i : ℕ) (t : Taking) → front_at h i ≡ unread t.head → (counters_of d n).begin i t (queue_of h) ≡ queue_of (beginning d i t h)
       unfolding queue_of beginning
       begin-same i t e =
-          rw (shown-changed h.lines i (with_story (took d t)) (λ l. record { begun = some (fresh t); heads = drop 1 l.heads })
+          rw (shown-changed h.lines i (with_story (took d t)) (λ l. record { begun = Some (fresh t); heads = drop 1 l.heads })
           (took-shown (w i) (line_at h i) (g.line i).story t (is_free h i t.head e)))
 
       begin-front : (i : ℕ) (t : Taking) → front_at h i ≡ unread t.head → front_at (beginning d i t h) i ≡ working (fresh t)
@@ -162,7 +162,7 @@ module _ (d : Direction) where
           rw (
             next-wrap,
             length-append,
-            shown-changed h.lines i (with_story (with_entry d e latency)) (λ l. record { begun = none; heads = l.heads })
+            shown-changed h.lines i (with_story (with_entry d e latency)) (λ l. record { begun = None; heads = l.heads })
                 (entered-shown (w i) (line_at h i) (g.line i).story e latency),
           )
 

@@ -1,4 +1,7 @@
 -- The rules run alike over two ways of keeping a stream queue, where each operation does: nothing here knows counters or histories.
+use Rattle.std.specs.Prelude.{Result, Option, Ok, Err, Some, None}
+use Rattle.ring.specs.declared.Cause.{Cause}
+use Rattle.counts.specs.declared.DescriptorNumber.{DescriptorNumber}
 use mathlib.Core.Path.{◌≡◌, refl}
 use mathlib.Core.Bool.{Bool, true, false, cond, ◌&&◌, and-eq-true_iff}
 use mathlib.Core.List.{List, [], ◌++◌}
@@ -11,8 +14,6 @@ use Rattle.registers.proofs.Keeps.{by_cond}
 use Rattle.chain.specs.Walk.{Outcome, whole, faulted}
 use Rattle.ranges.specs.Ranges.{total, all_inside}
 use Rattle.ring.specs.Rules.{head_at, index_of}
-use Rattle.ring.specs.declared.Check.{Check}
-use Rattle.ring.specs.declared.Head.{Head}
 use Rattle.device.specs.Answers.{going}
 use Rattle.device.specs.Device.{Direction, Taking, Form, well_formed, Ending, finished, released, ill_formed, Message}
 use Rattle.device.specs.Transfer.{Run, begun, is_nil, is_well, payload_of, id_of, bytes_moved}
@@ -165,16 +166,16 @@ module _ {H Q : Type 0} (v : Virtqueue) (two : Pair H Q v.direction v.streams) w
           past = posted-past host A v ill_formed (fresh t) (A.bounce t v.latency s.queue) s p.past;
         }
 
-    met-same : (x : Head) (s : Run H) → Fine s → met D v x (lower s) ≡ lower (met A v x s)
+    met-same : (x : Result DescriptorNumber Cause) (s : Run H) → Fine s → met D v x (lower s) ≡ lower (met A v x s)
     unfolding shown_run
-    met-same (Head.At n) s p = taken-same n.0 (arrival_of v s.mem n.0) s p
-    met-same (Head.Broken cause) s p = refl
+    met-same (Ok n) s p = taken-same n.0 (arrival_of v s.mem n.0) s p
+    met-same (Err cause) s p = refl
 
-    met-keeps : (x : Head) (s : Run H) → Fine s → Fine (met A v x s)
-    met-keeps (Head.At n) s p = taken-keeps n.0 (arrival_of v s.mem n.0) s (arrival-fits v s.mem n.0) p
-    met-keeps (Head.Broken cause) s p = record { kept = p.kept; past = stopped-past host cause s p.past }
+    met-keeps : (x : Result DescriptorNumber Cause) (s : Run H) → Fine s → Fine (met A v x s)
+    met-keeps (Ok n) s p = taken-keeps n.0 (arrival_of v s.mem n.0) s (arrival-fits v s.mem n.0) p
+    met-keeps (Err cause) s p = record { kept = p.kept; past = stopped-past host cause s p.past }
 
-    abbrev head_now : Run H → Head
+    abbrev head_now : Run H → Result DescriptorNumber Cause
     head_now s = head_at s.mem v.page (queue_size v) (A.place s.queue)
 
     next-same : (s : Run H) → Fine s → next D v (lower s) ≡ lower (next A v s)
@@ -403,11 +404,11 @@ module _ {H Q : Type 0} (v : Virtqueue) (two : Pair H Q v.direction v.streams) w
     -- by what its check finds
     module _ (P : Run H → Type 0) (run_a : ℕ → Run H → Run H) (run_d : ℕ → Run Q → Run Q)
         (same : (new : ℕ) (s : Run H) → P s → run_d new (lower s) ≡ lower (run_a new s)) where
-      on_found-same : (c : Check) (s : Run H) → P s → on_found D v run_d (lower s) c ≡ lower (on_found A v run_a s c)
+      on_found-same : (c : Result (Option ℕ) Cause) (s : Run H) → P s → on_found D v run_d (lower s) c ≡ lower (on_found A v run_a s c)
       unfolding shown_run
-      on_found-same Check.Idle s p = refl
-      on_found-same (Check.Broken cause) s p = refl
-      on_found-same (Check.New n) s p = same n s p
+      on_found-same (Ok None) s p = refl
+      on_found-same (Err cause) s p = refl
+      on_found-same (Ok (Some n)) s p = same n s p
 
     begun-same : (host : List ℕ) → begun (f q) m host ≡ lower (begun q m host)
     unfolding shown_run
@@ -437,10 +438,10 @@ module _ {H Q : Type 0} (v : Virtqueue) (two : Pair H Q v.direction v.streams) w
 
     module _ (g : List ℕ → ℕ → List ℕ) (host : List ℕ) (run : ℕ → Run H → Run H)
         (keeps : (new : ℕ) (s : Run H) → Fine g host s → Fine g host (run new s)) where
-      on_found-keeps : (c : Check) (s : Run H) → Fine g host s → Fine g host (on_found A v run s c)
-      on_found-keeps Check.Idle s p = p
-      on_found-keeps (Check.Broken cause) s p = record { kept = p.kept; past = stopped-past host cause s p.past }
-      on_found-keeps (Check.New n) s p = keeps n s p
+      on_found-keeps : (c : Result (Option ℕ) Cause) (s : Run H) → Fine g host s → Fine g host (on_found A v run s c)
+      on_found-keeps (Ok None) s p = p
+      on_found-keeps (Err cause) s p = record { kept = p.kept; past = stopped-past host cause s p.past }
+      on_found-keeps (Ok (Some n)) s p = keeps n s p
 
     pub transferred-keeps : (host : List ℕ) → Right w i host (transferred A v i q m host)
     unfolding transferred

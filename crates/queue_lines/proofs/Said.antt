@@ -1,8 +1,8 @@
 -- Entries and their writing in 01's numbers are those of the account.
+use Rattle.std.specs.Prelude.{Option, None, Some}
 use mathlib.Core.Path.{◌≡◌, refl, sym, ap, ◌∙◌}
 use mathlib.Core.Bool.{Bool, true, false, true≢false}
 use mathlib.Core.List.{List, [], ◌∷◌}
-use mathlib.Core.Option.{Option, none, some}
 use Prim.Native.Nat.{ℕ, ◌-◌}
 use native.Mathlib.Omega.{arith}
 use lib.ListN.{length, length-drop, length-take}
@@ -61,7 +61,7 @@ unfolding written written_out posted_at size_of
 written_out_lem v k a m = by v.direction refl a.entry.status refl
   where
     by : (d : Direction) → v.direction ≡ d → (s : Option ℕ) → a.entry.status ≡ s → written v k a m ≡ written_out v k a m
-    by output e none f = rw (e, f)
-    by output e (some code) f = rw (e, f)
-    by input e none f = rw (e, f)
-    by input e (some code) f = rw (e, f)
+    by output e None f = rw (e, f)
+    by output e (Some code) f = rw (e, f)
+    by input e None f = rw (e, f)
+    by input e (Some code) f = rw (e, f)

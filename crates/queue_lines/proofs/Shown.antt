@@ -1,5 +1,6 @@
 -- Each entry that a call takes is as memory then shows it: an answer at once is an entry more, and no other is written before all are
 -- taken.
+use Rattle.std.specs.Prelude.{Ok}
 use mathlib.Core.Path.{◌≡◌, refl, sym, ap, ◌∙◌, subst}
 use mathlib.Core.Bool.{Bool, ◌&&◌}
 use mathlib.Core.List.{List, [], ◌∷◌, ◌++◌, append-nil, append_assoc}
@@ -13,7 +14,6 @@ use Rattle.registers.proofs.Keeps.{by_cond}
 use Rattle.chain.specs.Walk.{Outcome, whole, faulted}
 use Rattle.ranges.specs.Ranges.{total, all_inside}
 use Rattle.ring.specs.Rules.{head_at}
-use Rattle.ring.specs.declared.Head.{Head}
 use Rattle.device.specs.Account.{Grows}
 use Rattle.device.specs.Device.{Ending}
 use Rattle.device.specs.Transfer.{id_of}
@@ -115,7 +115,7 @@ module _ (v : Virtqueue) (m₀ : List ℕ) (h₀ : History) where
 
   module _ (m : List ℕ) (h n : History) (p : Now m h) (x : Taken) (zs : List Answer) (ts : n.takings ≡ h.takings ++ x ∷ [])
       (es : n.entries ≡ h.entries ++ zs)
-      (e : head_at m v.page (queue_size v) (length h.takings % queue_size v) ≡ Head.At (record { 0 = x.head }))
+      (e : head_at m v.page (queue_size v) (length h.takings % queue_size v) ≡ Ok (record { 0 = x.head }))
       (q : arrival_of v m x.head ≡ x.arrival) where
     took-new : Took v m₀ h₀ (length h.takings) n
     took-new =

@@ -1,12 +1,12 @@
 -- A transfer, and a Release, of the card and of the account run alike, and do to the histories what is claimed.
+use Rattle.std.specs.Prelude.{Result, Option, Ok, Err, Some, None}
+use Rattle.ring.specs.declared.Cause.{Cause}
 use mathlib.Core.Path.{◌≡◌, refl, sym, ap, ◌∙◌}
 use mathlib.Core.List.{List, [], ◌∷◌, ◌++◌, map, map-append}
-use mathlib.Core.Option.{some}
 use Prim.Native.Nat.{ℕ}
 use native.Mathlib.Decide.{ℕ_discrete}
 use borrow.Author.Tests.{eq-eqb}
 use lib.ListN.{drop}
-use Rattle.ring.specs.declared.Check.{Check}
 use Rattle.device.specs.Account.{Grows}
 use Rattle.device.specs.Claim.{work_of}
 use Rattle.device.specs.Device.{Direction, Ending, finished, released, Message}
@@ -36,12 +36,12 @@ module _ (v : Virtqueue) (i : ℕ) (said : ℕ → List ℕ) (h : History) (m : 
     found-done :
         (run : ℕ → Run History → Run History)
         → ((new : ℕ) (s : Run History) → Taking' v i m h g host s → Done v i call m h g host (run new s))
-        → (c : Check) (s : Run History)
+        → (c : Result (Option ℕ) Cause) (s : Run History)
         → Taking' v i m h g host s
         → Done v i call m h g host (on_found ops v run s c)
-    found-done run k Check.Idle s p = taking-done v i call m h g host s p
-    found-done run k (Check.Broken cause) s p = taking-done v i call m h g host (stopped cause s) (stopped-told v i m h g host cause s p)
-    found-done run k (Check.New n) s p = k n s p
+    found-done run k (Ok None) s p = taking-done v i call m h g host s p
+    found-done run k (Err cause) s p = taking-done v i call m h g host (stopped cause s) (stopped-told v i m h g host cause s p)
+    found-done run k (Ok (Some n)) s p = k n s p
 
     -- the book after a call
     told-book : (s : Run History) → Told v i call m h g host s → Book d s.queue
@@ -56,7 +56,7 @@ module _ (v : Virtqueue) (i : ℕ) (said : ℕ → List ℕ) (h : History) (m : 
         in_order j (yes q) = rw q (acts-order v i call host m h p.acts (book.in_order i))
         in_order j (no n) = rw ((acts-add v i call host m h p.acts).others j n).story (book.in_order j)
 
-        in-work : (j : ℕ) (w : Message) → work_of (line_at s.queue j).story ≡ some w → Dec (j ≡ i) → Waits d w
+        in-work : (j : ℕ) (w : Message) → work_of (line_at s.queue j).story ≡ Some w → Dec (j ≡ i) → Waits d w
         in-work j w e (yes q) = p.waits w (rw q at e)
         in-work j w e (no n) =
             book.in-work j w (rw ((acts-add v i call host m h p.acts).others j n).story at e)

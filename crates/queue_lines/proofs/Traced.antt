@@ -1,8 +1,8 @@
 -- A call on a stream queue over histories is its acts, one after the other, each as memory then shows it.
+use Rattle.std.specs.Prelude.{Some, Result, Ok, Err}
 use mathlib.Core.Path.{◌≡◌, refl, sym, ap, ◌∙◌, subst}
 use mathlib.Core.Bool.{Bool, false, ◌||◌, true≢false}
 use mathlib.Core.List.{List, []}
-use mathlib.Core.Option.{some}
 use Prim.Native.Nat.{ℕ, ◌-◌, ◌≤◌, ◌<◌}
 use borrow.Author.Tests.{ltb-true}
 use native.Mathlib.Omega.{arith}
@@ -12,7 +12,6 @@ use lib.Seq.{drop-drop, get_or-set_same}
 use Rattle.registers.proofs.Keeps.{by_cond}
 use Rattle.counts.specs.declared.DescriptorNumber.{DescriptorNumber}
 use Rattle.ring.specs.declared.Cause.{Cause}
-use Rattle.ring.specs.declared.Head.{Head}
 use Rattle.device.specs.Answers.{going}
 use Rattle.device.specs.Claim.{work_of}
 use Rattle.device.specs.Device.{Direction, well_formed, Taking, Ending, finished, released, ill_formed, Message}
@@ -41,7 +40,7 @@ use Rattle.queue_lines.proofs.Natural.{moved-begun, nothing_left}
 
 -- a message in work waits, line by line
 abbrev pub Waiting : Direction → Line → Type 0
-Waiting d l = (w : Message) → work_of l.story ≡ some w → Waits d w
+Waiting d l = (w : Message) → work_of l.story ≡ Some w → Waits d w
 
 -- ---- taking
 
@@ -68,7 +67,7 @@ module _ (v : Virtqueue) (i : ℕ) (m₀ : List ℕ) (h₀ : History) (g : List 
 
   taken-told :
       (head : DescriptorNumber) (a : Arrival) (s : Run History)
-      → next_head v m₀ h₀ s.mem s.queue ≡ Head.At head
+      → next_head v m₀ h₀ s.mem s.queue ≡ Ok head
       → arrival_of v s.mem head.0 ≡ a
       → Taking' s
       → Taking' (rules.taken (account v) v head.0 a s)
@@ -101,9 +100,10 @@ module _ (v : Virtqueue) (i : ℕ) (m₀ : List ℕ) (h₀ : History) (g : List 
         waits = p.waits;
       }
 
-  met-told : (x : Head) (s : Run History) → next_head v m₀ h₀ s.mem s.queue ≡ x → Taking' s → Taking' (met (account v) v x s)
-  met-told (Head.At n) s e p = taken-told n (arrival_of v s.mem n.0) s e refl p
-  met-told (Head.Broken cause) s e p = stopped-told cause s p
+  met-told : (x : Result DescriptorNumber Cause) (s : Run History) → next_head v m₀ h₀ s.mem s.queue ≡ x → Taking' s
+      → Taking' (met (account v) v x s)
+  met-told (Ok n) s e p = taken-told n (arrival_of v s.mem n.0) s e refl p
+  met-told (Err cause) s e p = stopped-told cause s p
 
   next-told : (s : Run History) → Taking' s → Taking' (next (account v) v s)
   unfolding next
@@ -311,7 +311,7 @@ module _ (v : Virtqueue) (i : ℕ) (m₀ : List ℕ) (h₀ : History) (w : ℕ �
     all_moved : left_of acc v now ≡ [] → now.done ≡ length (payload_of dir m.taking)
     all_moved e = omega (arith, on_fits, simp length-drop at (ap length e))
 
-    some-wait : is_nil (drop s.room left) ≡ false → (x : Message) → work_of (line_at on.queue i).story ≡ some x → Waits dir x
+    some-wait : is_nil (drop s.room left) ≡ false → (x : Message) → work_of (line_at on.queue i).story ≡ Some x → Waits dir x
     some-wait e x q =
         let y : now ≡ x = some_same now x (sym (is-work on.queue i now on-begun.front) ∙ q) in
         rw (← y) (record { well = well; some_left = rw (← drop-drop, drop-taken) e })

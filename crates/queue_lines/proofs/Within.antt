@@ -1,4 +1,6 @@
 -- The lines of a queue hold at most N messages in all, and so no line more: what the overrun rule lets pass is taken, and no more.
+use Rattle.std.specs.Prelude.{Result, Option, Ok, Err, Some, None}
+use Rattle.ring.specs.declared.Cause.{Cause}
 use mathlib.Core.List.{List, []}
 use Prim.Native.Nat.{ℕ, ◌+◌, ◌≤◌}
 use native.Mathlib.Omega.{arith}
@@ -8,7 +10,6 @@ use lib.ListN.{length}
 use Rattle.registers.proofs.Keeps.{by_cond}
 use Rattle.ring.specs.Layout.{end_at}
 use Rattle.ring.specs.Rules.{base_of, index_of, found_of}
-use Rattle.ring.specs.declared.Check.{Check}
 use Rattle.device.specs.Device.{Ending, finished, released}
 use Rattle.device.specs.Transfer.{Run, begun}
 use Rattle.device.proofs.Grown.{grows-length}
@@ -25,10 +26,10 @@ use Rattle.queue_lines.proofs.Reading.{taken-count}
 use Rattle.queue_lines.proofs.Theorem.{transfer-turn, release-turn}
 
 -- how many a call takes at most, by what its check finds
-abbrev new_in : Check → ℕ
-new_in Check.Idle = 0
-new_in (Check.Broken cause) = 0
-new_in (Check.New n) = n
+abbrev new_in : Result (Option ℕ) Cause → ℕ
+new_in (Ok None) = 0
+new_in (Err cause) = 0
+new_in (Ok (Some n)) = n
 
 module _ (v : Virtqueue) (i : ℕ) (said : ℕ → List ℕ) (h : History) (m : List ℕ) (good : Good v.direction v.streams said h)
     (book : Book v.direction h) (within : (account v).in_work h ≤ queue_size v) where
@@ -40,7 +41,7 @@ module _ (v : Virtqueue) (i : ℕ) (said : ℕ → List ℕ) (h : History) (m : 
   unfolding found_of
   found_within =
       let new = ops.new h (index_of m v.page (queue_size v)) in
-      let P : Check → Type 0 = λ (c : Check). new_in c + ops.in_work h ≤ queue_size v in
+      let P : Result (Option ℕ) Cause → Type 0 = λ (c : Result (Option ℕ) Cause). new_in c + ops.in_work h ≤ queue_size v in
       by_cond P (eqb v.page.0 0) (λ e. omega arith)
       (λ e.
       by_cond P (ltb (length m) (base_of v.page + end_at (queue_size v))) (λ e. omega arith)
@@ -50,11 +51,11 @@ module _ (v : Virtqueue) (i : ℕ) (said : ℕ → List ℕ) (h : History) (m : 
   found-few :
       (run : ℕ → Run History → Run History) (s : Run History)
       → ((new : ℕ) → size (run new s) ≤ size s + new)
-      → (c : Check)
+      → (c : Result (Option ℕ) Cause)
       → size (on_found ops v run s c) ≤ size s + new_in c
-  found-few run s k Check.Idle = omega arith
-  found-few run s k (Check.Broken cause) = omega arith
-  found-few run s k (Check.New n) = k n
+  found-few run s k (Ok None) = omega arith
+  found-few run s k (Err cause) = omega arith
+  found-few run s k (Ok (Some n)) = k n
 
   -- after a call that took so few
   turn-within :

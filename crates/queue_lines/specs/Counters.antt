@@ -1,6 +1,5 @@
 -- A stream queue as the card keeps it: counters modulo 65,536 and a line of messages for each stream.
-use Rattle.std.specs.Prelude.{List, [], ◌∷◌, ◌++◌, ℕ, ◌+◌, ◌%◌, length, drop, get_or, set, replicate}
-use Rattle.std.proofs.Math.Option.{Option, none, some}
+use Rattle.std.specs.Prelude.{Option, None, Some, List, [], ◌∷◌, ◌++◌, ℕ, ◌+◌, ◌%◌, length, drop, get_or, set, replicate}
 use Rattle.registers.specs.Map.{size_of}
 use Rattle.ring.specs.Rules.{new_of}
 use Rattle.device.specs.Counters.{further}
@@ -18,13 +17,13 @@ pub record Queue : Type 0 where
   pub lines : List Line
 
 abbrev pub no_line : Line
-no_line = record { begun = none; heads = [] }
+no_line = record { begun = None; heads = [] }
 
 -- the front, by the message begun and the heads of those that are not
 abbrev pub front_of : Option Message → List ℕ → Front
-front_of (some w) heads = working w
-front_of none [] = vacant
-front_of none (head ∷ heads) = unread head
+front_of (Some w) heads = working w
+front_of None [] = vacant
+front_of None (head ∷ heads) = unread head
 
 -- the sum of a number of each element
 unfoldable pub sum_of : {A : Type 0} → (A → ℕ) → List A → ℕ
@@ -32,8 +31,8 @@ sum_of f [] = 0
 sum_of f (x ∷ xs) = f x + sum_of f xs
 
 abbrev pub if_begun : Option Message → ℕ
-if_begun none = 0
-if_begun (some w) = 1
+if_begun None = 0
+if_begun (Some w) = 1
 
 abbrev pub length_of : Line → ℕ
 length_of l = if_begun l.begun + length l.heads
@@ -68,7 +67,7 @@ counters_of d n =
           record {
             taken = q.taken;
             completed = q.completed;
-            lines = changed no_line i (λ l. record { begun = some (fresh t); heads = drop 1 l.heads }) q.lines;
+            lines = changed no_line i (λ l. record { begun = Some (fresh t); heads = drop 1 l.heads }) q.lines;
           };
       hand = λ i bytes xs q.
           record {
@@ -80,6 +79,6 @@ counters_of d n =
           record {
             taken = q.taken;
             completed = (q.completed + 1) % 65536;
-            lines = changed no_line i (λ l. record { begun = none; heads = l.heads }) q.lines;
+            lines = changed no_line i (λ l. record { begun = None; heads = l.heads }) q.lines;
           };
     }

@@ -1,12 +1,10 @@
 -- Order 8, with 01, Play, capture, events: the rules of a stream queue in a call: taking all new entries, then working the line of one
 -- stream, or ending it by a Release; for either direction and for any way `Q` of keeping the queue.
+use Rattle.std.specs.Prelude.{Option, Result, Ok, Err, Some, None}
+use Rattle.counts.specs.declared.DescriptorNumber.{DescriptorNumber}
 use Rattle.std.specs.Prelude.{cond, ◌||◌, List, [], ◌++◌, ℕ, zero, suc, ◌+◌, ◌-◌, ltb, length, take, drop}
-use Rattle.std.proofs.Math.Option.{Option}
 use Rattle.ring.specs.Rules.{base_of, index_of, found_of, head_at, posted_at, interrupts}
 use Rattle.ring.specs.declared.Cause.{Cause}
-use Rattle.ring.specs.declared.Check.{Check}
-use Rattle.ring.specs.declared.Head.{Head}
-use Rattle.ring.specs.declared.Stop.{Stop}
 use Rattle.device.specs.Answers.{going}
 use Rattle.device.specs.Device.{Taking, Ending, finished, released, ill_formed, Message}
 use Rattle.device.specs.Transfer.{Run, begun, is_nil, is_well, payload_of, status_of, status_in_reply, used_length, memory_moved}
@@ -48,7 +46,7 @@ with_queue q r =
 
 abbrev pub stopped : {Q : Type 0} → Cause → Run Q → Run Q
 stopped cause r =
-    record { queue = r.queue; mem = r.mem; bytes = r.bytes; host = r.host; room = r.room; stop = Stop.Broke cause; signal = r.signal }
+    record { queue = r.queue; mem = r.mem; bytes = r.bytes; host = r.host; room = r.room; stop = Some cause; signal = r.signal }
 
 -- a message of which nothing was moved yet, and one of which so many bytes more were
 abbrev pub fresh : Taking → Message
@@ -84,9 +82,9 @@ module _ {Q : Type 0} (ops : Ops Q) (v : Virtqueue) where
   taken head (at_once t) r = posted ill_formed (fresh t) (ops.bounce t v.latency r.queue) r
 
   -- "when met, a head is ≥ N (that entry is not taken)": it "ends either, untaken; what the call added before it stands"
-  abbrev pub met : Head → Run Q → Run Q
-  met (Head.At n) r = taken n.0 (arrival_of v r.mem n.0) r
-  met (Head.Broken cause) r = stopped cause r
+  abbrev pub met : Result DescriptorNumber Cause → Run Q → Run Q
+  met (Ok n) r = taken n.0 (arrival_of v r.mem n.0) r
+  met (Err cause) r = stopped cause r
 
   -- the next new entry, unless the queue broke
   unfoldable pub next : Run Q → Run Q
@@ -161,14 +159,14 @@ module _ {Q : Type 0} (ops : Ops Q) (v : Virtqueue) where
   -- "New entries = index − taken, modulo 65,536 .. new plus in work exceeds N"; "the overrun rule counts all of a queue as in work". "The
   -- available index is read once per call (for a Release, once more on the stream's queue), before that queue's writes.": in memory as
   -- the call's part finds it
-  abbrev pub found : Q → List ℕ → Check
+  abbrev pub found : Q → List ℕ → Result (Option ℕ) Cause
   found q m = found_of m v.page (queue_size v) (ops.new q (index_of m v.page (queue_size v))) (ops.in_work q)
 
   -- on an idle or a broken queue nothing is done: "idle: nothing pending", "On an idle queue neither adds anything"
-  abbrev pub on_found : (ℕ → Run Q → Run Q) → Run Q → Check → Run Q
-  on_found run r Check.Idle = r
-  on_found run r (Check.Broken cause) = stopped cause r
-  on_found run r (Check.New n) = run n r
+  abbrev pub on_found : (ℕ → Run Q → Run Q) → Run Q → Result (Option ℕ) Cause → Run Q
+  on_found run r (Ok None) = r
+  on_found run r (Err cause) = stopped cause r
+  on_found run r (Ok (Some n)) = run n r
 
   -- a play or capture of the stream of line i, that lends `host`; and its Release
   unfoldable pub transferred : ℕ → Q → List ℕ → List ℕ → Run Q

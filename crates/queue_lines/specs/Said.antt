@@ -1,8 +1,7 @@
 -- What the used entries of demand 3 say, and what their writing leaves in memory, in 01's own numbers: written out here once more, apart
 -- from the rules, so that a rule that is wrong in the card and in the account alike is not taken for right. The theorems are `said` and
 -- `written_out_lem` of proofs/Said.
-use Rattle.std.specs.Prelude.{◌≡◌, Bool, true, false, List, ◌++◌, ℕ, ◌+◌, ◌-◌, ◌*◌, ◌%◌, length, drop}
-use Rattle.std.proofs.Math.Option.{Option, none, some}
+use Rattle.std.specs.Prelude.{Option, None, Some, ◌≡◌, Bool, true, false, List, ◌++◌, ℕ, ◌+◌, ◌-◌, ◌*◌, ◌%◌, length, drop}
 use Rattle.memory.specs.Bytes.{put}
 use Rattle.ranges.specs.Ranges.{total, places, put_at}
 use Rattle.ranges.specs.declared.Range.{Range}
@@ -40,12 +39,12 @@ is_mute (unwalked fault) = true
 -- in one of four ways
 pub data Ways (d : Direction) (t : Taking) (e : Entry) : Type 0 where
   finished_ok :
-      t.form ≡ well_formed → e.ending ≡ finished → e.status ≡ some 32768 → e.length ≡ length_of d (payload_length d t) → Ways d t e
+      t.form ≡ well_formed → e.ending ≡ finished → e.status ≡ Some 32768 → e.length ≡ length_of d (payload_length d t) → Ways d t e
   released_by :
-      (done : ℕ) → t.form ≡ well_formed → e.ending ≡ released → e.status ≡ some (released_status d) → e.length ≡ length_of d done
+      (done : ℕ) → t.form ≡ well_formed → e.ending ≡ released → e.status ≡ Some (released_status d) → e.length ≡ length_of d done
       → Ways d t e
-  refused_io_err : t.form ≡ refused → e.ending ≡ ill_formed → e.status ≡ some 32771 → e.length ≡ 8 → Ways d t e
-  mute : is_mute t.form ≡ true → e.ending ≡ ill_formed → e.status ≡ none → e.length ≡ 0 → Ways d t e
+  refused_io_err : t.form ≡ refused → e.ending ≡ ill_formed → e.status ≡ Some 32771 → e.length ≡ 8 → Ways d t e
+  mute : is_mute t.form ≡ true → e.ending ≡ ill_formed → e.status ≡ None → e.length ≡ 0 → Ways d t e
 
 -- .. and with the head of the chain that was read
 pub record Says (d : Direction) (a : Answer) : Type 0 where
@@ -65,8 +64,8 @@ ring_size input = 64
 
 -- "Status (code, latency ..) is the last 8 reply bytes."
 abbrev pub status_written : Option ℕ → ℕ → List Range → List ℕ → List ℕ
-status_written none latency reply m = m
-status_written (some code) latency reply m = put_at m (drop (total reply - 8) (places reply)) (bytes_of 4 code ++ bytes_of 4 latency)
+status_written None latency reply m = m
+status_written (Some code) latency reply m = put_at m (drop (total reply - 8) (places reply)) (bytes_of 4 code ++ bytes_of 4 latency)
 
 -- "Completing writes, in order: reply bytes, used element (head, length) at completed mod N, then as used index .. completed + 1 modulo
 -- 65,536": for used entry number k

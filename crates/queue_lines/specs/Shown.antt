@@ -1,8 +1,8 @@
 -- "as memory then shows them": each entry that a call takes, by its number; each chain that a play or a Release reads, and each byte that
 -- a play hands on, by the message's number in its line; in the memory that the answers before it left.
+use Rattle.std.specs.Prelude.{Ok}
 use Rattle.std.specs.Prelude.{◌≡◌, Bool, true, false, List, ℕ, ◌+◌, ◌-◌, ◌%◌, length, take, drop, get_or}
 use Rattle.ring.specs.Rules.{head_at}
-use Rattle.ring.specs.declared.Head.{Head}
 use Rattle.device.specs.Device.{nobody}
 use Rattle.device.specs.Histories.{Note, number}
 use Rattle.queue_lines.specs.Chains.{Virtqueue, queue_size, Arrival, in_line, at_once, arrival_of, reading_of}
@@ -28,7 +28,7 @@ module _ (v : Virtqueue) (m₀ : List ℕ) (h₀ : History) where
   pub record Took (k : ℕ) (h : History) : Type 0 where
     pub head :
         head_at (memory_at (answered_below k h) h) v.page (queue_size v) (k % queue_size v)
-        ≡ Head.At (record { 0 = (get_or h.takings k untaken).head })
+        ≡ Ok (record { 0 = (get_or h.takings k untaken).head })
     pub arrival :
         arrival_of v (memory_at (answered_below k h) h) (get_or h.takings k untaken).head ≡ (get_or h.takings k untaken).arrival
 

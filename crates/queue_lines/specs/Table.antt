@@ -1,4 +1,5 @@
 -- The P cases of order 8 that are about a stream queue, as one table over the definitions; 01's are in line_calls/specs/Cases.
+use Rattle.std.specs.Prelude.{Result, Option, Ok, Err, Some}
 use Rattle.std.specs.Prelude.{◌≡◌, List, [], ◌∷◌, Bool, true, false, ◌⊎◌, ℕ, ◌<◌, ◌≤◌, ◌+◌, ◌-◌, length, drop}
 use Rattle.counts.specs.declared.PageNumber.{PageNumber}
 use Rattle.chain.specs.Walk.{whole, faulted}
@@ -8,7 +9,6 @@ use Rattle.ranges.specs.declared.Range.{Range}
 use Rattle.ring.specs.Layout.{end_at}
 use Rattle.ring.specs.Rules.{base_of, posted_of}
 use Rattle.ring.specs.declared.Cause.{Cause}
-use Rattle.ring.specs.declared.Check.{Check}
 use Rattle.device.specs.Device.{output, Form, well_formed, refused, silent, unwalked, Taking}
 use Rattle.device.specs.Numbers.{s_io_err}
 use Rattle.device.specs.Transfer.{Shows, Run, begun, id_of, status_bytes}
@@ -19,7 +19,7 @@ use Rattle.queue_lines.specs.Rules.{stopped, found, unread, transfer_step, relea
 
 -- what the check of a play queue of two streams finds with 256 taken, at this available index and with lines of these lengths: in every
 -- memory and at every page that shows it
-abbrev pub finds : ℕ → ℕ → ℕ → Check → Type 0
+abbrev pub finds : ℕ → ℕ → ℕ → Result (Option ℕ) Cause → Type 0
 finds index one two check =
     (m : List ℕ) (page : PageNumber) (negotiated : Bool) (latency completed : ℕ) (a b : Line)
     → Shows m page index
@@ -112,9 +112,9 @@ pub record Table : Type 0 where
       → total reply ≡ 8
       → reading_of v i m head ≡ read_as head request reply well_formed
   -- lines of 200 and 56 on two streams, none new: fine; the next entry is 11. With lines of 200 and 55 one more is fine
-  pub full : finds 256 200 56 (Check.New 0)
-  pub one_more : finds 257 200 56 (Check.Broken Cause.Entries)
-  pub one-fits : finds 257 200 55 (Check.New 1)
+  pub full : finds 256 200 56 (Ok (Some 0))
+  pub one_more : finds 257 200 56 (Err Cause.Entries)
+  pub one-fits : finds 257 200 55 (Ok (Some 1))
   -- ids swapped after taking: IO_ERR, whichever line; nothing is moved, and the message goes to no other line
   pub swapped :
       (v : Virtqueue) (i : ℕ) (r : Run Queue) (head : ℕ) (request reply : List Range)

@@ -1,10 +1,10 @@
 -- What a call on a stream queue adds to its histories, act by act, each as the memory of that moment shows it: `Acts`. What is claimed of
 -- the entries, and of the messages in work between calls: `Book`.
+use Rattle.std.specs.Prelude.{Some, Result, Ok}
+use Rattle.ring.specs.declared.Cause.{Cause}
 use Rattle.std.specs.Prelude.{◌≡◌, Bool, false, ◌||◌, List, [], ◌∷◌, ◌++◌, map, ◌⊎◌, ℕ, suc, ◌+◌, ◌%◌, ◌<◌, length, take, drop}
-use Rattle.std.proofs.Math.Option.{some}
 use Rattle.counts.specs.declared.DescriptorNumber.{DescriptorNumber}
 use Rattle.ring.specs.Rules.{base_of, head_at, posted_at, interrupts}
-use Rattle.ring.specs.declared.Head.{Head}
 use Rattle.device.specs.Account.{Each, Grows, InOrder}
 use Rattle.device.specs.Answers.{going}
 use Rattle.device.specs.Claim.{work_of}
@@ -51,7 +51,7 @@ Ordered s = InOrder 0 (suc (number s)) s.notes
 
 pub record Book (d : Direction) (h : History) : Type 0 where
   pub answers : Each (λ (a : Answer). Answers d a.chain a.entry) h.entries
-  pub in-work : (i : ℕ) (w : Message) → work_of (line_at h i).story ≡ some w → Waits d w
+  pub in-work : (i : ℕ) (w : Message) → work_of (line_at h i).story ≡ Some w → Waits d w
   -- the bytes of each line are handed on in the order of its messages, none of a message past the one in work
   pub in_order : (i : ℕ) → Ordered (line_at h i).story
 
@@ -75,7 +75,7 @@ answer_at_once v t h =
 -- the acts so far of a call that was lent m₀ and began with history h₀: memory and history after them, the bytes moved, and whether an
 -- interrupt is wanted
 module _ (v : Virtqueue) (m₀ : List ℕ) (h₀ : History) where
-  abbrev pub next_head : List ℕ → History → Head
+  abbrev pub next_head : List ℕ → History → Result DescriptorNumber Cause
   next_head m h = head_at m v.page (queue_size v) ((account v).place h)
 
   -- "Each play, capture or Release .. first takes all new entries"
@@ -85,14 +85,14 @@ module _ (v : Virtqueue) (m₀ : List ℕ) (h₀ : History) where
     joins :
         {m : List ℕ} {h : History} {signal : Bool} {head : DescriptorNumber} {line : ℕ}
         → Takes m h signal
-        → next_head m h ≡ Head.At head
+        → next_head m h ≡ Ok head
         → arrival_of v m head.0 ≡ in_line line
         → Takes m (joining line head.0 h) signal
     -- ".. gets its 01 answer at once"
     bounces :
         {m : List ℕ} {h : History} {signal : Bool} {head : DescriptorNumber} {t : Taking}
         → Takes m h signal
-        → next_head m h ≡ Head.At head
+        → next_head m h ≡ Ok head
         → arrival_of v m head.0 ≡ at_once t
         → Takes (written v (length h.entries) (answer_at_once v t h) m) (bounced v.direction t v.latency h)
         (signal || wanted v (written v (length h.entries) (answer_at_once v t h) m))

@@ -1,5 +1,8 @@
 -- Laws of joined ranges: lengths, one range more, how a part of the joined bytes splits at a range's border, and what lies
 -- past the end of memory or of a buffer.
+use borrow.Rule.Slice.PartMut.{put_mid}
+use Rattle.std.proofs.lemmas.List.Edits.{sets-eq}
+use Rattle.std.proofs.lemmas.Slice.{put_mid-paste}
 use mathlib.Core.Path.{◌≡◌, refl, sym, ◌∙◌, ap}
 use mathlib.Core.List.{List, [], ◌∷◌, ◌++◌, map, append_assoc, map-append}
 use Prim.Native.Nat.{ℕ, zero, suc, ◌+◌, ◌-◌, ◌*◌, ◌≤◌, ◌<◌, min}
@@ -7,7 +10,7 @@ use native.Mathlib.Numerals.{add-one}
 use native.Mathlib.Nat.{add-zero, zero-add, suc-add, sub-zero}
 use native.Mathlib.Omega.{arith}
 use lib.ListN.{length, get_or, set, take, drop, replicate, length-append, length-drop, length-set, length-map, get_or-eq_default}
-use lib.Seq.{sets, set_out, drop-cons, take-nil, drop-nil, drop-drop, get_or-set_same, get_or-set_other}
+use lib.Seq.{take-length, sets, set_out, drop-cons, take-nil, drop-nil, drop-drop, get_or-set_same, get_or-set_other}
 use Rattle.ranges.specs.declared.Range.{Range}
 use Rattle.ranges.specs.Ranges.{no_ranges, range_in, put_range, ranges_in, ranges_of, total, Sound, up_from, places, bytes_at, put_at}
 
@@ -222,6 +225,13 @@ pub places-skip : (x : Range) (rest : List Range) (skip left : ℕ) → x.len �
 unfolding up_from
 places-skip x rest skip left h = places-next x rest skip left x.len 0 (omega arith) (omega arith) ∙ rw sub-zero
 
+-- a range of which so many bytes are taken
+pub places-within : (x : Range) (rest : List Range) (skip left k : ℕ) → skip < x.len → k ≡ min (x.len - skip) left
+    → take left (drop skip (places (x ∷ rest))) ≡ up_from (x.at.0 + skip) k ++ take (left - k) (places rest)
+places-within x rest skip left k h e =
+    let none : skip - skip ≡ 0 = omega arith in
+    places-next x rest skip left skip k (omega arith) e ∙ rw none
+
 pub places-none : (skip left : ℕ) → take left (drop skip (places [])) ≡ []
 unfolding places
 places-none skip left = rw (drop-nil, take-nil)
@@ -361,3 +371,9 @@ module _ (m : List ℕ) (n k : ℕ) (as' : List ℕ) where
       → put_at m (take k as') (drop from src) ≡ put_at m (take n as') (drop from src)
   scatter-room src from h =
       rw (h, take_min, put_at-take (length src - from) m (take n as') (drop from src) (simp length-drop (omega arith)))
+
+-- ---- a part of a slice written as a whole
+
+pub put_mid-sets : {A : Type 0} (a k : ℕ) (xs ys : List A) → length ys ≡ k → a + k ≤ length xs → put_mid a k xs ys ≡ sets xs a ys
+put_mid-sets a k xs ys e h =
+    rw (put_mid-paste a k xs ys ys k refl refl (sym e), sets-eq ys xs a (omega arith), e, ← e, take-length)

@@ -26,15 +26,6 @@ pub struct Ranges {
     pub bytes: u32,
 }
 
-pub fn least(a: usize, b: usize) -> usize
-    ensures { result ≡ min a b }
-{
-    if a <= b {
-        return a;
-    }
-    b
-}
-
 impl Ranges {
     // No range at all.
     pub fn none() -> Ranges
@@ -52,74 +43,65 @@ impl Ranges {
 fn word(list: &[u64], i: usize) -> u64
     ensures { result ≡ get_or list.now i 0 }
 {
-    if list.len() <= i {
-        return 0;
-    }
-    list[i]
+    if i < list.len() { list[i] } else { 0 }
 }
 
 // Another word there; nothing past its end.
 fn set_word(list: &mut [u64], i: usize, v: u64)
     ensures { list.new ≡ set list.old i v }
 {
-    if list.len() <= i {
-        return;
+    if i < list.len() {
+        list[i] = v;
     }
-    list[i] = v;
 }
 
 // The range at place `i` of a list: with one test where both its words are there.
+#[tactic(auto, unfolding(crate::specs::Ranges::range_in))]
 pub fn range_at(list: &[u64], i: usize) -> Range
     requires { i < 8589934592 }
     ensures { result ≡ range_in list.now i }
 {
     let k = 2 * i;
-    if list.len() <= k + 1 {
-        let at = word(list, k);
-        let len = word(list, k + 1);
-        return Range {
-            at: GuestAddress::of(at),
-            len,
-        };
-    }
-    let at = list[k];
-    let len = list[k + 1];
-    Range {
-        at: GuestAddress::of(at),
-        len,
+    if k + 1 < list.len() {
+        Range {
+            at: GuestAddress::of(list[k]),
+            len: list[k + 1],
+        }
+    } else {
+        Range {
+            at: GuestAddress::of(word(list, k)),
+            len: word(list, k + 1),
+        }
     }
 }
 
 // Another range there.
+#[tactic(auto, unfolding(crate::specs::Ranges::put_range))]
 pub fn put_range(list: &mut [u64], i: usize, range: Range)
     requires { i < 8589934592 }
     ensures { list.new ≡ put_range list.old i range }
 {
     let k = 2 * i;
-    let at = range.at;
-    let start = at.number();
-    if list.len() <= k + 1 {
+    let start = range.at.number();
+    if k + 1 < list.len() {
+        list[k] = start;
+        list[k + 1] = range.len;
+    } else {
         set_word(list, k, start);
         set_word(list, k + 1, range.len);
-        return;
     }
-    list[k] = start;
-    list[k + 1] = range.len;
 }
 
 // Whether every range lies inside `len` bytes of memory.
 pub fn all_inside(len: usize, list: &[u64], r: Ranges) -> bool
     ensures { result ≡ all_inside len (ranges_of list.now r) }
 {
-    let mut i = r.first as usize;
-    let mut more = r.count;
-    while 0 < more {
+    let first = r.first as usize;
+    for i in first..first + r.count as usize {
         let range = range_at(list, i);
         if !memory::inside(len, range.at, range.len) {
             return false;
         }
-        i += 1;
-        more -= 1;
     }
     true
 }
@@ -129,15 +111,7 @@ pub fn copy(dst: &mut [u8], at: usize, src: &[u8], from: usize, n: usize)
     requires { (at + n ≤ length dst.old) × (from + n ≤ length src.now) }
     ensures { dst.new ≡ sets dst.old at (bytes_at src.now (up_from from n)) }
 {
-    let mut d = at;
-    let mut f = from;
-    let mut left = n;
-    while 0 < left {
-        dst[d] = src[f];
-        d += 1;
-        f += 1;
-        left -= 1;
-    }
+    dst[at..at + n].copy_from_slice(&src[from..from + n]);
 }
 
 // `n` zeros in `dst` at `at`.
@@ -145,13 +119,7 @@ fn clear(dst: &mut [u8], at: usize, n: usize)
     requires { at + n ≤ length dst.old }
     ensures { dst.new ≡ sets dst.old at (replicate n 0) }
 {
-    let mut d = at;
-    let mut left = n;
-    while 0 < left {
-        dst[d] = 0;
-        d += 1;
-        left -= 1;
-    }
+    dst[at..at + n].fill(0);
 }
 
 // `n` bytes of memory from `skip` behind `start` on, put into `dst` at `at`; zeros for those past
@@ -161,7 +129,7 @@ fn gather_run(m: &[u8], start: GuestAddress, skip: usize, dst: &mut [u8], at: us
     ensures { dst.new ≡ sets dst.old at (bytes_at m.now (up_from (start.0 + skip) n)) }
 {
     let from = memory::place(m.len(), start, skip as u64);
-    let k = least(n, m.len() - from);
+    let k = usize::min(n, m.len() - from);
     copy(dst, at, m, from, k);
     clear(dst, at + k, n - k);
 }
@@ -173,7 +141,7 @@ fn scatter_run(m: &mut [u8], start: GuestAddress, skip: usize, src: &[u8], from:
     ensures { m.new ≡ put_at m.old (up_from (start.0 + skip) n) (drop from src.now) }
 {
     let at = memory::place(m.len(), start, skip as u64);
-    let k = least(n, m.len() - at);
+    let k = usize::min(n, m.len() - at);
     copy(m, at, src, from, k);
 }
 
@@ -186,28 +154,23 @@ pub fn gather(m: &[u8], list: &[u64], r: Ranges, offset: usize, dst: &mut [u8], 
     if dst.len() <= at {
         return;
     }
-    let mut more = r.count;
-    let mut left = least(n, dst.len() - at);
+    let first = r.first as usize;
+    let mut left = usize::min(n, dst.len() - at);
     let mut skip = offset;
     let mut d = at;
-    let mut i = r.first as usize;
-    while 0 < more {
+    for i in first..first + r.count as usize {
         if left == 0 {
             return;
         }
         let range = range_at(list, i);
         let len = range.len as usize;
-        i += 1;
-        more -= 1;
         if len <= skip {
             skip -= len;
             continue;
         }
-        // of this range, `gone` bytes are passed over and `k` moved
-        let gone = least(skip, len);
-        let k = least(len - gone, left);
-        gather_run(m, range.at, gone, dst, d, k);
-        skip -= gone;
+        let k = usize::min(len - skip, left);
+        gather_run(m, range.at, skip, dst, d, k);
+        skip = 0;
         d += k;
         left -= k;
     }
@@ -230,28 +193,23 @@ pub fn scatter(
     if src.len() <= from {
         return;
     }
-    let mut more = r.count;
-    let mut left = least(n, src.len() - from);
+    let first = r.first as usize;
+    let mut left = usize::min(n, src.len() - from);
     let mut skip = offset;
     let mut f = from;
-    let mut i = r.first as usize;
-    while 0 < more {
+    for i in first..first + r.count as usize {
         if left == 0 {
             return;
         }
         let range = range_at(list, i);
         let len = range.len as usize;
-        i += 1;
-        more -= 1;
         if len <= skip {
             skip -= len;
             continue;
         }
-        // of this range, `gone` bytes are passed over and `k` moved
-        let gone = least(skip, len);
-        let k = least(len - gone, left);
-        scatter_run(m, range.at, gone, src, f, k);
-        skip -= gone;
+        let k = usize::min(len - skip, left);
+        scatter_run(m, range.at, skip, src, f, k);
+        skip = 0;
         f += k;
         left -= k;
     }

@@ -2,7 +2,7 @@
 // of the queues.
 #![tactic(auto)]
 
-ghost use Rattle.std.specs.Prelude.{◌≡◌};
+ghost use Rattle.std.specs.Prelude.{◌≡◌, ◌+◌, ◌&&◌, leb};
 ghost use Rattle.register_map.specs.Map.{register_at, exactly, config_at, size_of};
 
 // The queues' numbers (002, 3.4.2).
@@ -30,6 +30,7 @@ pub enum Register {
 }
 
 // The register that an access of `width` bytes at `offset` reaches.
+#[tactic(auto, unfolding(crate::specs::Map::register_at))]
 pub fn register_at(offset: u64, width: u64) -> Register
     ensures { result ≡ register_at offset width }
 {
@@ -51,38 +52,33 @@ fn exact(width: u64, size: u64, register: Register) -> Register
     ensures { result ≡ exactly width size register }
 {
     if width == size {
-        return register;
+        register
+    } else {
+        Register::Absent
     }
-    Register::Absent
 }
 
 // The device's configuration takes 1, 2 or 4 bytes wholly inside 0x14 to 0xff.
+#[tactic(auto, unfolding(crate::specs::Map::config_at))]
 fn config_at(offset: u64, width: u64) -> Register
     ensures { result ≡ config_at offset width }
 {
-    if offset < 20 {
-        return Register::Absent;
+    if is_inside(offset, width) && (width == 1 || width == 2 || width == 4) {
+        Register::DeviceConfig((offset - 20) as usize)
+    } else {
+        Register::Absent
     }
-    if 256 <= offset {
-        return Register::Absent;
-    }
-    if 256 - offset < width {
-        return Register::Absent;
-    }
-    let place = (offset - 20) as usize;
-    if width == 1 {
-        return Register::DeviceConfig(place);
-    }
-    if width == 2 {
-        return Register::DeviceConfig(place);
-    }
-    if width == 4 {
-        return Register::DeviceConfig(place);
-    }
-    Register::Absent
+}
+
+// Whether an access lies wholly inside 0x14 to 0xff; no sum of offset and width is formed.
+fn is_inside(offset: u64, width: u64) -> bool
+    ensures { result ≡ (leb 20 offset && leb (offset + width) 256) }
+{
+    20 <= offset && offset <= 256 && width <= 256 - offset
 }
 
 // How many descriptors a queue has; none for a number that no queue has.
+#[tactic(auto, unfolding(crate::specs::Map::size_of))]
 pub fn queue_size(queue: u16) -> u16
     ensures { result ≡ size_of queue }
 {

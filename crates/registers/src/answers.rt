@@ -45,7 +45,7 @@ pub fn plain(number: u8) -> Answer
     ensures { result ≡ plain number }
 {
     Answer {
-        number: number,
+        number,
         queue: NO_QUEUE,
     }
 }

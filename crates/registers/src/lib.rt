@@ -80,76 +80,66 @@ fn has_bit(x: u8, i: u32) -> bool
 fn needs_reset(status: u8) -> u8
     ensures { result ≡ with_bit status 6 }
 {
-    if status / 64 % 2 == 1 {
-        return status;
+    if has_bit(status, 6) {
+        status
+    } else {
+        status + 64
     }
-    status + 64
 }
 
 // ISR with bit 1 set.
 fn config_changed(isr: u8) -> u8
     ensures { result ≡ with_bit isr 1 }
 {
-    if isr / 2 % 2 == 1 {
-        return isr;
-    }
-    isr + 2
+    if has_bit(isr, 1) { isr } else { isr + 2 }
 }
 
 // Whether no feature was accepted that was not offered.
 fn only_offered(features: u32) -> bool
     ensures { result ≡ only_offered features }
 {
-    if features == 0 {
-        return true;
-    }
-    if features == HOST_FEATURES {
-        return true;
-    }
-    false
+    features == 0 || features == HOST_FEATURES
 }
 
 // What a write of `v` makes of STATUS, where `good` says that only offered features were accepted.
+#[tactic(auto, unfolding(crate::specs::Rules::stored_status))]
 fn stored_status(old: u8, good: bool, v: u8) -> u8
     ensures { result ≡ stored_status old good v }
 {
     let kept = v % 8 + old / 64 % 2 * 64 + v / 128 * 128;
-    if good {
-        return kept + v / 8 % 2 * 8;
-    }
-    kept
+    if good { kept + v / 8 % 2 * 8 } else { kept }
 }
 
 // The device's configuration as the guest sees it.
+#[tactic(auto, unfolding(crate::specs::Rules::config_bytes))]
 fn config_bytes(c: Config) -> [u8; 12]
     ensures { result ≡ config_bytes c }
 {
     let mut bytes = [0u8; 12];
-    memory::set32(&mut bytes, 0, c.jacks);
-    memory::set32(&mut bytes, 4, c.streams);
-    memory::set32(&mut bytes, 8, c.chmaps);
+    memory::set(&mut bytes, 0, c.jacks);
+    memory::set(&mut bytes, 4, c.streams);
+    memory::set(&mut bytes, 8, c.chmaps);
     bytes
 }
 
 // `width` bytes of it at `at`.
+#[tactic(auto, unfolding(crate::specs::Rules::config_value))]
 fn config_value(c: Config, at: usize, width: u64) -> u32
     ensures { result ≡ config_value c at width }
 {
     let bytes = config_bytes(c);
-    if width == 1 {
-        return memory::number8(&bytes, at) as u32;
+    match width {
+        1 => memory::number::<u8>(&bytes, at) as u32,
+        2 => memory::number::<u16>(&bytes, at) as u32,
+        _ => memory::number(&bytes, at),
     }
-    if width == 2 {
-        return memory::number16(&bytes, at) as u32;
-    }
-    memory::number32(&bytes, at)
 }
 
 fn refused_read(r: Registers, answer: u8) -> Read
     ensures { result ≡ refused_read r answer }
 {
     Read {
-        answer: answer,
+        answer,
         value: 0,
         registers: r,
     }
@@ -160,7 +150,7 @@ fn value_read(r: Registers, value: u32) -> Read
 {
     Read {
         answer: DONE,
-        value: value,
+        value,
         registers: r,
     }
 }
@@ -169,7 +159,7 @@ fn refused_write(r: Registers, answer: u8) -> Written
     ensures { result ≡ refused_write r answer }
 {
     Written {
-        answer: answer,
+        answer,
         effect: Effect::Nothing,
         registers: r,
     }
@@ -180,7 +170,7 @@ fn wrote_with(r: Registers, effect: Effect) -> Written
 {
     Written {
         answer: DONE,
-        effect: effect,
+        effect,
         registers: r,
     }
 }
@@ -205,23 +195,12 @@ fn with_page(pages: [PageNumber; 4], queue: u16, page: PageNumber) -> [PageNumbe
 {
     let mut next = pages;
     match queue {
-        CONTROL_QUEUE => {
-            next[0] = page;
-            next
-        }
-        EVENT_QUEUE => {
-            next[1] = page;
-            next
-        }
-        PLAY_QUEUE => {
-            next[2] = page;
-            next
-        }
-        _ => {
-            next[3] = page;
-            next
-        }
+        CONTROL_QUEUE => next[0] = page,
+        EVENT_QUEUE => next[1] = page,
+        PLAY_QUEUE => next[2] = page,
+        _ => next[3] = page,
     }
+    next
 }
 
 impl Registers {
@@ -239,22 +218,14 @@ impl Registers {
     }
 
     // Whether the driver may use the queues.
+    #[tactic(auto, unfolding(crate::specs::Rules::live))]
     pub fn is_live(self) -> bool
         ensures { result ≡ live self }
     {
-        if !has_bit(self.status, 2) {
-            return false;
-        }
-        if !has_bit(self.status, 3) {
-            return false;
-        }
-        if has_bit(self.status, 6) {
-            return false;
-        }
-        if has_bit(self.status, 7) {
-            return false;
-        }
-        true
+        has_bit(self.status, 2)
+            && has_bit(self.status, 3)
+            && !has_bit(self.status, 6)
+            && !has_bit(self.status, 7)
     }
 
     // Whether the guest may name indirect tables: bit 28 of its features.
@@ -265,27 +236,26 @@ impl Registers {
     }
 
     // Whether the interrupt line is raised.
+    #[tactic(auto, unfolding(crate::specs::Rules::raised))]
     pub fn line(self) -> bool
         ensures { result ≡ raised self }
     {
-        if self.isr == 0 {
-            return false;
-        }
-        true
+        self.isr != 0
     }
 
     // ISR bit 0 set: a used entry was added.
+    #[tactic(auto, unfolding(crate::specs::Rules::signalled))]
     pub fn signal(mut self) -> Registers
         ensures { result ≡ signalled self }
     {
-        if self.isr % 2 == 1 {
-            return self;
+        if self.isr % 2 == 0 {
+            self.isr += 1;
         }
-        self.isr += 1;
         self
     }
 
     // A queue is broken: NEEDS_RESET and ISR bit 1 set.
+    #[tactic(auto, unfolding(crate::specs::Rules::broken))]
     pub fn break_down(mut self) -> Registers
         ensures { result ≡ broken self }
     {
@@ -295,11 +265,11 @@ impl Registers {
     }
 
     // A read of `width` bytes at `offset`.
+    #[tactic(auto, unfolding(crate::specs::Rules::read_of))]
     pub fn read(self, config: Config, offset: u64, width: u64) -> Read
         ensures { result ≡ read_of self config offset width }
     {
-        let register = register_at(offset, width);
-        match register {
+        match register_at(offset, width) {
             Register::HostFeatures => value_read(self, HOST_FEATURES),
             Register::GuestFeatures => refused_read(self, WRONG_DIRECTION),
             Register::QueuePfn => value_read(self, self.page()),
@@ -314,32 +284,33 @@ impl Registers {
     }
 
     // The page of the queue selected.
+    #[tactic(auto, unfolding(crate::specs::Rules::page_read))]
     fn page(self) -> u32
         ensures { result ≡ page_read self }
     {
-        if 4 <= self.selector {
-            return 0;
+        if self.selector < 4 {
+            page_of(self.pages, self.selector).number()
+        } else {
+            0
         }
-        let pages = self.pages;
-        let page = page_of(pages, self.selector);
-        page.number()
     }
 
     // ISR, which a read clears.
+    #[tactic(auto, unfolding(crate::specs::Rules::isr_read))]
     fn acknowledged(mut self) -> Read
         ensures { result ≡ isr_read self }
     {
-        let bits = self.isr;
+        let bits = self.isr as u32;
         self.isr = 0;
-        value_read(self, bits as u32)
+        value_read(self, bits)
     }
 
     // A write of `value`, `width` bytes wide, at `offset`.
+    #[tactic(auto, unfolding(crate::specs::Rules::write_of))]
     pub fn write(self, offset: u64, width: u64, value: u64) -> Written
         ensures { result ≡ write_of self offset width value }
     {
-        let register = register_at(offset, width);
-        match register {
+        match register_at(offset, width) {
             Register::HostFeatures => refused_write(self, WRONG_DIRECTION),
             Register::GuestFeatures => self.write_features(value),
             Register::QueuePfn => self.write_page(value),
@@ -353,70 +324,71 @@ impl Registers {
         }
     }
 
+    #[tactic(auto, unfolding(crate::specs::Rules::wrote_features))]
     fn write_features(mut self, value: u64) -> Written
         ensures { result ≡ fitting self 4 value (wrote_features self value) }
     {
-        if value >= 4294967296 {
+        let Ok(features) = u32::try_from(value) else {
             return refused_write(self, VALUE_TOO_WIDE);
-        }
+        };
         if !has_bit(self.status, 3) {
-            self.features = value as u32;
-            return wrote_with(self, Effect::Nothing);
+            self.features = features;
         }
         wrote_with(self, Effect::Nothing)
     }
 
+    #[tactic(auto, unfolding(crate::specs::Rules::wrote_page))]
     fn write_page(mut self, value: u64) -> Written
         ensures { result ≡ fitting self 4 value (wrote_page self value) }
     {
-        if value >= 4294967296 {
+        let Ok(page) = u32::try_from(value) else {
             return refused_write(self, VALUE_TOO_WIDE);
-        }
+        };
         let queue = self.selector;
-        if 4 <= queue {
+        if 4 <= queue || has_bit(self.status, 2) {
             return wrote_with(self, Effect::Nothing);
         }
-        if has_bit(self.status, 2) {
-            return wrote_with(self, Effect::Nothing);
-        }
-        let pages = self.pages;
-        let next = with_page(pages, queue, PageNumber::of(value as u32));
-        self.pages = next;
+        self.pages = with_page(self.pages, queue, PageNumber::of(page));
         wrote_with(self, Effect::Based(queue))
     }
 
+    #[tactic(auto, unfolding(crate::specs::Rules::wrote_selector))]
     fn write_selector(mut self, value: u64) -> Written
         ensures { result ≡ fitting self 2 value (wrote_selector self value) }
     {
-        if value >= 65536 {
+        let Ok(selector) = u16::try_from(value) else {
             return refused_write(self, VALUE_TOO_WIDE);
-        }
-        self.selector = value as u16;
+        };
+        self.selector = selector;
         wrote_with(self, Effect::Nothing)
     }
 
+    #[tactic(auto, unfolding(crate::specs::Rules::wrote_notify))]
     fn notify(self, value: u64) -> Written
         ensures { result ≡ fitting self 2 value (wrote_notify self value) }
     {
-        if value >= 65536 {
+        let Ok(queue) = u16::try_from(value) else {
             return refused_write(self, VALUE_TOO_WIDE);
-        }
-        if value < 4 {
-            return wrote_with(self, Effect::Rung(value as u16));
-        }
-        wrote_with(self, Effect::Nothing)
+        };
+        let effect = if queue < 4 {
+            Effect::Rung(queue)
+        } else {
+            Effect::Nothing
+        };
+        wrote_with(self, effect)
     }
 
+    #[tactic(auto, unfolding(crate::specs::Rules::wrote_status))]
     fn write_status(mut self, value: u64) -> Written
         ensures { result ≡ fitting self 1 value (wrote_status self value) }
     {
-        if value >= 256 {
+        let Ok(status) = u8::try_from(value) else {
             return refused_write(self, VALUE_TOO_WIDE);
-        }
-        if value == 0 {
+        };
+        if status == 0 {
             return wrote_with(Registers::power_on(), Effect::Reset);
         }
-        self.status = stored_status(self.status, only_offered(self.features), value as u8);
+        self.status = stored_status(self.status, only_offered(self.features), status);
         wrote_with(self, Effect::Nothing)
     }
 }

@@ -5,8 +5,7 @@ use Rattle.meaning.specs.Card.{device_of, step_of}
 use Rattle.meaning.specs.Fit.{Fit}
 use Rattle.registers.specs.Rules.{raised}
 use Rattle.replay_text.specs.Adler.{adler}
-use Rattle.replay_text.specs.Text.{register_text, call_text, play_text}
-use Rattle.replay_text.specs.declared.Text.{Text}
+use Rattle.replay_text.specs.Text.{register_bytes, call_bytes, play_bytes}
 use Rattle.rules.specs.Calls.{Told, Step}
 use Rattle.device.specs.Device.{Device}
 use Rattle.queue_lines.specs.Counters.{Queue}
@@ -23,18 +22,18 @@ irq_in d = cond (raised d.rest.registers) 1 0
 -- ---- the text, of the line's number, IRQ and what was told
 
 -- "LINE ANSWER VALUE RUNG IRQ: VALUE 0 for a write; RUNG the queue that a NOTIFY rang"
-abbrev pub register_told : ℕ → ℕ → Told → Text
-register_told line irq t = register_text line t.answer.number t.value t.rung irq
+abbrev pub register_told : ℕ → ℕ → Told → List ℕ
+register_told line irq t = register_bytes line t.answer.number t.value t.rung irq
 
 -- "LINE ANSWER COUNT IRQ SUM QUEUE: SUM is the Adler-32 checksum of the memory lent, after the call"; QUEUE the queue that the answer names
-abbrev pub call_told : ℕ → ℕ → Told → Text
-call_told line irq t = call_text line t.answer.number t.count irq (adler t.memory) t.answer.queue
+abbrev pub call_told : ℕ → ℕ → Told → List ℕ
+call_told line irq t = call_bytes line t.answer.number t.count irq (adler t.memory) t.answer.queue
 
 -- "HOST is the Adler-32 checksum of the whole host buffer after the call"
-abbrev pub play_told : ℕ → ℕ → Told → Text
-play_told line irq t = play_text line t.answer.number t.count irq (adler t.memory) (adler t.host) t.answer.queue
+abbrev pub play_told : ℕ → ℕ → Told → List ℕ
+play_told line irq t = play_bytes line t.answer.number t.count irq (adler t.memory) (adler t.host) t.answer.queue
 
-abbrev pub text_for : Request → ℕ → ℕ → Told → Text
+abbrev pub text_for : Request → ℕ → ℕ → Told → List ℕ
 text_for (ReadRegister offset width) = register_told
 text_for (WriteRegister offset width v) = register_told
 text_for Control = call_told
@@ -43,7 +42,7 @@ text_for (Capture stream host backlog) = call_told
 text_for (Event code info) = call_told
 
 -- .. of the rules' step
-abbrev pub shown_for : Request → ℕ → Step (Device Queue) → Text
+abbrev pub shown_for : Request → ℕ → Step (Device Queue) → List ℕ
 shown_for q line s = text_for q line (irq_in s.state) s.told
 
 -- ---- the device and the memory after a call: as the rules have them, and of a card

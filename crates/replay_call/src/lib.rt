@@ -7,19 +7,19 @@ ghost use Rattle.calls.specs.Calls.{request_of, told_of, host_of};
 ghost use Rattle.meaning.specs.Card.{step_of};
 ghost use Rattle.meaning.specs.Fit.{Fit};
 ghost use Rattle.replay_text.specs.Adler.{adler};
-ghost use Rattle.replay_text.specs.Text.{call_text};
+ghost use Rattle.replay_text.specs.Text.{call_bytes};
 ghost use Rattle.replay_call.specs.Asked.{made_by, asked_by};
 ghost use Rattle.replay_call.specs.Shown.{irq_of, text_for, Shows};
 
 use calls::{Outcome, Request};
 use card::Card;
 use replay_line::Call;
-use replay_text::Text;
+use replay_text::LineText;
 
 // What a call prints, and the card after it.
-#[derive(Clone, Copy)]
+#[derive(Drop)]
 pub struct Shown {
-    pub text: Text,
+    pub text: LineText,
     pub card: Card,
 }
 
@@ -27,16 +27,12 @@ pub struct Shown {
 fn irq(card: Card) -> u8
     ensures { result ≡ irq_of card }
 {
-    let registers = card.registers;
-    if registers.line() {
-        return 1;
-    }
-    0
+    if card.registers.line() { 1 } else { 0 }
 }
 
 // `LINE ANSWER COUNT IRQ SUM QUEUE`
-fn sum_text(line: u64, told: Outcome, irq: u8, m: &[u8]) -> Text
-    ensures { result ≡ call_text line told.answer.number told.count irq (adler m.now) told.answer.queue }
+fn sum_text(line: u64, told: Outcome, irq: u8, m: &[u8]) -> LineText
+    ensures { result ≡ call_bytes line told.answer.number told.count irq (adler m.now) told.answer.queue }
 {
     let sum = replay_text::adler32(m);
     let queue = told.answer.queue;
@@ -44,35 +40,27 @@ fn sum_text(line: u64, told: Outcome, irq: u8, m: &[u8]) -> Text
 }
 
 // What is printed for a request that told this, with memory and host buffer as it left them.
-fn text(line: u64, request: Request, told: Outcome, m: &[u8], host: &[u8]) -> Text
+fn text(line: u64, request: Request, told: Outcome, m: &[u8], host: &[u8]) -> LineText
     ensures { result ≡ text_for (request_of request host.now) line (irq_of told.card)
         (told_of request told host.now m.now) }
 {
-    let card = told.card;
-    let raised = irq(card);
+    let raised = irq(told.card);
     match request {
-        Request::Read(_, _) => {
+        Request::Read(..) | Request::Write(..) => {
             replay_text::register_text(line, told.answer.number, told.value, told.rung, raised)
         }
-        Request::Write(_, _, _) => {
-            replay_text::register_text(line, told.answer.number, told.value, told.rung, raised)
+        Request::Control | Request::Capture(..) | Request::Event(..) => {
+            sum_text(line, told, raised, m)
         }
-        Request::Control => sum_text(line, told, raised, m),
-        Request::Play(_, _) => {
-            let sum = replay_text::adler32(m);
-            let heard = replay_text::adler32(host);
-            replay_text::play_text(
-                line,
-                told.answer.number,
-                told.count,
-                raised,
-                sum,
-                heard,
-                told.answer.queue,
-            )
-        }
-        Request::Capture(_, _) => sum_text(line, told, raised, m),
-        Request::Event(_, _) => sum_text(line, told, raised, m),
+        Request::Play(..) => replay_text::play_text(
+            line,
+            told.answer.number,
+            told.count,
+            raised,
+            replay_text::adler32(m),
+            replay_text::adler32(host),
+            told.answer.queue,
+        ),
     }
 }
 
@@ -85,10 +73,9 @@ fn ask(card: Card, line: u64, request: Request, m: &mut [u8], host: &mut [u8]) -
 {
     let told = calls::call(card, m, host, request);
     let text = text(line, request, told, m, host);
-    let after = told.card;
     Shown {
-        text: text,
-        card: after,
+        text,
+        card: told.card,
     }
 }
 
@@ -97,12 +84,24 @@ fn request(call: Call) -> Request
     ensures { result ≡ made_by call }
 {
     match call {
-        Call::Read(offset, width) => Request::Read(offset, width),
-        Call::Write(offset, width, value) => Request::Write(offset, width, value),
+        Call::Read { offset, width } => Request::Read(offset, width),
+        Call::Write {
+            offset,
+            width,
+            value,
+        } => Request::Write(offset, width, value),
         Call::Control => Request::Control,
-        Call::Play(stream, _, backlog) => Request::Play(stream, backlog),
-        Call::Capture(stream, _, _, backlog) => Request::Capture(stream, backlog),
-        Call::Event(code, data) => Request::Event(code, data),
+        Call::Play {
+            stream,
+            backlog,
+            ..
+        } => Request::Play(stream, backlog),
+        Call::Capture {
+            stream,
+            backlog,
+            ..
+        } => Request::Capture(stream, backlog),
+        Call::Event { code, info } => Request::Event(code, info),
     }
 }
 

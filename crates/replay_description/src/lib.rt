@@ -1,98 +1,89 @@
 // The description that the lines of a script collect for the next power-up.
 #![tactic(auto)]
 
-ghost use Rattle.std.specs.Prelude.{◌≡◌};
+ghost use Rattle.std.specs.Prelude.{◌≡◌, cond, ltb, set};
 ghost use Rattle.replay_description.specs.Parts.{next_count, with_jack, with_map, map_at, with_output, with_input, with_part};
 
 use description::{Description, JackInfo, MapInfo, StreamInfo};
 use replay_line::Part;
 
-// One more of a kind of part; no script has so many that the count is full.
+// One more of a kind of part, as far as 32 bits count.
 fn next_count(count: u32) -> u32
     ensures { result ≡ next_count count }
 {
-    if count < 4294967295 {
-        return count + 1;
-    }
-    count
+    count.saturating_add(1)
 }
 
-// One more jack. Past the fourth only the count is kept.
-fn with_jack(d: Description, info: JackInfo) -> Description
+// One more part behind the `count` so far; past the fourth only the count is kept. The count with it.
+fn add<T: Copy>(parts: &mut [T; 4], count: u32, part: T) -> u32
+    ensures kept { parts.new ≡ cond (ltb count 4) (set parts.old count part) parts.old }
+    ensures counted { result ≡ next_count count }
+{
+    if count < 4 {
+        parts[count as usize] = part;
+    }
+    next_count(count)
+}
+
+// One more jack.
+#[tactic(auto, unfolding(crate::specs::Parts::with_jack))]
+fn with_jack(mut d: Description, info: JackInfo) -> Description
     ensures { result ≡ with_jack d info }
 {
-    let mut next = d;
-    next.jack_count = next_count(d.jack_count);
-    let i = d.jack_count as usize;
-    if 4 <= i {
-        return next;
-    }
-    next.jacks[i] = info;
-    next
+    d.jack_count = add(&mut d.jacks, d.jack_count, info);
+    d
 }
 
-// One more channel map. Past the fourth only the count is kept.
-fn with_map(d: Description, map: MapInfo) -> Description
+// One more channel map.
+#[tactic(auto, unfolding(crate::specs::Parts::with_map))]
+fn with_map(mut d: Description, map: MapInfo) -> Description
     ensures { result ≡ with_map d map }
 {
-    let mut next = d;
-    next.map_count = next_count(d.map_count);
-    let i = d.map_count as usize;
-    if 4 <= i {
-        return next;
-    }
-    next.maps[i] = map;
-    next
+    d.map_count = add(&mut d.maps, d.map_count, map);
+    d
 }
 
-// A channel map whose positions stand in the line from `at` on.
-fn map_at(s: &[u8], nid: u32, direction: u8, channels: u8, at: usize) -> MapInfo
-    ensures { result ≡ map_at s.now nid direction channels at }
+// A channel map whose positions stand in the line from `place` on.
+#[tactic(auto, unfolding(crate::specs::Parts::map_at))]
+fn map_at(s: &[u8], nid: u32, direction: u8, channels: u8, place: usize) -> MapInfo
+    ensures { result ≡ map_at s.now nid direction channels place }
 {
-    let mut positions = [0u8; 18];
-    replay_field::pour_hex(s, at, &mut positions, 0);
+    let mut positions = [0; 18];
+    replay_field::pour_hex(s, place, &mut positions, 0);
     MapInfo {
-        nid: nid,
-        direction: direction,
-        channels: channels,
-        positions: positions,
+        nid,
+        direction,
+        channels,
+        positions,
     }
 }
 
 // One more output, behind the outputs so far: the inputs, of which two are kept, move up by one. Past the
 // fourth only the count is kept.
-fn with_output(d: Description, info: StreamInfo) -> Description
+#[tactic(auto, unfolding(crate::specs::Parts::with_output))]
+fn with_output(mut d: Description, info: StreamInfo) -> Description
     ensures { result ≡ with_output d info }
 {
-    let mut next = d;
-    next.output_count = next_count(d.output_count);
     let i = d.output_count as usize;
-    if 4 <= i {
-        return next;
+    if i < 4 {
+        d.streams[i + 2] = d.streams[i + 1];
+        d.streams[i + 1] = d.streams[i];
+        d.streams[i] = info;
     }
-    let streams = d.streams;
-    next.streams[i + 2] = streams[i + 1];
-    next.streams[i + 1] = streams[i];
-    next.streams[i] = info;
-    next
+    d.output_count = next_count(d.output_count);
+    d
 }
 
 // One more input, behind all streams. Past the second only the count is kept.
-fn with_input(d: Description, info: StreamInfo) -> Description
+#[tactic(auto, unfolding(crate::specs::Parts::with_input))]
+fn with_input(mut d: Description, info: StreamInfo) -> Description
     ensures { result ≡ with_input d info }
 {
-    let mut next = d;
-    next.input_count = next_count(d.input_count);
-    let outputs = d.output_count as usize;
-    let inputs = d.input_count as usize;
-    if 4 < outputs {
-        return next;
+    if d.output_count <= 4 && d.input_count < 2 {
+        d.streams[(d.output_count + d.input_count) as usize] = info;
     }
-    if 2 <= inputs {
-        return next;
-    }
-    next.streams[outputs + inputs] = info;
-    next
+    d.input_count = next_count(d.input_count);
+    d
 }
 
 // One more part, described by the line `s`.
@@ -101,9 +92,12 @@ pub fn with_part(d: Description, part: Part, s: &[u8]) -> Description
 {
     match part {
         Part::Jack(info) => with_jack(d, info),
-        Part::Map(nid, direction, channels, at) => {
-            with_map(d, map_at(s, nid, direction, channels, at))
-        }
+        Part::Map {
+            nid,
+            direction,
+            channels,
+            place,
+        } => with_map(d, map_at(s, nid, direction, channels, place)),
         Part::Output(info) => with_output(d, info),
         Part::Input(info) => with_input(d, info),
     }

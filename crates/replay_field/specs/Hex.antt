@@ -2,16 +2,16 @@
 -- Bytes: 48 to 57 are 0-9, 97 to 102 a-f, 45 is `-`, 32 the space.
 use Rattle.std.specs.Prelude.{List, [], ◌∷◌, Bool, true, false, cond, ◌&&◌, ℕ, ◌+◌, ◌-◌, ◌*◌, ◌/◌, ◌%◌, eqb, leb, ltb, length, get_or}
 use Rattle.std.specs.Prelude.{set, drop}
+use Rattle.std.specs.List.{list_all}
 use Rattle.decimal.specs.Read.{is_digit}
 use Rattle.replay_field.specs.declared.Hex.{Hex}
-use Rattle.replay_field.specs.declared.Hex.TheVariants.{At, None}
+use Rattle.std.specs.Prelude.{Option, Some, None}
 
 unfoldable pub is_hex_digit : ℕ → Bool
 is_hex_digit b = cond (is_digit b) true (leb 97 b && leb b 102)
 
 unfoldable pub every_hex_digit : List ℕ → Bool
-every_hex_digit [] = true
-every_hex_digit (b ∷ t) = is_hex_digit b && every_hex_digit t
+every_hex_digit t = list_all is_hex_digit t
 
 -- a text that is one word of HEX; a word is never empty
 unfoldable pub is_hex : List ℕ → Bool
@@ -21,14 +21,15 @@ is_hex t =
     (cond (eqb (length t % 2) 0) (every_hex_digit t) false))
 
 -- a single space at `at` and HEX behind it up to the line's end: its place and how many bytes it is
-unfoldable pub hex_at : List ℕ → ℕ → Hex
+unfoldable pub hex_at : List ℕ → ℕ → Option Hex
 hex_at s at =
     cond (ltb at (length s))
-    (cond (eqb (get_or s at 0) 32) (cond (is_hex (drop (at + 1) s)) (At (at + 1) ((length s - (at + 1)) / 2)) None) None)
+    (cond (eqb (get_or s at 0) 32)
+    (cond (is_hex (drop (at + 1) s)) (Some (record { place = at + 1; count = (length s - (at + 1)) / 2 })) None) None)
     None
 
-abbrev pub by_hex : {A : Type 0} → Hex → (ℕ → ℕ → A) → A → A
-by_hex (At place count) found none = found place count
+abbrev pub by_hex : {A : Type 0} → Option Hex → (ℕ → ℕ → A) → A → A
+by_hex (Some h) found none = found h.place h.count
 by_hex None found none = none
 
 -- a digit's value

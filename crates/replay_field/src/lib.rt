@@ -2,152 +2,104 @@
 // the line, and `pour_hex` writes its bytes.
 #![tactic(auto)]
 
-ghost use Rattle.std.specs.Prelude.{◌≡◌, ◌<◌, drop};
+ghost use Rattle.std.specs.Prelude.{◌≡◌, ◌<◌, ◌≤◌, IfSome, drop};
 ghost use Rattle.replay_field.specs.Number.{field_at, pair_at, size_at};
 ghost use Rattle.replay_field.specs.Hex.{is_hex_digit, every_hex_digit, is_hex, hex_at, nibble, bytes_of_hex, poured};
 ghost use Rattle.replay_field.specs.Word.{begins};
 
-use decimal::Number;
-
 // "1 to 20 decimal digits"
 const DIGITS: usize = 20;
 
-// Two numbers, and the place behind them.
-#[derive(Clone, Copy)]
-pub enum Pair {
-    Are(u64, u64, usize),
-    None,
-}
-
-// A number that ends the line.
-#[derive(Clone, Copy)]
-pub enum Size {
-    Is(usize),
-    None,
-}
-
 // HEX that ends the line: the place of its first character, and how many bytes it is.
 #[derive(Clone, Copy)]
-pub enum Hex {
-    At(usize, usize),
-    None,
+pub struct Hex {
+    pub place: usize,
+    pub count: usize,
 }
 
-// A space at `at`, and the number behind it.
-pub fn field_at(s: &[u8], at: usize, max: u64) -> Number
-    ensures { result ≡ field_at s.now at max }
+// A space at `at`, the number behind it, and the place behind that.
+pub fn field_at(s: &[u8], at: usize, max: u64) -> Option<(u64, usize)>
+    ensures value { result ≡ field_at s.now at max }
+    ensures most { IfSome result (λ n. n.0 ≤ max) }
 {
     decimal::field_at(s, at, DIGITS, max)
 }
 
-// Two fields, one behind the other.
-pub fn pair_at(s: &[u8], at: usize, max: u64) -> Pair
-    ensures { result ≡ pair_at s.now at max }
+// Two fields, one behind the other, and the place behind them.
+#[tactic(auto, unfolding(crate::specs::Number::pair_at))]
+pub fn pair_at(s: &[u8], at: usize, max: u64) -> Option<(u64, u64, usize)>
+    ensures value { result ≡ pair_at s.now at max }
+    ensures most { IfSome result (λ n. (n.0 ≤ max) × (n.1 ≤ max)) }
 {
-    let Number::Is(a, next) = field_at(s, at, max) else {
-        return Pair::None;
-    };
-    let Number::Is(b, end) = field_at(s, next, max) else {
-        return Pair::None;
-    };
-    Pair::Are(a, b, end)
+    let (a, next) = field_at(s, at, max)?;
+    let (b, end) = field_at(s, next, max)?;
+    Some((a, b, end))
 }
 
 // A field that ends the line.
-pub fn size_at(s: &[u8], at: usize, max: u64) -> Size
+#[tactic(auto, unfolding(crate::specs::Number::size_at))]
+pub fn size_at(s: &[u8], at: usize, max: u64) -> Option<usize>
     ensures { result ≡ size_at s.now at max }
 {
-    let Number::Is(n, end) = field_at(s, at, max) else {
-        return Size::None;
-    };
+    let (n, end) = field_at(s, at, max)?;
     if end < s.len() {
-        return Size::None;
+        None
+    } else {
+        Some(n as usize)
     }
-    Size::Is(n as usize)
 }
 
+#[tactic(auto, unfolding(crate::specs::Hex::is_hex_digit, decimal::specs::Read::is_digit))]
 fn is_hex_digit(b: u8) -> bool
     ensures { result ≡ is_hex_digit b }
 {
-    if decimal::is_digit(b) {
-        return true;
-    }
-    if b < b'a' {
-        return false;
-    }
-    if b <= b'f' {
-        return true;
-    }
-    false
+    matches!(b, b'0'..=b'9' | b'a'..=b'f')
 }
 
+#[tactic(auto, unfolding(crate::specs::Hex::every_hex_digit))]
 fn every_hex_digit(t: &[u8]) -> bool
     ensures { result ≡ every_hex_digit t.now }
 {
-    let mut i = 0;
-    while i < t.len() {
-        if !is_hex_digit(t[i]) {
-            return false;
-        }
-        i += 1;
-    }
-    true
+    t.iter().all(|b| is_hex_digit(*b))
 }
 
 // Whether all of `t` is one word of HEX.
+#[tactic(auto, unfolding(crate::specs::Hex::is_hex))]
 fn is_hex(t: &[u8]) -> bool
     ensures { result ≡ is_hex t.now }
 {
-    let n = t.len();
-    if n == 0 {
-        return false;
+    match t {
+        [] => false,
+        [b] => *b == b'-',
+        _ => t.len() % 2 == 0 && every_hex_digit(t),
     }
-    if n == 1 {
-        if t[0] == b'-' {
-            return true;
-        }
-        return false;
-    }
-    if n % 2 != 0 {
-        return false;
-    }
-    every_hex_digit(t)
 }
 
 // A space at `at`, and HEX behind it up to the line's end.
-pub fn hex_at(s: &[u8], at: usize) -> Hex
+#[tactic(auto, using(std::proofs::lemmas::List::take_rest), unfolding(crate::specs::Hex::hex_at))]
+pub fn hex_at(s: &[u8], at: usize) -> Option<Hex>
     ensures { result ≡ hex_at s.now at }
 {
-    if s.len() <= at {
-        return Hex::None;
+    if at < s.len() && s[at] == b' ' && is_hex(&s[at + 1..]) {
+        Some(Hex {
+            place: at + 1,
+            count: (s.len() - (at + 1)) / 2,
+        })
+    } else {
+        None
     }
-    if s[at] != b' ' {
-        return Hex::None;
-    }
-    let start = at + 1;
-    if !is_hex(&s[start..]) {
-        return Hex::None;
-    }
-    Hex::At(start, (s.len() - start) / 2)
 }
 
 // The value of a digit of HEX.
+#[tactic(auto, unfolding(crate::specs::Hex::nibble))]
 fn digit_value(b: u8) -> u8
     ensures { (result ≡ nibble b) × (result < 16) }
 {
-    if b < b'0' {
-        return 0;
+    match b {
+        b'0'..=b'9' => b - b'0',
+        b'a'..=b'f' => b - b'a' + 10,
+        _ => 0,
     }
-    if b <= b'9' {
-        return b - b'0';
-    }
-    if b < b'a' {
-        return 0;
-    }
-    if b <= b'f' {
-        return b - b'a' + 10;
-    }
-    0
 }
 
 // The bytes that the rest of a line from `at` is in HEX, written to `m` at `to`; what lies past the
@@ -155,34 +107,20 @@ fn digit_value(b: u8) -> u8
 pub fn pour_hex(s: &[u8], at: usize, m: &mut [u8], to: usize)
     ensures { m.new ≡ poured (bytes_of_hex (drop at s.now)) m.old to }
 {
-    let mut i = at;
-    let mut d = to;
-    while i < s.len() {
-        if s.len() - i < 2 {
+    let mut rest = &s[at.min(s.len())..];
+    for d in to..m.len() {
+        let [high, low, tail @ ..] = rest else {
             return;
-        }
-        if m.len() <= d {
-            return;
-        }
-        m[d] = 16 * digit_value(s[i]) + digit_value(s[i + 1]);
-        d += 1;
-        i += 2;
+        };
+        m[d] = 16 * digit_value(*high) + digit_value(*low);
+        rest = tail;
     }
 }
 
 // Whether `s` begins with `word`.
+#[tactic(auto, using(crate::proofs::Laws::begins_is))]
 pub fn starts_with(s: &[u8], word: &[u8]) -> bool
     ensures { result ≡ begins word.now s.now }
 {
-    let mut i = 0;
-    while i < word.len() {
-        if s.len() <= i {
-            return false;
-        }
-        if s[i] != word[i] {
-            return false;
-        }
-        i += 1;
-    }
-    true
+    s.starts_with(word)
 }

@@ -22,10 +22,7 @@ pub fn host_buffer() -> [u8; 65536]
 fn hex_count(s: &[u8], at: usize) -> usize
     ensures { result ≡ (length s.now - at) / 2 }
 {
-    if s.len() <= at {
-        return 0;
-    }
-    (s.len() - at) / 2
+    s.len().saturating_sub(at) / 2
 }
 
 // The bytes of the HEX that a text ends with, from `at` on, written to the host buffer; how many they are.
@@ -38,7 +35,7 @@ fn lend_hex(s: &[u8], at: usize, host: &mut [u8]) -> usize
     replay_memory::within(hex_count(s, at), host)
 }
 
-// How many bytes of the host buffer a call of the line `s` lends: a play's N; those of a capture's HEX,
+// How many bytes of the host buffer a call of the line `s` lends: a play's count; those of a capture's HEX,
 // which are written there; none for the others.
 pub fn lend(call: Call, s: &[u8], host: &mut [u8]) -> usize
     ensures prefix_len { IsPrefixLen result host.new }
@@ -46,14 +43,11 @@ pub fn lend(call: Call, s: &[u8], host: &mut [u8]) -> usize
         × (host.new ≡ host_filled call s.now host.old) }
 {
     match call {
-        Call::Read(_, _) => 0,
-        Call::Write(_, _, _) => 0,
-        Call::Control => 0,
-        Call::Play(_, n, _) => replay_memory::within(n, host),
-        Call::Capture(_, at, behind, _) => {
+        Call::Play { count, .. } => replay_memory::within(count, host),
+        Call::Capture { place, behind, .. } => {
             let end = replay_memory::within(behind, s);
-            lend_hex(&s[..end], at, host)
+            lend_hex(&s[..end], place, host)
         }
-        Call::Event(_, _) => 0,
+        Call::Read { .. } | Call::Write { .. } | Call::Control | Call::Event { .. } => 0,
     }
 }

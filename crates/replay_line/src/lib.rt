@@ -3,388 +3,392 @@
 #![tactic(auto)]
 
 ghost use Rattle.std.specs.Prelude.{◌≡◌};
-ghost use Rattle.replay_line.specs.Line.{jack_form, map_form, stream_form, power_form};
+ghost use Rattle.replay_line.specs.Line.{at_end, jack_form, map_form, stream_form, power_form};
 ghost use Rattle.replay_line.specs.Line.{read_form, write_form, control_form, play_form, captured_form, capture_form, event_form};
 ghost use Rattle.replay_line.specs.Line.{store_form, fill_form, ram_form, dump_form};
 ghost use Rattle.replay_line.specs.Line.{part_line, call_line, guest_line, line_of};
 
 use counts::GuestAddress;
-use decimal::Number;
 use description::{JackInfo, StreamInfo};
-use replay_field::{Hex, Pair, Size};
+use replay_field::Hex;
 
 // The greatest numbers of 8, 32 and 64 bits.
-const MAX_8: u64 = 255;
+const MAX_8: u64 = u8::MAX as u64;
 
-const MAX_32: u64 = 4294967295;
+const MAX_32: u64 = u32::MAX as u64;
 
-const MAX_64: u64 = 18446744073709551615;
+const MAX_64: u64 = u64::MAX;
 
 // The greatest lengths of RAM, and of what one line plays, captures or prints.
-pub const MAX_RAM: u64 = 1048576;
+pub const MAX_RAM: usize = 1_048_576;
 
-pub const MAX_BYTES: u64 = 65536;
+pub const MAX_BYTES: usize = 65_536;
 
-// What is described before power-up. A map is its node, direction and channels, and the place of its
-// positions.
+// What is described before power-up: of a map, `place` is that of its positions in the line.
 #[derive(Clone, Copy)]
 pub enum Part {
     Jack(JackInfo),
-    Map(u32, u8, u8, usize),
+    Map {
+        nid: u32,
+        direction: u8,
+        channels: u8,
+        place: usize,
+    },
     Output(StreamInfo),
     Input(StreamInfo),
 }
 
-// A call on the card: offset and width, then a value; a stream, the bytes of a host buffer, and the backlog;
-// a stream, the place of the captured bytes, the place behind them, and the backlog; an event's code and data.
+// A call on the card. What is captured stands in the line from `place` up to `behind`.
 #[derive(Clone, Copy)]
 pub enum Call {
-    Read(u64, u64),
-    Write(u64, u64, u64),
+    Read {
+        offset: u64,
+        width: u64,
+    },
+    Write {
+        offset: u64,
+        width: u64,
+        value: u64,
+    },
     Control,
-    Play(u32, usize, u32),
-    Capture(u32, usize, usize, u32),
-    Event(u32, u32),
+    Play {
+        stream: u32,
+        count: usize,
+        backlog: u32,
+    },
+    Capture {
+        stream: u32,
+        place: usize,
+        behind: usize,
+        backlog: u32,
+    },
+    Event {
+        code: u32,
+        info: u32,
+    },
 }
 
-// What is done to the memory lent: bytes stored (address, place of the bytes), bytes set (address,
-// length, byte), another length, bytes printed (address, length).
+// What is done to the memory lent: the bytes at `place` in the line are stored, bytes are set, the length
+// is changed, or bytes are printed.
 #[derive(Clone, Copy)]
 pub enum Guest {
-    Store(GuestAddress, usize),
-    Fill(GuestAddress, u64, u8),
+    Store {
+        address: GuestAddress,
+        place: usize,
+    },
+    Fill {
+        address: GuestAddress,
+        count: u64,
+        byte: u8,
+    },
     Ram(usize),
-    Dump(GuestAddress, usize),
+    Dump {
+        address: GuestAddress,
+        count: usize,
+    },
 }
 
 #[derive(Clone, Copy)]
 pub enum Line {
     Skipped,
-    Unreadable,
     Described(Part),
     Power(usize),
     Called(Call),
     Lent(Guest),
 }
 
+// The line that was read up to `end`, if nothing follows.
+fn at_end(s: &[u8], end: usize, line: Line) -> Option<Line>
+    ensures { result ≡ at_end s.now end line }
+{
+    (s.len() <= end).then_some(line)
+}
+
 // `jack NID FEATURES DEFCONF CAPS CONNECTED`
-fn jack_form(s: &[u8]) -> Line
+#[tactic(auto, unfolding(crate::specs::Line::jack_form))]
+fn jack_form(s: &[u8]) -> Option<Line>
     ensures { result ≡ jack_form s.now }
 {
-    let Pair::Are(nid, features, a) = replay_field::pair_at(s, 4, MAX_32) else {
-        return Line::Unreadable;
-    };
-    let Pair::Are(defconf, caps, b) = replay_field::pair_at(s, a, MAX_32) else {
-        return Line::Unreadable;
-    };
-    let Number::Is(connected, end) = replay_field::field_at(s, b, MAX_8) else {
-        return Line::Unreadable;
-    };
-    if end < s.len() {
-        return Line::Unreadable;
-    }
-    Line::Described(Part::Jack(JackInfo {
+    let (nid, features, a) = replay_field::pair_at(s, 4, MAX_32)?;
+    let (defconf, caps, b) = replay_field::pair_at(s, a, MAX_32)?;
+    let (connected, end) = replay_field::field_at(s, b, MAX_8)?;
+    let jack = JackInfo {
         nid: nid as u32,
         features: features as u32,
         defconf: defconf as u32,
         caps: caps as u32,
         connected: connected as u8,
-    }))
+    };
+    at_end(s, end, Line::Described(Part::Jack(jack)))
 }
 
 // `map NID DIRECTION CHANNELS POSITIONS`
-fn map_form(s: &[u8]) -> Line
+#[tactic(auto, unfolding(crate::specs::Line::map_form))]
+fn map_form(s: &[u8]) -> Option<Line>
     ensures { result ≡ map_form s.now }
 {
-    let Number::Is(nid, a) = replay_field::field_at(s, 3, MAX_32) else {
-        return Line::Unreadable;
+    let (nid, a) = replay_field::field_at(s, 3, MAX_32)?;
+    let (direction, channels, b) = replay_field::pair_at(s, a, MAX_8)?;
+    let Hex { place, count } = replay_field::hex_at(s, b)?;
+    let map = Part::Map {
+        nid: nid as u32,
+        direction: direction as u8,
+        channels: channels as u8,
+        place,
     };
-    let Pair::Are(direction, channels, b) = replay_field::pair_at(s, a, MAX_8) else {
-        return Line::Unreadable;
-    };
-    let Hex::At(place, count) = replay_field::hex_at(s, b) else {
-        return Line::Unreadable;
-    };
-    if count != 18 {
-        return Line::Unreadable;
-    }
-    Line::Described(Part::Map(nid as u32, direction as u8, channels as u8, place))
+    (count == 18).then_some(Line::Described(map))
 }
 
 // `out` or `in` up to `at`, and `NID FEATURES FORMATS RATES MIN MAX`
-fn stream_form(s: &[u8], at: usize, input: bool) -> Line
+#[tactic(auto, unfolding(crate::specs::Line::stream_form))]
+fn stream_form(s: &[u8], at: usize, input: bool) -> Option<Line>
     ensures { result ≡ stream_form s.now at input }
 {
-    let Pair::Are(nid, features, a) = replay_field::pair_at(s, at, MAX_32) else {
-        return Line::Unreadable;
-    };
-    let Pair::Are(formats, rates, b) = replay_field::pair_at(s, a, MAX_64) else {
-        return Line::Unreadable;
-    };
-    let Pair::Are(min, max, end) = replay_field::pair_at(s, b, MAX_8) else {
-        return Line::Unreadable;
-    };
-    if end < s.len() {
-        return Line::Unreadable;
-    }
+    let (nid, features, a) = replay_field::pair_at(s, at, MAX_32)?;
+    let (formats, rates, b) = replay_field::pair_at(s, a, MAX_64)?;
+    let (min, max, end) = replay_field::pair_at(s, b, MAX_8)?;
     let info = StreamInfo {
         nid: nid as u32,
         features: features as u32,
-        formats: formats,
-        rates: rates,
+        formats,
+        rates,
         channels_min: min as u8,
         channels_max: max as u8,
     };
-    if input {
-        return Line::Described(Part::Input(info));
-    }
-    Line::Described(Part::Output(info))
+    let part = if input {
+        Part::Input(info)
+    } else {
+        Part::Output(info)
+    };
+    at_end(s, end, Line::Described(part))
 }
 
 // `power LEN`
-fn power_form(s: &[u8]) -> Line
+#[tactic(auto, unfolding(crate::specs::Line::power_form))]
+fn power_form(s: &[u8]) -> Option<Line>
     ensures { result ≡ power_form s.now }
 {
-    let Size::Is(n) = replay_field::size_at(s, 5, MAX_RAM) else {
-        return Line::Unreadable;
-    };
-    Line::Power(n)
+    let n = replay_field::size_at(s, 5, MAX_RAM as u64)?;
+    Some(Line::Power(n))
 }
 
 // `r OFF W`
-fn read_form(s: &[u8]) -> Line
+#[tactic(auto, unfolding(crate::specs::Line::read_form))]
+fn read_form(s: &[u8]) -> Option<Line>
     ensures { result ≡ read_form s.now }
 {
-    let Pair::Are(offset, width, end) = replay_field::pair_at(s, 1, MAX_32) else {
-        return Line::Unreadable;
-    };
-    if end < s.len() {
-        return Line::Unreadable;
-    }
-    Line::Called(Call::Read(offset, width))
+    let (offset, width, end) = replay_field::pair_at(s, 1, MAX_32)?;
+    at_end(s, end, Line::Called(Call::Read { offset, width }))
 }
 
 // `w OFF W VAL`
-fn write_form(s: &[u8]) -> Line
+#[tactic(auto, unfolding(crate::specs::Line::write_form))]
+fn write_form(s: &[u8]) -> Option<Line>
     ensures { result ≡ write_form s.now }
 {
-    let Pair::Are(offset, width, a) = replay_field::pair_at(s, 1, MAX_32) else {
-        return Line::Unreadable;
-    };
-    let Number::Is(value, end) = replay_field::field_at(s, a, MAX_32) else {
-        return Line::Unreadable;
-    };
-    if end < s.len() {
-        return Line::Unreadable;
-    }
-    Line::Called(Call::Write(offset, width, value))
+    let (offset, width, a) = replay_field::pair_at(s, 1, MAX_32)?;
+    let (value, end) = replay_field::field_at(s, a, MAX_32)?;
+    at_end(
+        s,
+        end,
+        Line::Called(Call::Write {
+            offset,
+            width,
+            value,
+        }),
+    )
 }
 
 // `control`
-fn control_form(s: &[u8]) -> Line
+#[tactic(auto, unfolding(crate::specs::Line::control_form))]
+fn control_form(s: &[u8]) -> Option<Line>
     ensures { result ≡ control_form s.now }
 {
-    if 7 < s.len() {
-        return Line::Unreadable;
-    }
-    Line::Called(Call::Control)
+    at_end(s, 7, Line::Called(Call::Control))
 }
 
 // `play STREAM N BACKLOG`
-fn play_form(s: &[u8]) -> Line
+#[tactic(auto, unfolding(crate::specs::Line::play_form))]
+fn play_form(s: &[u8]) -> Option<Line>
     ensures { result ≡ play_form s.now }
 {
-    let Number::Is(stream, a) = replay_field::field_at(s, 4, MAX_32) else {
-        return Line::Unreadable;
+    let (stream, a) = replay_field::field_at(s, 4, MAX_32)?;
+    let (n, b) = replay_field::field_at(s, a, MAX_BYTES as u64)?;
+    let (backlog, end) = replay_field::field_at(s, b, MAX_32)?;
+    let play = Call::Play {
+        stream: stream as u32,
+        count: n as usize,
+        backlog: backlog as u32,
     };
-    let Number::Is(n, b) = replay_field::field_at(s, a, MAX_BYTES) else {
-        return Line::Unreadable;
-    };
-    let Number::Is(backlog, end) = replay_field::field_at(s, b, MAX_32) else {
-        return Line::Unreadable;
-    };
-    if end < s.len() {
-        return Line::Unreadable;
-    }
-    Line::Called(Call::Play(stream as u32, n as usize, backlog as u32))
+    at_end(s, end, Line::Called(play))
 }
 
 // What a stream captures, `HEX BACKLOG` from `at` on: the HEX ends at the next space.
-fn captured_form(s: &[u8], stream: u32, at: usize) -> Line
+#[tactic(auto, unfolding(crate::specs::Line::captured_form))]
+fn captured_form(s: &[u8], stream: u32, at: usize) -> Option<Line>
     ensures { result ≡ captured_form s.now stream at }
 {
     if s.len() <= at {
-        return Line::Unreadable;
+        return None;
     }
     let behind = lines::find(s, at + 1, b' ');
     if s.len() < behind {
-        return Line::Unreadable;
+        return None;
     }
-    let Hex::At(place, count) = replay_field::hex_at(&s[..behind], at) else {
-        return Line::Unreadable;
+    let Hex { place, count } = replay_field::hex_at(&s[..behind], at)?;
+    if MAX_BYTES < count {
+        return None;
+    }
+    let (backlog, end) = replay_field::field_at(s, behind, MAX_32)?;
+    let capture = Call::Capture {
+        stream,
+        place,
+        behind,
+        backlog: backlog as u32,
     };
-    if 65536 < count {
-        return Line::Unreadable;
-    }
-    let Number::Is(backlog, end) = replay_field::field_at(s, behind, MAX_32) else {
-        return Line::Unreadable;
-    };
-    if end < s.len() {
-        return Line::Unreadable;
-    }
-    Line::Called(Call::Capture(stream, place, behind, backlog as u32))
+    at_end(s, end, Line::Called(capture))
 }
 
 // `capture STREAM HEX BACKLOG`
-fn capture_form(s: &[u8]) -> Line
+#[tactic(auto, unfolding(crate::specs::Line::capture_form))]
+fn capture_form(s: &[u8]) -> Option<Line>
     ensures { result ≡ capture_form s.now }
 {
-    let Number::Is(stream, at) = replay_field::field_at(s, 7, MAX_32) else {
-        return Line::Unreadable;
-    };
+    let (stream, at) = replay_field::field_at(s, 7, MAX_32)?;
     captured_form(s, stream as u32, at)
 }
 
 // `event CODE DATA`
-fn event_form(s: &[u8]) -> Line
+#[tactic(auto, unfolding(crate::specs::Line::event_form))]
+fn event_form(s: &[u8]) -> Option<Line>
     ensures { result ≡ event_form s.now }
 {
-    let Pair::Are(code, data, end) = replay_field::pair_at(s, 5, MAX_32) else {
-        return Line::Unreadable;
+    let (code, info, end) = replay_field::pair_at(s, 5, MAX_32)?;
+    let event = Call::Event {
+        code: code as u32,
+        info: info as u32,
     };
-    if end < s.len() {
-        return Line::Unreadable;
-    }
-    Line::Called(Call::Event(code as u32, data as u32))
+    at_end(s, end, Line::Called(event))
 }
 
 // `m ADDR HEX`
-fn store_form(s: &[u8]) -> Line
+#[tactic(auto, unfolding(crate::specs::Line::store_form))]
+fn store_form(s: &[u8]) -> Option<Line>
     ensures { result ≡ store_form s.now }
 {
-    let Number::Is(address, a) = replay_field::field_at(s, 1, MAX_64) else {
-        return Line::Unreadable;
-    };
-    let Hex::At(place, _) = replay_field::hex_at(s, a) else {
-        return Line::Unreadable;
-    };
-    Line::Lent(Guest::Store(GuestAddress::of(address), place))
+    let (address, a) = replay_field::field_at(s, 1, MAX_64)?;
+    let hex = replay_field::hex_at(s, a)?;
+    Some(Line::Lent(Guest::Store {
+        address: GuestAddress::of(address),
+        place: hex.place,
+    }))
 }
 
 // `f ADDR LEN BYTE`
-fn fill_form(s: &[u8]) -> Line
+#[tactic(auto, unfolding(crate::specs::Line::fill_form))]
+fn fill_form(s: &[u8]) -> Option<Line>
     ensures { result ≡ fill_form s.now }
 {
-    let Pair::Are(address, count, a) = replay_field::pair_at(s, 1, MAX_64) else {
-        return Line::Unreadable;
+    let (address, count, a) = replay_field::pair_at(s, 1, MAX_64)?;
+    let (byte, end) = replay_field::field_at(s, a, MAX_8)?;
+    let fill = Guest::Fill {
+        address: GuestAddress::of(address),
+        count,
+        byte: byte as u8,
     };
-    let Number::Is(byte, end) = replay_field::field_at(s, a, MAX_8) else {
-        return Line::Unreadable;
-    };
-    if end < s.len() {
-        return Line::Unreadable;
-    }
-    Line::Lent(Guest::Fill(GuestAddress::of(address), count, byte as u8))
+    at_end(s, end, Line::Lent(fill))
 }
 
 // `ram LEN`
-fn ram_form(s: &[u8]) -> Line
+#[tactic(auto, unfolding(crate::specs::Line::ram_form))]
+fn ram_form(s: &[u8]) -> Option<Line>
     ensures { result ≡ ram_form s.now }
 {
-    let Size::Is(n) = replay_field::size_at(s, 3, MAX_RAM) else {
-        return Line::Unreadable;
-    };
-    Line::Lent(Guest::Ram(n))
+    let n = replay_field::size_at(s, 3, MAX_RAM as u64)?;
+    Some(Line::Lent(Guest::Ram(n)))
 }
 
 // `d ADDR LEN`
-fn dump_form(s: &[u8]) -> Line
+#[tactic(auto, unfolding(crate::specs::Line::dump_form))]
+fn dump_form(s: &[u8]) -> Option<Line>
     ensures { result ≡ dump_form s.now }
 {
-    let Number::Is(address, a) = replay_field::field_at(s, 1, MAX_64) else {
-        return Line::Unreadable;
-    };
-    let Size::Is(n) = replay_field::size_at(s, a, MAX_BYTES) else {
-        return Line::Unreadable;
-    };
-    Line::Lent(Guest::Dump(GuestAddress::of(address), n))
+    let (address, a) = replay_field::field_at(s, 1, MAX_64)?;
+    let count = replay_field::size_at(s, a, MAX_BYTES as u64)?;
+    Some(Line::Lent(Guest::Dump {
+        address: GuestAddress::of(address),
+        count,
+    }))
 }
 
 // A line on the memory lent, or none at all.
-fn guest_line(s: &[u8]) -> Line
+#[tactic(auto, unfolding(crate::specs::Line::guest_line))]
+fn guest_line(s: &[u8]) -> Option<Line>
     ensures { result ≡ guest_line s.now }
 {
     if replay_field::starts_with(s, b"m ") {
-        return store_form(s);
+        store_form(s)
+    } else if replay_field::starts_with(s, b"f ") {
+        fill_form(s)
+    } else if replay_field::starts_with(s, b"ram ") {
+        ram_form(s)
+    } else if replay_field::starts_with(s, b"d ") {
+        dump_form(s)
+    } else {
+        None
     }
-    if replay_field::starts_with(s, b"f ") {
-        return fill_form(s);
-    }
-    if replay_field::starts_with(s, b"ram ") {
-        return ram_form(s);
-    }
-    if replay_field::starts_with(s, b"d ") {
-        return dump_form(s);
-    }
-    Line::Unreadable
 }
 
 // A call on the card, or what follows.
-fn call_line(s: &[u8]) -> Line
+#[tactic(auto, unfolding(crate::specs::Line::call_line))]
+fn call_line(s: &[u8]) -> Option<Line>
     ensures { result ≡ call_line s.now }
 {
     if replay_field::starts_with(s, b"r ") {
-        return read_form(s);
+        read_form(s)
+    } else if replay_field::starts_with(s, b"w ") {
+        write_form(s)
+    } else if replay_field::starts_with(s, b"control") {
+        control_form(s)
+    } else if replay_field::starts_with(s, b"play ") {
+        play_form(s)
+    } else if replay_field::starts_with(s, b"capture ") {
+        capture_form(s)
+    } else if replay_field::starts_with(s, b"event ") {
+        event_form(s)
+    } else {
+        guest_line(s)
     }
-    if replay_field::starts_with(s, b"w ") {
-        return write_form(s);
-    }
-    if replay_field::starts_with(s, b"control") {
-        return control_form(s);
-    }
-    if replay_field::starts_with(s, b"play ") {
-        return play_form(s);
-    }
-    if replay_field::starts_with(s, b"capture ") {
-        return capture_form(s);
-    }
-    if replay_field::starts_with(s, b"event ") {
-        return event_form(s);
-    }
-    guest_line(s)
 }
 
 // A line of the description or `power`, or what follows.
-fn part_line(s: &[u8]) -> Line
+#[tactic(auto, unfolding(crate::specs::Line::part_line))]
+fn part_line(s: &[u8]) -> Option<Line>
     ensures { result ≡ part_line s.now }
 {
     if replay_field::starts_with(s, b"jack ") {
-        return jack_form(s);
+        jack_form(s)
+    } else if replay_field::starts_with(s, b"map ") {
+        map_form(s)
+    } else if replay_field::starts_with(s, b"out ") {
+        stream_form(s, 3, false)
+    } else if replay_field::starts_with(s, b"in ") {
+        stream_form(s, 2, true)
+    } else if replay_field::starts_with(s, b"power ") {
+        power_form(s)
+    } else {
+        call_line(s)
     }
-    if replay_field::starts_with(s, b"map ") {
-        return map_form(s);
-    }
-    if replay_field::starts_with(s, b"out ") {
-        return stream_form(s, 3, false);
-    }
-    if replay_field::starts_with(s, b"in ") {
-        return stream_form(s, 2, true);
-    }
-    if replay_field::starts_with(s, b"power ") {
-        return power_form(s);
-    }
-    call_line(s)
 }
 
-// The line whose bytes, without the line feed, are `s`.
-pub fn read_line(s: &[u8]) -> Line
+// The line whose bytes, without the line feed, are `s`; none where it can't be read.
+#[tactic(auto, unfolding(crate::specs::Line::line_of))]
+pub fn read_line(s: &[u8]) -> Option<Line>
     ensures { result ≡ line_of s.now }
 {
-    if s.len() == 0 {
-        return Line::Skipped;
+    if s.is_empty() || s[0] == b'#' {
+        Some(Line::Skipped)
+    } else {
+        part_line(s)
     }
-    if s[0] == b'#' {
-        return Line::Skipped;
-    }
-    part_line(s)
 }

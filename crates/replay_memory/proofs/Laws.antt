@@ -9,6 +9,13 @@ use borrow.Author.Tests.{leb-true, leb-false}
 use lib.Dec.{leb}
 use lib.ListN.{length, set, take}
 use lib.Seq.{set_out, length-take-le}
+use Rattle.std.proofs.Common.{◌-◌, [], false, length-set, replicate, append_assoc, rules}
+use Rattle.std.proofs.lemmas.Slice.{put_mid-paste, overwrites}
+use Rattle.std.proofs.lemmas.List.Edits.{sets, sets-eq, paste_all}
+use borrow.Rule.Slice.PartMut.{put_mid}
+use lib.ListN.{length-replicate}
+use borrow.Author.Tests.{ltb-true, ltb-false}
+use lib.Dec.{ltb}
 use Rattle.replay_field.specs.Hex.{poured}
 use Rattle.replay_field.proofs.Laws.{poured-past}
 use Rattle.replay_text.specs.Hex.{hex_word}
@@ -21,13 +28,56 @@ unfolding filled
 filled-past zero m at b h = refl
 filled-past (suc k) m at b h = rw (set_out m at b h) (filled-past k m (at + 1) b (omega arith))
 
-pub filled_none : (n : ℕ) (m : List ℕ) (at b : ℕ) → n ≡ 0 → filled n m at b ≡ m
+-- only what lies within is written
+filled_within : (n : ℕ) (m : List ℕ) (at b : ℕ) → filled n m at b ≡ filled (min n (length m - at)) m at b
 unfolding filled
-filled_none n m at b h = rw h
+filled_within zero m at b = let e : min 0 (length m - at) ≡ 0 = omega arith in rw e
+filled_within (suc k) m at b = by (ltb at (length m)) refl (filled_within k (set m at b) (at + 1) b) where
+  by : (t : Bool) → ltb at (length m) ≡ t
+      → filled k (set m at b) (at + 1) b ≡ filled (min k (length (set m at b) - (at + 1))) (set m at b) (at + 1) b
+      → filled (suc k) m at b ≡ filled (min (suc k) (length m - at)) m at b
+  by true h more =
+      let e : min (suc k) (length m - at) ≡ suc (min k (length (set m at b) - (at + 1))) =
+      omega (arith, ltb-true at (length m) h, length-set m at b) in
+      rw e more
+  by false h more =
+      let p = ltb-false at (length m) h in
+      let e : min (suc k) (length m - at) ≡ 0 = omega arith in
+      rw e (filled-past (suc k) m at b p)
 
-pub filled_more : (n k : ℕ) (m : List ℕ) (at b : ℕ) → n ≡ k + 1 → filled n m at b ≡ filled k (set m at b) (at + 1) b
+filled_sets : (n : ℕ) (m : List ℕ) (at b : ℕ) → filled n m at b ≡ sets m at (replicate n b)
 unfolding filled
-filled_more n k m at b h = rw (h, add-one k)
+filled_sets zero m at b = refl
+filled_sets (suc k) m at b = rw (add-one at) (filled_sets k (set m at b) (suc at) b)
+
+put_none : (m : List ℕ) (start : ℕ) (part : List ℕ) → part ≡ [] → start ≡ length m → put_mid start 0 m part ≡ m
+put_none m start part e f = rw (e, f) (search (rules, overwrites))
+
+-- a part set to one byte
+pub filled_part : (n : ℕ) (m : List ℕ) (at b start end : ℕ) (part : List ℕ) → start ≡ min at (length m)
+    → end ≡ start + min n (length m - start) → part ≡ replicate (end - start) b → put_mid start (end - start) m part ≡ filled n m at b
+filled_part n m at b start end part p q r = by (ltb at (length m)) refl where
+  k : ℕ
+  k = min n (length m - at)
+
+  by : (t : Bool) → ltb at (length m) ≡ t → put_mid start (end - start) m part ≡ filled n m at b
+  by true h =
+      let e : start ≡ at = omega (arith, p, ltb-true at (length m) h) in
+      let f : end - start ≡ min n (length m - at) = omega (arith, q, e) in
+      let l = length-replicate {A = ℕ} (min n (length m - at)) b in
+      put_mid-paste start (end - start) m part (replicate (min n (length m - at)) b) (min n (length m - at)) (rw (← f) r) (sym f) (sym l)
+      ∙ rw (
+        e,
+        filled_within n m at b,
+        filled_sets (min n (length m - at)) m at b,
+        sets-eq (replicate (min n (length m - at)) b) m at (omega (arith, l)),
+      )
+      (paste_all m at (replicate (min n (length m - at)) b) (min n (length m - at)) (sym l) ∙ rw l (sym (append_assoc (take at m) _ _)))
+  by false h =
+      let e = ltb-false at (length m) h in
+      let f : end - start ≡ 0 = omega (arith, p, q) in
+      let s : start ≡ length m = omega (arith, p) in
+      rw (f, filled-past n m at b e) (put_none m start part (rw f at r) s)
 
 -- ---- the place of an address in the memory lent: past the end it is the end
 

@@ -7,13 +7,7 @@ ghost use Rattle.io.specs.Counts.{IsPrefixLen};
 ghost use Rattle.decimal.specs.Write.{Put};
 ghost use Rattle.replay_memory.specs.Lent.{filled, dump_bytes, Touches};
 
-use replay_line::Guest;
-
-// The greatest length.
-const MAX_RAM: usize = 1048576;
-
-// The most bytes that one line prints.
-const MAX_DUMP: usize = 65536;
+use replay_line::{Guest, MAX_BYTES, MAX_RAM};
 
 // The length lent after a line of the guest, and the place behind the text that the line left.
 #[derive(Clone, Copy)]
@@ -27,35 +21,16 @@ pub fn within(n: usize, buf: &[u8]) -> usize
     ensures prefix_len { IsPrefixLen result buf.now }
     ensures value { result ≡ min n (length buf.now) }
 {
-    if buf.len() < n {
-        return buf.len();
-    }
-    n
+    n.min(buf.len())
 }
 
 // `n` bytes set to `b`, from `at` on; what lies past the end is dropped.
 pub fn fill(m: &mut [u8], at: usize, n: usize, b: u8)
     ensures { m.new ≡ filled n m.old at b }
 {
-    let mut d = at;
-    let mut left = n;
-    while 0 < left {
-        if m.len() <= d {
-            return;
-        }
-        m[d] = b;
-        d += 1;
-        left -= 1;
-    }
-}
-
-fn at_most(n: usize, max: usize) -> usize
-    ensures { result ≡ min n max }
-{
-    if max < n {
-        return max;
-    }
-    n
+    let start = at.min(m.len());
+    let end = start + n.min(m.len() - start);
+    m[start..end].fill(b);
 }
 
 // `LINE HEX`, written to the start of `out`. The place behind it.
@@ -63,7 +38,7 @@ fn dump(line: u64, m: &[u8], at: usize, n: usize, out: &mut [u8]) -> usize
     requires { 131096 ≤ length out.old }
     ensures { Put (dump_bytes line m.now at n) out.old 0 out.new result × (result ≤ 131096) }
 {
-    let count = at_most(n, MAX_DUMP);
+    let count = n.min(MAX_BYTES);
     let to = decimal::put(out, 0, line, b' ');
     let end = replay_text::put_word(m, at, count, out, to);
     out[end] = b'\n';
@@ -85,27 +60,28 @@ pub fn touch(
 {
     let lent = within(len, ram);
     match guest {
-        Guest::Store(address, at) => {
+        Guest::Store { address, place } => {
             let to = memory::place(lent, address, 0);
-            replay_field::pour_hex(s, at, &mut ram[..lent], to);
+            replay_field::pour_hex(s, place, &mut ram[..lent], to);
             Touched { len: lent, end: 0 }
         }
-        Guest::Fill(address, n, b) => {
+        Guest::Fill {
+            address,
+            count,
+            byte,
+        } => {
             let to = memory::place(lent, address, 0);
-            fill(&mut ram[..lent], to, n as usize, b);
+            fill(&mut ram[..lent], to, count as usize, byte);
             Touched { len: lent, end: 0 }
         }
         Guest::Ram(n) => {
             fill(ram, n, MAX_RAM, 0);
             Touched { len: n, end: 0 }
         }
-        Guest::Dump(address, n) => {
+        Guest::Dump { address, count } => {
             let from = memory::place(lent, address, 0);
-            let end = dump(line, &ram[..lent], from, n, out);
-            Touched {
-                len: lent,
-                end: end,
-            }
+            let end = dump(line, &ram[..lent], from, count, out);
+            Touched { len: lent, end }
         }
     }
 }

@@ -1,6 +1,6 @@
 -- Laws of the replay program: what a call prints and leaves is what the session says of it; lines in order.
 use Rattle.std.proofs.Common.{◌≡◌, ℕ, ◌+◌, ◌-◌, ◌%◌, ◌^◌, ◌<◌, ◌≤◌, min, true, false, eqb, List, [], ◌++◌, length, take, drop, sym, ap}
-use Rattle.std.proofs.Common.{◌∙◌, drop_of_length-le}
+use Rattle.std.proofs.Common.{Option, refl, ◌∙◌, drop_of_length-le}
 use Rattle.calls.specs.Calls.{Powers}
 use Rattle.calls.proofs.Whole.{powered-device}
 use Rattle.card.specs.Rules.{powered_of}
@@ -20,8 +20,7 @@ use Rattle.replay_line.specs.declared.Call.{Call}
 use Rattle.replay_line.specs.declared.Guest.{Guest}
 use Rattle.replay_line.specs.declared.Line.{Line}
 use Rattle.replay_memory.specs.Lent.{filled, touched_length, touched_ram}
-use Rattle.replay_text.specs.Text.{answer_bytes, kept}
-use Rattle.replay_text.proofs.Laws.{kept-call, kept-play, kept_register}
+use Rattle.replay_text.specs.Text.{answer_bytes}
 use Rattle.rules.specs.Calls.{Step}
 use Rattle.device.specs.Device.{Device}
 use Rattle.queue_lines.specs.Counters.{Queue}
@@ -49,25 +48,24 @@ use Rattle.replay_run.specs.Session.{
   Steps,
 }
 use Rattle.replay_run.specs.declared.State.{State}
-use Rattle.replay_run.specs.declared.Turn.{Turn}
 
 -- ---- calls
 
--- the text of a call keeps all that is printed for it
-called-text : (q : Request) (line : ℕ) (s : Step (Device Queue)) → kept (shown_for q line s) ≡ printed q line s
-called-text (ReadRegister offset width) line s = kept_register line _ _ _ _
-called-text (WriteRegister offset width v) line s = kept_register line _ _ _ _
-called-text Control line s = kept-call line _ _ _ _ _
-called-text (Play stream host backlog) line s = kept-play line _ _ _ _ _ _
-called-text (Capture stream host backlog) line s = kept-call line _ _ _ _ _
-called-text (Event code info) line s = kept-call line _ _ _ _ _
+-- the text of a call is all that is printed for it
+called-text : (q : Request) (line : ℕ) (s : Step (Device Queue)) → shown_for q line s ≡ printed q line s
+called-text (ReadRegister offset width) line s = refl
+called-text (WriteRegister offset width v) line s = refl
+called-text Control line s = refl
+called-text (Play stream host backlog) line s = refl
+called-text (Capture stream host backlog) line s = refl
+called-text (Event code info) line s = refl
 
 -- a line's call, on the first `lent` bytes of the array
 module _ (st : State) (call : Call) (s ram : List ℕ) (lent : ℕ) (p : st.powered ≡ true) (e : lent ≡ min st.len (length ram)) where
   abbrev made-step : Step (Device Queue)
   made-step = step_of st.card (asked_by call s) (take lent ram)
 
-  pub made-text : kept (shown_for (asked_by call s) st.line made-step) ≡ called_text call s (world_of st ram)
+  pub made-text : shown_for (asked_by call s) st.line made-step ≡ called_text call s (world_of st ram)
   unfolding called_text
   made-text = rw (p, ← e, streams-shown st.card) (called-text (asked_by call s) st.line made-step)
 
@@ -116,12 +114,13 @@ pub touched-as : (st : State) (g : Guest) (s ram ram' : List ℕ) (len : ℕ) �
     ≡ touched_world g s (world_of st ram)
 touched-as st g s ram ram' len e f = rw (e, f)
 
-pub step-as : {l : Line} (w v : World) (s : List ℕ) → line_of s ≡ l → v ≡ numbered w
+pub step-as : {l : Option Line} (w v : World) (s : List ℕ) → line_of s ≡ l → v ≡ numbered w
     → (world_after l s v ≡ step_world w s) × (text_after l s v ≡ step_text w s)
 unfolding step_world step_text
 step-as w v s e n = (rw (e, n), rw (e, n))
 
-pub steps-as : {w v : World} {t u out ram out' : List ℕ} {r : Turn} → w ≡ v → t ≡ u → Steps w t out ram out' r → Steps v u out ram out' r
+pub steps-as : {w v : World} {t u out ram out' : List ℕ} {r : State} {end : ℕ} → w ≡ v → t ≡ u
+    → Steps w t out ram out' r end → Steps v u out ram out' r end
 steps-as e d p = record { world = p.world ∙ e; text = put_as d p.text; room = p.room; fit = p.fit }
 
 -- ---- lines in order

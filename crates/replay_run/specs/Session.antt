@@ -1,5 +1,6 @@
 -- The replay program's session: what each line does to its state, to the card and to the memory lent, and what it prints; and the same
 -- over all lines of a script, in order.
+use Rattle.std.specs.Prelude.{Option, Some, None}
 use Rattle.std.specs.Prelude.{◌≡◌, ℕ, ◌+◌, ◌-◌, ◌%◌, ◌^◌, ◌<◌, ◌≤◌, min, Bool, false, cond, List, [], ◌∷◌, ◌++◌, length, take, drop, ◌==◌}
 use mathlib.Core.List.{foldl}
 use Rattle.card.specs.Rules.{powered_of}
@@ -16,14 +17,13 @@ use Rattle.replay_line.specs.Line.{line_of}
 use Rattle.replay_line.specs.declared.Call.{Call}
 use Rattle.replay_line.specs.declared.Guest.{Guest}
 use Rattle.replay_line.specs.declared.Line.{Line}
-use Rattle.replay_line.specs.declared.Line.TheVariants.{Skipped, Unreadable, Described, Power, Called, Lent}
+use Rattle.replay_line.specs.declared.Line.TheVariants.{Skipped, Described, Power, Called, Lent}
 use Rattle.replay_memory.specs.Lent.{filled, touched_length, touched_ram, touched_text}
 use Rattle.replay_text.specs.Text.{answer_bytes}
 use Rattle.device.specs.Device.{Device}
 use Rattle.queue_lines.specs.Counters.{Queue}
 use Rattle.replay_run.specs.Calls.{step_in, printed}
 use Rattle.replay_run.specs.declared.State.{State}
-use Rattle.replay_run.specs.declared.Turn.{Turn}
 
 -- ---- where a session stands
 
@@ -111,22 +111,22 @@ touched_world g s w =
 
 -- ---- a line that reads so, whose bytes are s
 
-abbrev pub world_after : Line → List ℕ → World → World
-world_after Skipped s w = w
-world_after Unreadable s w = w
-world_after (Described part) s w = described_world (with_part w.desk.described part s) w
-world_after (Power n) s w = powered_world (min n (length w.ram)) w
-world_after (Called call) s w = called_world call s w
-world_after (Lent g) s w = touched_world g s w
+abbrev pub world_after : Option Line → List ℕ → World → World
+world_after (Some Skipped) s w = w
+world_after None s w = w
+world_after (Some (Described part)) s w = described_world (with_part w.desk.described part s) w
+world_after (Some (Power n)) s w = powered_world (min n (length w.ram)) w
+world_after (Some (Called call)) s w = called_world call s w
+world_after (Some (Lent g)) s w = touched_world g s w
 
 -- "one line for power, each call, d, and each line that can't be read": "power: LINE ANSWER"; "LINE 99"
-abbrev pub text_after : Line → List ℕ → World → List ℕ
-text_after Skipped s w = []
-text_after Unreadable s w = answer_bytes w.desk.line 99
-text_after (Described part) s w = []
-text_after (Power n) s w = answer_bytes w.desk.line (powered_of w.desk.described (min n (length w.ram))).answer
-text_after (Called call) s w = called_text call s w
-text_after (Lent g) s w = touched_text g w.desk.line (take (lent_in w) w.ram)
+abbrev pub text_after : Option Line → List ℕ → World → List ℕ
+text_after (Some Skipped) s w = []
+text_after None s w = answer_bytes w.desk.line 99
+text_after (Some (Described part)) s w = []
+text_after (Some (Power n)) s w = answer_bytes w.desk.line (powered_of w.desk.described (min n (length w.ram))).answer
+text_after (Some (Called call)) s w = called_text call s w
+text_after (Some (Lent g)) s w = touched_text g w.desk.line (take (lent_in w) w.ram)
 
 unfoldable pub step_world : World → List ℕ → World
 step_world w s = world_after (line_of s) s (numbered w)
@@ -157,8 +157,8 @@ pub data Turns (s : List ℕ) : World → ℕ → List (List ℕ) → World → 
 -- ---- what is promised of a line
 
 -- the world after it and its text are these, the text written to the start of a buffer; and the card is fit for the next line
-pub record Steps (w : World) (t out ram' out' : List ℕ) (r : Turn) : Type 0 where
-  pub world : world_of r.state ram' ≡ w
-  pub text : Put t out 0 out' r.end
-  pub room : r.end ≤ length out'
-  pub fit : Fit r.state.card
+pub record Steps (w : World) (t out ram' out' : List ℕ) (r : State) (end : ℕ) : Type 0 where
+  pub world : world_of r ram' ≡ w
+  pub text : Put t out 0 out' end
+  pub room : end ≤ length out'
+  pub fit : Fit r.card

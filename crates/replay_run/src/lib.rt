@@ -14,16 +14,14 @@ ghost use Rattle.replay_run.specs.Session.{step_world, step_text, session_world,
 
 use card::Card;
 use description::Description;
-use replay_line::{Call, Line};
+use replay_line::{Call, Line, MAX_RAM};
 use std::io::{Read, Write};
 
 // The answer to a line that can't be read, and to a call with no card.
 const UNREADABLE: u8 = 99;
 
-// The longest script, and the greatest length of RAM.
-const MAX_SCRIPT: usize = 1048576;
-
-const MAX_RAM: usize = 1048576;
+// The longest script.
+const MAX_SCRIPT: usize = 1_048_576;
 
 // Lines so far, bytes lent, whether the last power-up was answered 0, what is described for the next
 // one, and the card.
@@ -34,13 +32,6 @@ struct State {
     powered: bool,
     described: Description,
     card: Card,
-}
-
-// The state after a line, and the place behind the text that the line left.
-#[derive(Clone, Copy)]
-struct Turn {
-    state: State,
-    end: usize,
 }
 
 fn script_buffer() -> [u8; 1048577] {
@@ -66,115 +57,76 @@ fn answer(line: u64, answer: u8, out: &mut [u8]) -> usize
     replay_text::lay(replay_text::answer_text(line, answer), out)
 }
 
-// Power-up with the description so far and `n` bytes of RAM, all zero.
-fn power(state: State, n: usize, ram: &mut [u8], out: &mut [u8]) -> Turn
-    requires { 131096 ≤ length out.old }
-    ensures { Steps (powered_world (min n (length ram.old)) (world_of state ram.old))
-        (answer_bytes state.line (powered_of state.described (min n (length ram.old))).answer)
-        out.old ram.new out.new result }
-{
-    let len = replay_memory::within(n, ram);
-    replay_memory::fill(ram, 0, MAX_RAM, 0);
-    let d = state.described;
-    let powered = calls::power_up(d, len);
-    let end = answer(state.line, powered.answer, out);
-    let card = powered.card;
-    let next = State {
-        line: state.line,
-        len: len,
-        powered: powered.answer == 0,
-        described: description::nothing(),
-        card: card,
-    };
-    Turn {
-        state: next,
-        end: end,
-    }
-}
-
-// A call with no card can't be made.
-fn call_line(state: State, call: Call, s: &[u8], ram: &mut [u8], out: &mut [u8]) -> Turn
-    requires { Fit state.card × (131096 ≤ length out.old) }
-    ensures { Steps (called_world call s.now (world_of state ram.old))
-        (called_text call s.now (world_of state ram.old))
-        out.old ram.new out.new result }
-{
-    if !state.powered {
-        let end = answer(state.line, UNREADABLE, out);
-        return Turn {
-            state: state,
-            end: end,
-        };
-    }
-    let lent = replay_memory::within(state.len, ram);
-    let card = state.card;
-    let shown = replay_call::call(card, state.line, call, s, &mut ram[..lent]);
-    let text = shown.text;
-    let end = replay_text::lay(text, out);
-    let after = shown.card;
-    let mut next = state;
-    next.card = after;
-    Turn {
-        state: next,
-        end: end,
-    }
-}
-
-// One line of the script, whose text goes to the start of `out`.
-fn step(state: State, s: &[u8], ram: &mut [u8], out: &mut [u8]) -> Turn
-    requires { Fit state.card × (131096 ≤ length out.old) }
-    ensures { Steps (step_world (world_of state ram.old) s.now)
-        (step_text (world_of state ram.old) s.now)
-        out.old ram.new out.new result }
-{
-    let mut next = state;
-    next.line = std::num::wrapping_add_u64(state.line, 1);
-    let line = replay_line::read_line(s);
-    match line {
-        Line::Skipped => Turn {
-            state: next,
-            end: 0,
-        },
-        Line::Unreadable => {
-            let end = answer(next.line, UNREADABLE, out);
-            Turn {
-                state: next,
-                end: end,
-            }
-        }
-        Line::Described(part) => {
-            let d = next.described;
-            next.described = replay_description::with_part(d, part, s);
-            Turn {
-                state: next,
-                end: 0,
-            }
-        }
-        Line::Power(n) => power(next, n, ram, out),
-        Line::Called(call) => call_line(next, call, s, ram, out),
-        Line::Lent(guest) => {
-            let touched = replay_memory::touch(guest, next.line, s, ram, next.len, out);
-            next.len = touched.len;
-            Turn {
-                state: next,
-                end: touched.end,
-            }
+impl State {
+    // Before the first line: no card, and no memory lent.
+    fn first(ram: &[u8]) -> State
+        ensures { (world_of result ram.now ≡ first_world ram.now) × Fit result.card }
+    {
+        State {
+            line: 0,
+            len: 0,
+            powered: false,
+            described: description::nothing(),
+            card: calls::power_up(description::nothing(), 0).card,
         }
     }
-}
 
-// Before the first line: no card, and no memory lent.
-fn first_state(ram: &[u8]) -> State
-    ensures { (world_of result ram.now ≡ first_world ram.now) × Fit result.card }
-{
-    let powered = calls::power_up(description::nothing(), 0);
-    let card = powered.card;
-    State {
-        line: 0,
-        len: 0,
-        powered: false,
-        described: description::nothing(),
-        card: card,
+    // Power-up with the description so far and `n` bytes of RAM, all zero. The place behind the line's text.
+    fn power(&mut self, n: usize, ram: &mut [u8], out: &mut [u8]) -> usize
+        requires { 131096 ≤ length out.old }
+        ensures { Steps (powered_world (min n (length ram.old)) (world_of self.old ram.old))
+            (answer_bytes self.old.line (powered_of self.old.described (min n (length ram.old))).answer)
+            out.old ram.new out.new self.new result }
+    {
+        let len = replay_memory::within(n, ram);
+        replay_memory::fill(ram, 0, MAX_RAM, 0);
+        let powered = calls::power_up(self.described, len);
+        self.len = len;
+        self.powered = powered.answer == 0;
+        self.described = description::nothing();
+        self.card = powered.card;
+        answer(self.line, powered.answer, out)
+    }
+
+    // A call with no card can't be made. The place behind the line's text.
+    fn call_line(&mut self, call: Call, s: &[u8], ram: &mut [u8], out: &mut [u8]) -> usize
+        requires { Fit self.old.card × (131096 ≤ length out.old) }
+        ensures { Steps (called_world call s.now (world_of self.old ram.old))
+            (called_text call s.now (world_of self.old ram.old))
+            out.old ram.new out.new self.new result }
+    {
+        if !self.powered {
+            return answer(self.line, UNREADABLE, out);
+        }
+        let lent = replay_memory::within(self.len, ram);
+        let shown = replay_call::call(self.card, self.line, call, s, &mut ram[..lent]);
+        self.card = shown.card;
+        replay_text::lay(shown.text, out)
+    }
+
+    // One line of the script, whose text goes to the start of `out`. The place behind it.
+    fn step(&mut self, s: &[u8], ram: &mut [u8], out: &mut [u8]) -> usize
+        requires { Fit self.old.card × (131096 ≤ length out.old) }
+        ensures { Steps (step_world (world_of self.old ram.old) s.now)
+            (step_text (world_of self.old ram.old) s.now)
+            out.old ram.new out.new self.new result }
+    {
+        self.line = self.line.wrapping_add(1);
+        match replay_line::read_line(s) {
+            None => answer(self.line, UNREADABLE, out),
+            Some(Line::Skipped) => 0,
+            Some(Line::Described(part)) => {
+                self.described = replay_description::with_part(self.described, part, s);
+                0
+            }
+            Some(Line::Power(n)) => self.power(n, ram, out),
+            Some(Line::Called(call)) => self.call_line(call, s, ram, out),
+            Some(Line::Lent(guest)) => {
+                let touched = replay_memory::touch(guest, self.line, s, ram, self.len, out);
+                self.len = touched.len;
+                touched.end
+            }
+        }
     }
 }
 
@@ -185,14 +137,12 @@ fn session<W: Write>(output: &mut W, s: &[u8], ram: &mut [u8], out: &mut [u8]) -
     ensures { (world_of result ram.new ≡ session_world (first_world ram.old) (lines_of s.now))
         × Fit result.card }
 {
-    let mut state = first_state(ram);
+    let mut state = State::first(ram);
     let mut at = 0;
     while at < s.len() {
         let line_end = lines::line_end(s, at);
-        let turn = step(state, &s[at..line_end], ram, out);
-        let end = turn.end;
+        let end = state.step(&s[at..line_end], ram, out);
         streams::write_all(output, &out[..end]);
-        state = turn.state;
         at = lines::behind(s, line_end);
     }
     state

@@ -1,20 +1,16 @@
 // What the replay program prints: the text of a line, bytes as HEX, and the Adler-32 checksum.
 #![tactic(auto)]
 
-ghost use Rattle.std.specs.Prelude.{◌≡◌, ◌<◌, ◌≤◌, ◌+◌, ◌*◌, length, get_or, take};
-ghost use Rattle.decimal.specs.Write.{field_of, Put};
-ghost use Rattle.replay_text.specs.Text.{no_text, with_bytes, kept, start_text, queue_bytes, answer_text, call_text, play_text};
-ghost use Rattle.replay_text.specs.Text.{register_text};
+ghost use Rattle.std.specs.Prelude.{◌≡◌, ◌<◌, ◌≤◌, ◌+◌, ◌*◌, ◌++◌, length, get_or};
+ghost use Rattle.decimal.specs.Write.{Put};
+ghost use Rattle.replay_text.specs.Text.{answer_bytes, start_bytes, queue_bytes, call_bytes, play_bytes, register_bytes};
 ghost use Rattle.replay_text.specs.Adler.{step, adler};
 ghost use Rattle.replay_text.specs.Hex.{glyph_of, behind_of, hex_bytes, hex_word};
 
-// A line that is being written: its first `count` bytes. The longest that is made here has seven numbers
-// of at most 20 digits, and a byte behind each.
-#[derive(Clone, Copy)]
-pub struct Text {
-    pub bytes: [u8; 147],
-    pub count: usize,
-}
+use text::Text;
+
+// A line that is written. The longest has seven numbers of at most 20 digits, and a byte behind each.
+pub type LineText = Text<147>;
 
 // The two sums of a checksum.
 #[derive(Clone, Copy)]
@@ -23,70 +19,51 @@ struct Sums {
     b: u32,
 }
 
-// No byte yet.
-fn empty() -> Text
-    ensures { (result ≡ no_text) × (result.count ≡ 0) }
-{
-    Text {
-        bytes: [0; 147],
-        count: 0,
-    }
-}
-
-// A text with a number in decimal and the byte `end` behind it.
-fn with_number(text: Text, n: u64, end: u8) -> Text
-    requires { text.count + 21 ≤ 147 }
-    ensures { (result ≡ with_bytes text (field_of n end)) × (result.count ≤ text.count + 21) }
-{
-    let mut bytes = text.bytes;
-    let count = decimal::put(&mut bytes, text.count, n, end);
-    Text {
-        bytes: bytes,
-        count: count,
-    }
-}
-
 // `LINE ANSWER`
-pub fn answer_text(line: u64, answer: u8) -> Text
-    ensures { result ≡ answer_text line answer }
+pub fn answer_text(line: u64, answer: u8) -> LineText
+    ensures { result ≡ answer_bytes line answer }
 {
-    let numbered = with_number(empty(), line, b' ');
-    with_number(numbered, answer as u64, b'\n')
+    let mut text = Text::new();
+    text.push_number(line, b' ');
+    text.push_number(u64::from(answer), b'\n');
+    text
 }
 
 // `LINE ANSWER COUNT IRQ` and a space
-fn call_start(line: u64, answer: u8, count: usize, irq: u8) -> Text
-    ensures { (result ≡ start_text line answer count irq) × (result.count ≤ 84) }
+fn call_start(line: u64, answer: u8, count: usize, irq: u8) -> LineText
+    ensures value { result ≡ start_bytes line answer count irq }
+    ensures most { length result ≤ 84 }
 {
-    let numbered = with_number(empty(), line, b' ');
-    let answered = with_number(numbered, answer as u64, b' ');
-    let counted = with_number(answered, count as u64, b' ');
-    with_number(counted, irq as u64, b' ')
+    let mut text = Text::new();
+    text.push_number(line, b' ');
+    text.push_number(u64::from(answer), b' ');
+    text.push_number(count as u64, b' ');
+    text.push_number(u64::from(irq), b' ');
+    text
 }
 
 // The index of a queue, or `-` for none, and the byte `end` behind it
-fn with_queue(text: Text, queue: u8, end: u8) -> Text
-    requires { text.count + 21 ≤ 147 }
-    ensures { (result ≡ with_bytes text (queue_bytes queue end)) × (result.count ≤ text.count + 21) }
+#[tactic(auto, unfolding(crate::specs::Text::queue_bytes))]
+fn push_queue(text: &mut LineText, queue: u8, end: u8)
+    requires { length text.old + 21 ≤ 147 }
+    ensures value { text.new ≡ text.old ++ queue_bytes queue end }
+    ensures longer { length text.new ≤ length text.old + 21 }
 {
     if queue == 255 {
-        let dash = [b'-', end];
-        let mut bytes = text.bytes;
-        let count = decimal::put_bytes(&mut bytes, text.count, &dash);
-        return Text {
-            bytes: bytes,
-            count: count,
-        };
+        text.push_bytes(&[b'-', end]);
+    } else {
+        text.push_number(u64::from(queue), end);
     }
-    with_number(text, queue as u64, end)
 }
 
 // `LINE ANSWER COUNT IRQ SUM QUEUE`
-pub fn call_text(line: u64, answer: u8, count: usize, irq: u8, sum: u32, queue: u8) -> Text
-    ensures { result ≡ call_text line answer count irq sum queue }
+pub fn call_text(line: u64, answer: u8, count: usize, irq: u8, sum: u32, queue: u8) -> LineText
+    ensures { result ≡ call_bytes line answer count irq sum queue }
 {
-    let summed = with_number(call_start(line, answer, count, irq), sum as u64, b' ');
-    with_queue(summed, queue, b'\n')
+    let mut text = call_start(line, answer, count, irq);
+    text.push_number(u64::from(sum), b' ');
+    push_queue(&mut text, queue, b'\n');
+    text
 }
 
 // `LINE ANSWER COUNT IRQ SUM HOST QUEUE`
@@ -98,53 +75,46 @@ pub fn play_text(
     sum: u32,
     host: u32,
     queue: u8,
-) -> Text
-    ensures { result ≡ play_text line answer count irq sum host queue }
+) -> LineText
+    ensures { result ≡ play_bytes line answer count irq sum host queue }
 {
-    let summed = with_number(call_start(line, answer, count, irq), sum as u64, b' ');
-    let heard = with_number(summed, host as u64, b' ');
-    with_queue(heard, queue, b'\n')
+    let mut text = call_start(line, answer, count, irq);
+    text.push_number(u64::from(sum), b' ');
+    text.push_number(u64::from(host), b' ');
+    push_queue(&mut text, queue, b'\n');
+    text
 }
 
 // `LINE ANSWER VALUE RUNG IRQ`
-pub fn register_text(line: u64, answer: u8, value: u32, rung: u8, irq: u8) -> Text
-    ensures { result ≡ register_text line answer value rung irq }
+pub fn register_text(line: u64, answer: u8, value: u32, rung: u8, irq: u8) -> LineText
+    ensures { result ≡ register_bytes line answer value rung irq }
 {
-    let numbered = with_number(empty(), line, b' ');
-    let answered = with_number(numbered, answer as u64, b' ');
-    let valued = with_number(answered, value as u64, b' ');
-    with_number(with_queue(valued, rung, b' '), irq as u64, b'\n')
-}
-
-// The first `count` bytes of `s`, or all of `s` where it has no more, written to the start of `out`. The
-// place behind them.
-fn put_first(out: &mut [u8], s: &[u8], count: usize) -> usize
-    requires { length s.now ≤ length out.old }
-    ensures { Put (take count s.now) out.old 0 out.new result × (result ≤ length s.now) }
-{
-    if s.len() <= count {
-        return decimal::put_bytes(out, 0, s);
-    }
-    decimal::put_bytes(out, 0, &s[..count])
+    let mut text = Text::new();
+    text.push_number(line, b' ');
+    text.push_number(u64::from(answer), b' ');
+    text.push_number(u64::from(value), b' ');
+    push_queue(&mut text, rung, b' ');
+    text.push_number(u64::from(irq), b'\n');
+    text
 }
 
 // A text's bytes, written to the start of `out`. The place behind them.
-pub fn lay(text: Text, out: &mut [u8]) -> usize
+pub fn lay(text: LineText, out: &mut [u8]) -> usize
     requires { 147 ≤ length out.old }
-    ensures { Put (kept text) out.old 0 out.new result × (result ≤ 147) }
+    ensures { Put text out.old 0 out.new result × (result ≤ 147) }
 {
-    let bytes = text.bytes;
-    put_first(out, &bytes, text.count)
+    decimal::put_bytes(out, 0, text.as_slice())
 }
 
 // The sums with one byte more.
+#[tactic(auto, unfolding(crate::specs::Adler::step))]
 fn summed(s: Sums, x: u8) -> Sums
     requires { (s.a < 65521) × (s.b < 65521) }
     ensures { (result ≡ step s x) × (result.a < 65521) × (result.b < 65521) }
 {
-    let a = (s.a + x as u32) % 65521;
+    let a = (s.a + u32::from(x)) % 65521;
     Sums {
-        a: a,
+        a,
         b: (s.b + a) % 65521,
     }
 }
@@ -154,43 +124,36 @@ pub fn adler32(s: &[u8]) -> u32
     ensures { result ≡ adler s.now }
 {
     let mut sums = Sums { a: 1, b: 0 };
-    let mut i = 0;
-    while i < s.len() {
-        sums = summed(sums, s[i]);
-        i += 1;
+    for x in s {
+        sums = summed(sums, *x);
     }
     sums.b * 65536 + sums.a
 }
 
 // A digit of HEX.
+#[tactic(auto, unfolding(crate::specs::Hex::glyph_of))]
 fn glyph(d: u8) -> u8
     requires { d < 16 }
     ensures { result ≡ glyph_of d }
 {
-    if d < 10 {
-        return b'0' + d;
+    match d {
+        0..=9 => b'0' + d,
+        _ => b'a' + (d - 10),
     }
-    b'a' + (d - 10)
 }
 
 // The byte of `m` at `at`, 0 past its end.
 fn byte_at(m: &[u8], at: usize) -> u8
     ensures { result ≡ get_or m.now at 0 }
 {
-    if m.len() <= at {
-        return 0;
-    }
-    m[at]
+    if at < m.len() { m[at] } else { 0 }
 }
 
 // The place behind `at`, or the end of `len` bytes.
 fn behind(len: usize, at: usize) -> usize
     ensures { result ≡ behind_of len at }
 {
-    if len <= at {
-        return len;
-    }
-    at + 1
+    if len <= at { len } else { at + 1 }
 }
 
 // `n` bytes of `m` at `at` as HEX, written to `out` from `to` on; 0 past the end of `m`. The place behind
@@ -200,18 +163,13 @@ fn put_hex(m: &[u8], at: usize, n: usize, out: &mut [u8], to: usize) -> usize
     ensures { Put (hex_bytes n m.now at) out.old to out.new result × (result ≡ to + 2 * n) }
 {
     let mut from = at;
-    let mut d = to;
-    let mut left = n;
-    while 0 < left {
+    for k in 0..n {
         let b = byte_at(m, from);
-        out[d] = glyph(b / 16);
-        d += 1;
-        out[d] = glyph(b % 16);
-        d += 1;
+        out[to + 2 * k] = glyph(b / 16);
+        out[to + 2 * k + 1] = glyph(b % 16);
         from = behind(m.len(), from);
-        left -= 1;
     }
-    d
+    to + 2 * n
 }
 
 // The same as one word: `-` stands for no bytes.
@@ -220,7 +178,8 @@ pub fn put_word(m: &[u8], at: usize, n: usize, out: &mut [u8], to: usize) -> usi
     ensures { Put (hex_word n m.now at) out.old to out.new result × (result ≤ to + 2 * n + 1) }
 {
     if n == 0 {
-        return decimal::put_bytes(out, to, b"-");
+        decimal::put_bytes(out, to, b"-")
+    } else {
+        put_hex(m, at, n, out, to)
     }
-    put_hex(m, at, n, out, to)
 }

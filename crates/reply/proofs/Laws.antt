@@ -4,7 +4,7 @@ use mathlib.Core.List.{List, [], ◌∷◌, ◌++◌}
 use Prim.Native.Nat.{ℕ, zero, suc, ◌+◌, ◌/◌, ◌%◌, ◌≤◌, ◌<◌}
 use native.Mathlib.Numerals.{add-one}
 use native.Mathlib.Omega.{arith}
-use lib.ListN.{length, get_or, set, take, drop, replicate, length-take}
+use lib.ListN.{length, get_or, set, take, drop, length-take}
 use lib.Seq.{sets, take-set-lt, get_or-take}
 use Rattle.memory.specs.Bytes.{put}
 use Rattle.ranges.specs.Ranges.{put_at}
@@ -46,10 +46,6 @@ pub put-sets : (n : ℕ) (m : List ℕ) (at v : ℕ) → put n m at v ≡ sets m
 unfolding put bytes_of
 put-sets zero m at v = refl
 put-sets (suc n) m at v = rw (put-sets n (set m at (v % 256)) (at + 1) (v / 256), add-one at)
-
-pub status-put : (code : ℕ) → put 4 (replicate 4 0) 0 code ≡ rules.status code
-unfolding put bytes_of
-status-put code = refl
 
 pub length-status : (code : ℕ) → length (rules.status code) ≡ 4
 unfolding bytes_of

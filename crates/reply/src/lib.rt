@@ -49,17 +49,14 @@ pub fn close(m: &mut [u8], pending: Pending, len: u32) -> Posted
 pub fn write_status(m: &mut [u8], list: &[u64], reply: Ranges, code: u32)
     ensures { m.new ≡ put_at m.old (places (ranges_of list.now reply)) (status code) }
 {
-    let mut bytes = [0u8; 4];
-    memory::set32(&mut bytes, 0, code);
-    ranges::scatter(m, list, reply, 0, &bytes, 0, 4);
+    ranges::scatter(m, list, reply, 0, &code.to_le_bytes(), 0, 4);
 }
 
 // A message completed with a reply of four bytes.
 pub fn complete(m: &mut [u8], list: &[u64], pending: Pending, code: u32) -> Posted
     ensures { completion m.new result ≡ completion_of list.now pending (status code) m.old }
 {
-    let reply = pending.reply;
-    write_status(m, list, reply, code);
+    write_status(m, list, pending.reply, code);
     close(m, pending, 4)
 }
 
@@ -69,7 +66,7 @@ pub fn answer(m: &mut [u8], list: &[u64], parts: Parts, pending: Pending, code: 
 {
     let posted = complete(m, list, pending, code);
     Served {
-        parts: parts,
+        parts,
         kind: Kind::Completed(posted),
     }
 }

@@ -1,20 +1,15 @@
--- What the enums of the steps of reading stand for, and what an information request comes to (01, Control messages).
-use Rattle.std.specs.Prelude.{◌≡◌, Bool, cond, List, ℕ}
+-- What a request for information asks, and what it comes to (01, Control messages).
+use Rattle.std.specs.Prelude.{◌≡◌, List, ℕ}
 use Rattle.reply.specs.Reply.{completion_of}
 use Rattle.reply.specs.declared.Pending.{Pending}
 use Rattle.ring.specs.Rules.{completion}
 use Rattle.ring.specs.declared.Posted.{Posted}
 use Rattle.rules.specs.Control as rules
-use Rattle.requests.specs.declared.Check.{Check}
-use Rattle.requests.specs.declared.Check.TheVariants.{Passed, Failed}
-use Rattle.requests.specs.declared.Found.{Found}
-use Rattle.requests.specs.declared.Found.TheVariants.{There, Absent}
+use Rattle.requests.specs.declared.Query.{Query}
 
-abbrev pub checked : Bool → Check
-checked b = cond b Passed Failed
-
-abbrev pub part_found : Bool → ℕ → Found
-part_found b i = cond b (There i) Absent
+-- the query in a request's bytes
+abbrev pub query_in : List ℕ → Query
+query_in request = record { start = rules.word request 1; count = rules.word request 2; size = rules.word request 3 }
 
 -- a rule's request leaves the parts as they are, and its message is completed with the rule's bytes
 pub record Replies (ws : List ℕ) (pending : Pending) (parts : rules.Parts) (rule : rules.Served) (r : Posted) (before after : List ℕ)

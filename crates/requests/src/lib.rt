@@ -1,8 +1,8 @@
-// Control requests of jacks and for information (01, "Control messages"), step by step: each step answers an
-// enum, and where it refuses, the message is completed with the step's status.
+// Control requests of jacks and for information (01, "Control messages"), step by step: where a step refuses, the
+// message is completed with the step's status.
 #![tactic(auto)]
 
-ghost use Rattle.std.specs.Prelude.{◌≡◌, ◌++◌, map, ◌+◌, ◌*◌, ◌≤◌, ◌<◌, ltb, length, take, drop};
+ghost use Rattle.std.specs.Prelude.{◌≡◌, ◌&&◌, ◌++◌, map, ◌+◌, ◌*◌, ◌≤◌, ◌<◌, cond, leb, ltb, length, take, drop};
 ghost use Rattle.card.specs.Fit.{FitParts};
 ghost use Rattle.rules.specs.Parts.{parts_of};
 ghost use Rattle.information.specs.Items.{items_in};
@@ -10,10 +10,10 @@ ghost use Rattle.live.specs.Live.{parts_now};
 ghost use Rattle.line_calls.specs.Streams.{streams_in, direction_number};
 ghost use Rattle.reply.specs.Reply.{Serves, completion_of};
 ghost use Rattle.ring.specs.Rules.{completion};
-ghost use Rattle.rules.specs.Control.{items_by, inform_by, remap as remap_of, remap_at, remappable, four_bits, fitted, joined};
-ghost use Rattle.rules.specs.Control.{spaced, listed_in, roomy, status};
+ghost use Rattle.rules.specs.Control.{items_by, inform_by, remap as remap_of, remappable, four_bits, remapped_to, fitted, joined};
+ghost use Rattle.rules.specs.Control.{spaced, roomy, status};
 ghost use Rattle.device.specs.Numbers.{s_ok};
-ghost use Rattle.requests.specs.Requests.{checked, part_found, Replies};
+ghost use Rattle.requests.specs.Requests.{query_in, Replies};
 
 use card::{Jack, Parts};
 use live::Live;
@@ -21,80 +21,30 @@ use reply::{Pending, Served};
 use ring::Posted;
 use rules::Listing;
 
-// Whether a request passes a step of its reading.
-#[derive(Clone, Copy)]
-pub enum Check {
-    Passed,
-    Failed,
-}
-
-// A jack or a stream by its number.
-#[derive(Clone, Copy)]
-pub enum Found {
-    There(usize),
-    Absent,
-}
-
 // The number of a jack or a stream of which there are `count`.
-pub fn find(id: u32, count: usize) -> Found
-    ensures { result ≡ part_found (ltb id count) id }
+pub fn find(id: u32, count: usize) -> Option<usize>
+    ensures { result ≡ cond (ltb id count) (Some id) None }
 {
-    if (id as usize) < count {
-        return Found::There(id as usize);
-    }
-    Found::Absent
+    let at = id as usize;
+    (at < count).then_some(at)
 }
 
 // JACK_REMAP: the jack has the feature.
-fn is_remappable(jack: Jack) -> Check
-    ensures { result ≡ checked (remappable jack) }
+fn is_remappable(jack: Jack) -> bool
+    ensures { result ≡ remappable jack }
 {
-    let info = jack.info;
-    if info.features == 1 {
-        return Check::Passed;
-    }
-    Check::Failed
+    jack.info.features == 1
 }
 
-// JACK_REMAP: an association or a sequence is at most 15.
-fn has_four_bits(v: u32) -> Check
-    ensures { result ≡ checked (four_bits v) }
+// JACK_REMAP: association and sequence, each at most 15, in bits 7:4 and 3:0 of a configuration default.
+fn remapped(defconf: u32, association: u32, sequence: u32) -> Option<u32>
+    ensures { result
+        ≡ cond (four_bits association && four_bits sequence) (Some (remapped_to defconf association sequence)) None }
 {
-    if v <= 15 {
-        return Check::Passed;
+    if association > 15 || sequence > 15 {
+        return None;
     }
-    Check::Failed
-}
-
-// JACK_REMAP of a jack that can be remapped: association and sequence replace bits 7:4 and 3:0 of the
-// configuration default.
-fn remap_jack(
-    m: &mut [u8],
-    list: &[u64],
-    parts: Parts,
-    pending: Pending,
-    i: usize,
-    association: u32,
-    sequence: u32,
-) -> Served
-    requires { FitParts parts × (i < parts.jack_count) }
-    ensures { Serves list.now pending parts (remap_at (parts_of parts) i association sequence)
-        result m.old m.new }
-{
-    let jack = parts.jacks[i];
-    let Check::Passed = has_four_bits(association) else {
-        return reply::answer(m, list, parts, pending, rules::BAD_MSG);
-    };
-    let Check::Passed = has_four_bits(sequence) else {
-        return reply::answer(m, list, parts, pending, rules::BAD_MSG);
-    };
-    let info = jack.info;
-    let remapped = Jack {
-        info: info,
-        defconf: jack.defconf / 256 * 256 + association * 16 + sequence,
-        connected: jack.connected,
-    };
-    reply::answer(m, list, parts.with_jack(i, remapped), pending, rules::OK)
+    Some(defconf / 256 * 256 + association * 16 + sequence)
 }
 
 // JACK_REMAP.
@@ -103,55 +53,67 @@ pub fn remap(m: &mut [u8], list: &[u64], parts: Parts, pending: Pending, request
     ensures { Serves list.now pending parts (remap_of (parts_of parts) request.now)
         result m.old m.new }
 {
-    let Found::There(i) = find(memory::number32(request, 4), parts.jack_count) else {
+    let Some(i) = find(memory::number::<u32>(request, 4), parts.jack_count) else {
         return reply::answer(m, list, parts, pending, rules::BAD_MSG);
     };
     let jack = parts.jacks[i];
-    let Check::Passed = is_remappable(jack) else {
+    let true = is_remappable(jack) else {
         return reply::answer(m, list, parts, pending, rules::NOT_SUPP);
     };
-    let association = memory::number32(request, 8);
-    let sequence = memory::number32(request, 12);
-    remap_jack(m, list, parts, pending, i, association, sequence)
+    let association = memory::number::<u32>(request, 8);
+    let sequence = memory::number::<u32>(request, 12);
+    let Some(defconf) = remapped(jack.defconf, association, sequence) else {
+        return reply::answer(m, list, parts, pending, rules::BAD_MSG);
+    };
+    reply::answer(
+        m,
+        list,
+        parts.with_jack(i, Jack { defconf, ..jack }),
+        pending,
+        rules::OK,
+    )
 }
 
-// Information: items that are asked for have a size.
-fn is_spaced(count: u32, size: u32) -> Check
-    ensures { result ≡ checked (spaced count size) }
-{
-    if count == 0 {
-        return Check::Passed;
-    }
-    if size == 0 {
-        return Check::Failed;
-    }
-    Check::Passed
+// What a request for information asks for: `count` items from `start` on, `size` bytes apart.
+#[derive(Clone, Copy)]
+struct Query {
+    start: u32,
+    count: u32,
+    size: u32,
 }
 
-// Information: the items asked for are there.
-fn is_listed(live: Live, parts: Parts, l: Listing, start: u32, count: u32) -> Check
-    requires { FitParts (parts_now live parts) }
-    ensures { result ≡ checked (listed_in (items_in l (parts_now live parts)) start count) }
-{
-    let total = information::total(live, parts, l) as u64;
-    if start as u64 + count as u64 <= total {
-        return Check::Passed;
+impl Query {
+    // The query in a request.
+    fn of(request: &[u8]) -> Query
+        ensures { result ≡ query_in request.now }
+    {
+        Query {
+            start: memory::number::<u32>(request, 4),
+            count: memory::number::<u32>(request, 8),
+            size: memory::number::<u32>(request, 12),
+        }
     }
-    Check::Failed
-}
 
-// Information: the reply has room for the items.
-fn is_roomy(count: u32, size: u32, room: u32) -> Check
-    ensures { result ≡ checked (roomy count size room) }
-{
-    let bytes = count as u64 * size as u64;
-    if room < 4 {
-        return Check::Failed;
+    // Items that are asked for have a size.
+    fn is_spaced(self) -> bool
+        ensures { result ≡ spaced self.count self.size }
+    {
+        self.count == 0 || self.size != 0
     }
-    if bytes <= room as u64 - 4 {
-        return Check::Passed;
+
+    // The items asked for are among `total`.
+    fn is_listed(self, total: usize) -> bool
+        ensures { result ≡ leb (self.start + self.count) total }
+    {
+        self.start as usize + self.count as usize <= total
     }
-    Check::Failed
+
+    // Behind the status they fit `room` bytes.
+    fn is_roomy(self, room: u32) -> bool
+        ensures { result ≡ roomy self.count self.size room }
+    {
+        room >= 4 && self.count as u64 * self.size as u64 <= room as u64 - 4
+    }
 }
 
 // The items of a request that passed every step, behind the status.
@@ -162,29 +124,27 @@ fn list_items(
     parts: Parts,
     pending: Pending,
     l: Listing,
-    start: u32,
-    count: u32,
-    size: u32,
+    query: Query,
 ) -> Posted
-    requires { FitParts (parts_now live parts) × (start + count ≤ length (items_in l (parts_now live parts)))
-        × (4 + count * size ≤ 4294967295) }
+    requires { FitParts (parts_now live parts) × (query.start + query.count ≤ length (items_in l (parts_now live parts)))
+        × (4 + query.count * query.size ≤ 4294967295) }
     ensures { completion m.new result
         ≡ completion_of list.now pending
-        (status s_ok ++ joined (take count (drop start (map (fitted size) (items_in l (parts_now live parts))))))
+        (status s_ok
+        ++ joined (take query.count (drop query.start (map (fitted query.size) (items_in l (parts_now live parts))))))
         m.old }
 {
-    let reply = pending.reply;
-    reply::write_status(m, list, reply, rules::OK);
+    reply::write_status(m, list, pending.reply, rules::OK);
     let len = information::write_items(
         m,
         list,
-        reply,
+        pending.reply,
         live,
         parts,
         l,
-        start as usize,
-        count as usize,
-        size as usize,
+        query.start as usize,
+        query.count as usize,
+        query.size as usize,
     );
     reply::close(m, pending, len as u32)
 }
@@ -206,17 +166,15 @@ pub fn inform(
         request.now room)
         result m.old m.new }
 {
-    let start = memory::number32(request, 4);
-    let count = memory::number32(request, 8);
-    let size = memory::number32(request, 12);
-    let Check::Passed = is_spaced(count, size) else {
+    let query = Query::of(request);
+    let true = query.is_spaced() else {
         return reply::complete(m, list, pending, rules::BAD_MSG);
     };
-    let Check::Passed = is_listed(live, parts, l, start, count) else {
+    let true = query.is_listed(information::total(live, parts, l)) else {
         return reply::complete(m, list, pending, rules::BAD_MSG);
     };
-    let Check::Passed = is_roomy(count, size, room) else {
+    let true = query.is_roomy(room) else {
         return reply::complete(m, list, pending, rules::BAD_MSG);
     };
-    list_items(m, list, live, parts, pending, l, start, count, size)
+    list_items(m, list, live, parts, pending, l, query)
 }

@@ -1,4 +1,5 @@
 -- Ring facts, each once over N, the number of descriptors: where the parts lie, the counters, and what reads back after a completion.
+use Rattle.std.specs.Prelude.{Ok, Err, Some}
 use Rattle.std.proofs.Common.{◌≡◌, ℕ, ◌+◌, ◌-◌, ◌*◌, ◌%◌, ◌^◌, ◌<◌, ◌≤◌, Bool, true, false, not, ltb, leb, List, length, refl, ◌∙◌, inl}
 use Rattle.std.proofs.Common.{inr, mod-lt, arith, le-ltb, lt-ltb, ne_eqb, leb-false, leb-true}
 use native.Mathlib.Nat.{mod-mod_of_dvd, dvd_of_mod-eq-zero, mul-mod_right}
@@ -12,7 +13,6 @@ use Rattle.ring.specs.Layout.{used_at, end_at, available_flags_at, available_ind
 use Rattle.ring.specs.Layout.{used_length_at}
 use Rattle.ring.specs.Rules.{new_of, entries_of, next_of, posted_at, posted_of, post_of, completed_of}
 use Rattle.ring.specs.declared.Cause.{Cause}
-use Rattle.ring.specs.declared.Check.{Check}
 
 -- ---- the layout
 
@@ -59,10 +59,10 @@ pub place-over-the-wrap : (N k n : ℕ) → 65536 ≡ N * k → n % 65536 % N �
 place-over-the-wrap N k n h = mod-mod_of_dvd N n (dvd_of_mod-eq-zero N (rw h (mul-mod_right N k)))
 
 -- 01, Numbers on each side: play, taken 10, none and one in work
-pub play-none-in-work : (entries_of 256 (new_of 266 10) 0 ≡ Check.New 256) × (entries_of 256 (new_of 267 10) 0 ≡ Check.Broken Cause.Entries)
+pub play-none-in-work : (entries_of 256 (new_of 266 10) 0 ≡ Ok (Some 256)) × (entries_of 256 (new_of 267 10) 0 ≡ Err Cause.Entries)
 play-none-in-work = (refl, refl)
 
-pub play-one-in-work : (entries_of 256 (new_of 265 10) 1 ≡ Check.New 255) × (entries_of 256 (new_of 266 10) 1 ≡ Check.Broken Cause.Entries)
+pub play-one-in-work : (entries_of 256 (new_of 265 10) 1 ≡ Ok (Some 255)) × (entries_of 256 (new_of 266 10) 1 ≡ Err Cause.Entries)
 play-one-in-work = (refl, refl)
 
 -- ---- the region

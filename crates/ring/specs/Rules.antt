@@ -1,4 +1,5 @@
 -- 01, Rings and chains: what a call finds of a queue, the next head, and what completing a chain writes.
+use Rattle.std.specs.Prelude.{Result, Option, Ok, Err, Some, None}
 use Rattle.std.specs.Prelude.{ℕ, ◌+◌, ◌-◌, ◌%◌, Bool, cond, List, length, take, drop, ◌==◌, nat_lt}
 use Rattle.counts.specs.Counts.{address_of_page}
 use Rattle.counts.specs.declared.PageNumber.{PageNumber}
@@ -8,8 +9,6 @@ use Rattle.ranges.specs.Ranges.{places, put_at}
 use Rattle.ranges.specs.declared.Range.{Range}
 use Rattle.ring.specs.Layout.{end_at, available_flags_at, available_index_at, ring_place_at, used_index_at, used_head_at, used_length_at}
 use Rattle.ring.specs.declared.Cause.{Cause}
-use Rattle.ring.specs.declared.Check.{Check}
-use Rattle.ring.specs.declared.Head.{Head}
 use Rattle.ring.specs.declared.Posted.{Posted}
 
 abbrev pub base_of : PageNumber → ℕ
@@ -22,30 +21,30 @@ abbrev pub new_of : ℕ → ℕ → ℕ
 new_of index taken = (index + (65536 - taken)) % 65536
 
 -- "A queue is broken if .. new plus in work exceeds N"
-abbrev pub entries_of : ℕ → ℕ → ℕ → Check
-entries_of N new in_work = cond (nat_lt N (new + in_work)) (Check.Broken Cause.Entries) (Check.New new)
+abbrev pub entries_of : ℕ → ℕ → ℕ → Result (Option ℕ) Cause
+entries_of N new in_work = cond (nat_lt N (new + in_work)) (Err Cause.Entries) (Ok (Some new))
 
 -- "The available index"
 abbrev pub index_of : List ℕ → PageNumber → ℕ → ℕ
 index_of m page N = le 2 m (base_of page + available_index_at N)
 
 -- "Base 0: the queue is idle". "A queue is broken if its region passes the end of RAM": judged before the entries
-unfoldable pub found_of : List ℕ → PageNumber → ℕ → ℕ → ℕ → Check
+unfoldable pub found_of : List ℕ → PageNumber → ℕ → ℕ → ℕ → Result (Option ℕ) Cause
 found_of m page N new in_work =
-    cond (page.0 == 0) Check.Idle (cond (nat_lt (length m) (base_of page + end_at N)) (Check.Broken Cause.Region)
+    cond (page.0 == 0) (Ok None) (cond (nat_lt (length m) (base_of page + end_at N)) (Err Cause.Region)
     (entries_of N new in_work))
 
-abbrev pub check_of : List ℕ → PageNumber → ℕ → ℕ → ℕ → Check
+abbrev pub check_of : List ℕ → PageNumber → ℕ → ℕ → ℕ → Result (Option ℕ) Cause
 check_of m page N taken in_work = found_of m page N (new_of (index_of m page N) taken) in_work
 
 -- the head at a place of the ring. A queue is broken if, "when met, a head is ≥ N"
-unfoldable pub head_at : List ℕ → PageNumber → ℕ → ℕ → Head
+unfoldable pub head_at : List ℕ → PageNumber → ℕ → ℕ → Result DescriptorNumber Cause
 head_at m page N place =
     let number = le 2 m (base_of page + ring_place_at N place) in
-    cond (nat_lt number N) (Head.At (record { 0 = number })) (Head.Broken Cause.Head)
+    cond (nat_lt number N) (Ok (record { 0 = number })) (Err Cause.Head)
 
 -- "The next head stands at ring place taken mod N."
-abbrev pub head_of : List ℕ → PageNumber → ℕ → ℕ → Head
+abbrev pub head_of : List ℕ → PageNumber → ℕ → ℕ → Result DescriptorNumber Cause
 head_of m page N taken = head_at m page N (taken % N)
 
 -- ---- completing

@@ -22,30 +22,6 @@ pub enum Cause {
     Head,
 }
 
-// Where a call stands with a queue: it goes on, or the queue is broken.
-#[derive(Clone, Copy)]
-pub enum Stop {
-    Going,
-    Broke(Cause),
-}
-
-// What a call finds of a queue before it takes an entry.
-#[derive(Clone, Copy)]
-pub enum Check {
-    // base 0
-    Idle,
-    Broken(Cause),
-    // how many entries are new
-    New(u16),
-}
-
-// The next entry of the available ring.
-#[derive(Clone, Copy)]
-pub enum Head {
-    At(DescriptorNumber),
-    Broken(Cause),
-}
-
 // What a completion hands back: the card's own count of completed entries, and whether the guest
 // wants an interrupt.
 #[derive(Clone, Copy)]
@@ -78,55 +54,63 @@ fn end_at(size: u16) -> u64
 fn ring_place(count: u16, size: u16) -> u16
     ensures { result ≡ count % size }
 {
-    if size == 256 {
-        return count % 256;
+    match size {
+        256 => count % 256,
+        64 => count % 64,
+        0 => count,
+        _ => count % size,
     }
-    if size == 64 {
-        return count % 64;
-    }
-    if size == 0 {
-        return count;
-    }
-    count % size
 }
 
 // How many entries the guest has made available that are not taken; the counters wrap.
 pub fn new_entries(index: u16, taken: u16) -> u16
     ensures { result ≡ new_of index taken }
 {
-    std::num::wrapping_sub_u16(index, taken)
+    index.wrapping_sub(taken)
 }
 
-// What there is to do on the queue at `page`, of which `taken` entries were taken and `in_work` are
-// not completed.
-pub fn check_queue(m: &[u8], page: PageNumber, size: u16, taken: u16, in_work: u16) -> Check
+// How many entries are new on the queue at `page`, of which `taken` entries were taken and `in_work` are not
+// completed; none of an idle queue, whose base is 0.
+pub fn check_queue(
+    m: &[u8],
+    page: PageNumber,
+    size: u16,
+    taken: u16,
+    in_work: u16,
+) -> Result<Option<u16>, Cause>
     ensures { result ≡ check_of m.now page size taken in_work }
 {
     if page.number() == 0 {
-        return Check::Idle;
+        return Ok(None);
     }
     let base = page.address();
     if !memory::inside(m.len(), base, end_at(size)) {
-        return Check::Broken(Cause::Region);
+        return Err(Cause::Region);
     }
-    let index = memory::get16(m, base, available_at(size) + 2);
+    let index = memory::get(m, base, available_at(size) + 2);
     let new = new_entries(index, taken);
     if (size as u32) < new as u32 + in_work as u32 {
-        return Check::Broken(Cause::Entries);
+        return Err(Cause::Entries);
     }
-    Check::New(new)
+    Ok(Some(new))
 }
 
 // The head that stands next in the available ring.
-pub fn next_head(m: &[u8], page: PageNumber, size: u16, taken: u16) -> Head
+pub fn next_head(
+    m: &[u8],
+    page: PageNumber,
+    size: u16,
+    taken: u16,
+) -> Result<DescriptorNumber, Cause>
     ensures { result ≡ head_of m.now page size taken }
 {
     let place = ring_place(taken, size) as u64;
-    let number = memory::get16(m, page.address(), available_at(size) + 4 + 2 * place);
+    let number: u16 = memory::get(m, page.address(), available_at(size) + 4 + 2 * place);
     if number < size {
-        return Head::At(DescriptorNumber::of(number));
+        Ok(DescriptorNumber::of(number))
+    } else {
+        Err(Cause::Head)
     }
-    Head::Broken(Cause::Head)
 }
 
 // A used entry with its index; then the available flags say whether the guest wants an interrupt.
@@ -143,11 +127,11 @@ pub fn post(
     let base = page.address();
     let used = used_at(size);
     let element = used + 4 + 8 * ring_place(completed, size) as u64;
-    let next = std::num::wrapping_add_u16(completed, 1);
-    memory::put32(m, base, element, head.number() as u32);
-    memory::put32(m, base, element + 4, len);
-    memory::put16(m, base, used + 2, next);
-    let flags = memory::get16(m, base, available_at(size));
+    let next = completed.wrapping_add(1);
+    memory::put(m, base, element, head.number() as u32);
+    memory::put(m, base, element + 4, len);
+    memory::put(m, base, used + 2, next);
+    let flags: u16 = memory::get(m, base, available_at(size));
     Posted {
         completed: next,
         interrupt: flags % 2 == 0,

@@ -1,4 +1,5 @@
 -- What answer 0 tells: the queue did not break; and by it, what a Release leaves of memory.
+use Rattle.std.specs.Prelude.{Option, Some, None}
 use mathlib.Core.Path.{◌≡◌, refl}
 use mathlib.Core.Bool.{Bool, true, false, cond}
 use mathlib.Core.List.{List}
@@ -9,7 +10,6 @@ use Rattle.registers.specs.Answers.{done}
 use Rattle.registers.specs.Map.{size_of}
 use Rattle.registers.specs.Rules.{signalled}
 use Rattle.ring.specs.declared.Cause.{Cause}
-use Rattle.ring.specs.declared.Stop.{Stop}
 use Rattle.device.specs.Answers.{number_of, going, answer_by}
 use Rattle.device.specs.Device.{bytes_of, Direction, queue_number}
 use Rattle.rules.specs.Account.{release_replied}
@@ -21,26 +21,26 @@ no-cause-done Cause.Region e = omega arith
 no-cause-done Cause.Entries e = omega arith
 no-cause-done Cause.Head e = omega arith
 
-pub going_done : (n : ℕ) (s : Stop) → (answer_by n s).number ≡ done → going s ≡ true
-going_done n Stop.Going e = refl
-going_done n (Stop.Broke cause) e = absurd (no-cause-done cause e)
+pub going_done : (n : ℕ) (s : Option Cause) → (answer_by n s).number ≡ done → going s ≡ true
+going_done n None e = refl
+going_done n (Some cause) e = absurd (no-cause-done cause e)
 
 -- a Release that answers 0 broke nothing
 pub released-going :
-    (d : Direction) (id : ℕ) (p : Pending) (x : List ℕ) (stop : Stop) (signal : Bool)
+    (d : Direction) (id : ℕ) (p : Pending) (x : List ℕ) (stop : Option Cause) (signal : Bool)
     → (released_on d id p x stop signal).answer.number ≡ done
     → going stop ≡ true
-released-going d id p x Stop.Going signal a = refl
-released-going d id p x (Stop.Broke cause) signal a = going_done (queue_number d) (Stop.Broke cause) a
+released-going d id p x None signal a = refl
+released-going d id p x (Some cause) signal a = going_done (queue_number d) (Some cause) a
 
 -- the memory that a Release leaves, by whether its queue broke
 pub release-memory :
-    (d : Direction) (id : ℕ) (p : Pending) (m : List ℕ) (stop : Stop) (signal : Bool)
+    (d : Direction) (id : ℕ) (p : Pending) (m : List ℕ) (stop : Option Cause) (signal : Bool)
     → let o = released_on d id p m stop signal in
     o.mem ≡ cond (eqb o.answer.number done) (release_replied p m) m
 unfolding replied bytes_of size_of signalled
-release-memory d id p m Stop.Going true = refl
-release-memory d id p m Stop.Going false = refl
-release-memory d id p m (Stop.Broke Cause.Region) signal = refl
-release-memory d id p m (Stop.Broke Cause.Entries) signal = refl
-release-memory d id p m (Stop.Broke Cause.Head) signal = refl
+release-memory d id p m None true = refl
+release-memory d id p m None false = refl
+release-memory d id p m (Some Cause.Region) signal = refl
+release-memory d id p m (Some Cause.Entries) signal = refl
+release-memory d id p m (Some Cause.Head) signal = refl

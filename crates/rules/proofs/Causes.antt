@@ -1,9 +1,10 @@
 -- Order 6: an answer is 9, 11 or 12 exactly where a live device comes to need a reset, for every call from every state, and names the
 -- queue there and only there; and nothing but the answer goes by the cause.
+use Rattle.std.specs.Prelude.{Result as Found, Option, Ok, Err, Some, None}
+use Rattle.counts.specs.declared.DescriptorNumber.{DescriptorNumber}
 use mathlib.Core.Path.{◌≡◌, refl, sym, ◌∙◌, ap}
 use mathlib.Core.Bool.{Bool, true, false, cond, ◌&&◌, not, false≢true}
 use mathlib.Core.List.{List, []}
-use mathlib.Core.Option.{Option, none, some}
 use Prim.Native.Nat.{ℕ, zero, suc, ◌+◌, ◌*◌, ◌/◌, ◌%◌, ◌^◌, ◌<◌}
 use native.Mathlib.Omega.{arith}
 use borrow.Author.Tests.{eq-eqb, ne_eqb, eqb-false}
@@ -31,9 +32,6 @@ use Rattle.registers.specs.declared.Written.{Written}
 use Rattle.registers.proofs.Keeps.{by_cond}
 use Rattle.ring.specs.Rules.{base_of, check_of, head_of, interrupts}
 use Rattle.ring.specs.declared.Cause.{Cause}
-use Rattle.ring.specs.declared.Check.{Check}
-use Rattle.ring.specs.declared.Head.{Head}
-use Rattle.ring.specs.declared.Stop.{Stop}
 use Rattle.device.specs.Answers.{number_of, broken_answer, answer_by, broken_by}
 use Rattle.rules.specs.Calls.{Step, Result, Order, Pending}
 use Rattle.rules.specs.Calls.{replied, acted, indirect}
@@ -102,10 +100,10 @@ module _ (g : Registers) where
 
   -- a call on one queue, that went on or was stopped
   by-stop :
-      (s : Stop) (h : Registers) (met : ℕ) → live g ≡ true → h.status ≡ g.status
+      (s : Option Cause) (h : Registers) (met : ℕ) → live g ≡ true → h.status ≡ g.status
       → Split g (broken_by s h) met (answer_by met s)
-  by-stop Stop.Going h met l e = kept h met 0 refl e
-  by-stop (Stop.Broke cause) h met l e = loud h met cause l
+  by-stop None h met l e = kept h met 0 refl e
+  by-stop (Some cause) h met l e = loud h met cause l
 
 -- ---- registers
 
@@ -211,12 +209,12 @@ module _ (g : Registers) (l : live g ≡ true) (code data' : ℕ) where
 
   module _ (r : Rest) (m : List ℕ) (e : r.registers.status ≡ g.status) where
     chain-tries : (head : ℕ) (o : Option (List Range)) → Tries (event_chain code data' r m head o)
-    chain-tries head (some reply) = posted-tells r m head reply _ e
-    chain-tries head none = posted-status r m head [] [] e
+    chain-tries head (Some reply) = posted-tells r m head reply _ e
+    chain-tries head None = posted-status r m head [] [] e
 
-    head-tries : (h : Head) → Tries (event_head code data' r m h)
-    head-tries (Head.Broken cause) = loud g r.registers event_queue cause l
-    head-tries (Head.At n) =
+    head-tries : (h : Found DescriptorNumber Cause) → Tries (event_head code data' r m h)
+    head-tries (Err cause) = loud g r.registers event_queue cause l
+    head-tries (Ok n) =
         chain-tries n.0 (event_room m (walk_of m (base_of (page_of r event_queue)) (size_of event_queue) n.0 (indirect r)))
 
     tries : Tries (tried code data' r m)
@@ -235,10 +233,11 @@ module _ (g : Registers) (l : live g ≡ true) (code data' : ℕ) where
   run-tells zero r m e = kept g r.registers event_queue 8 refl e
   run-tells (suc k) r m e = onward-tells (tried code data' r m) k (event_run code data' k) (tries r m e) (run-tells k)
 
-  found-tells : (r : Rest) (m : List ℕ) (c : Check) → r.registers.status ≡ g.status → Tells (event_found code data' r m c).result
-  found-tells r m Check.Idle e = kept g r.registers event_queue 8 refl e
-  found-tells r m (Check.Broken cause) e = loud g r.registers event_queue cause l
-  found-tells r m (Check.New n) e = run-tells n r m e
+  found-tells : (r : Rest) (m : List ℕ) (c : Found (Option ℕ) Cause) → r.registers.status ≡ g.status
+      → Tells (event_found code data' r m c).result
+  found-tells r m (Ok None) e = kept g r.registers event_queue 8 refl e
+  found-tells r m (Err cause) e = loud g r.registers event_queue cause l
+  found-tells r m (Ok (Some n)) e = run-tells n r m e
 
 recorded-registers : (r : Rest) (code data' : ℕ) → (recorded r code data').registers ≡ r.registers
 unfolding recorded
@@ -307,13 +306,13 @@ module _ {Q : Type 0} (b : Device Q) where
       (signalled-status (interrupts after (base_of (page_of p.rest control_queue)) (size_of control_queue)) p.rest.registers ∙ e)
 
   module _ (l : live g ≡ true) (d : Direction) (id : ℕ) (p : Pending) (h : p.rest.registers.status ≡ g.status) where
-    released-split : (x : List ℕ) (stop : Stop) (signal : Bool)
+    released-split : (x : List ℕ) (stop : Option Cause) (signal : Bool)
         → Split g (released_on d id p x stop signal).rest.registers (queue_number d) (released_on d id p x stop signal).answer
-    released-split x Stop.Going signal = replied-split _ _ x (queue_number d) (signalled-status signal p.rest.registers ∙ h)
-    released-split x (Stop.Broke cause) signal = loud g _ (queue_number d) cause l
+    released-split x None signal = replied-split _ _ x (queue_number d) (signalled-status signal p.rest.registers ∙ h)
+    released-split x (Some cause) signal = loud g _ (queue_number d) cause l
 
     -- a Release whose queue was emptied so
-    pub ended-split : (x : List ℕ) (stop : Stop) (signal : Bool) (q : Q)
+    pub ended-split : (x : List ℕ) (stop : Option Cause) (signal : Bool) (q : Q)
         → let s = ended_on d (released_on d id p x stop signal) q b in
         Split g s.state.rest.registers (queue_number d) s.told.answer
     ended-split x stop signal q = rw (with_rest d) (released-split x stop signal)
@@ -343,18 +342,18 @@ module _ {Q : Type 0} (b : Device Q) where
           (λ e. replied-split p (status s_bad_msg) m control_queue h))
           (λ e. replied-split p [] m control_queue h)
 
-      head-orders : (h : Head) → Orders (control_head_by serve b.rest m h)
-      head-orders (Head.At n) =
+      head-orders : (h : Found DescriptorNumber Cause) → Orders (control_head_by serve b.rest m h)
+      head-orders (Ok n) =
           let r : Rest = b.rest in
           message-orders (with_control (one_taken r.control) r) n.0
           (walk_of m (base_of (page_of r control_queue)) (size_of control_queue) n.0 (indirect r)) refl
-      head-orders (Head.Broken cause) = loud g g control_queue cause l
+      head-orders (Err cause) = loud g g control_queue cause l
 
-      found-orders : (c : Check) → Orders (control_found_by serve b.rest m c)
-      found-orders Check.Idle = kept g g control_queue 0 refl refl
-      found-orders (Check.Broken cause) = loud g g control_queue cause l
-      found-orders (Check.New zero) = kept g g control_queue 0 refl refl
-      found-orders (Check.New (suc n)) =
+      found-orders : (c : Found (Option ℕ) Cause) → Orders (control_found_by serve b.rest m c)
+      found-orders (Ok None) = kept g g control_queue 0 refl refl
+      found-orders (Err cause) = loud g g control_queue cause l
+      found-orders (Ok (Some zero)) = kept g g control_queue 0 refl refl
+      found-orders (Ok (Some (suc n))) =
           head-orders (head_of m (page_of b.rest control_queue) (size_of control_queue) b.rest.control.taken)
 
     pub control-split : Orders (order_by serve b.rest m)

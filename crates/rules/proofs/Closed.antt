@@ -1,8 +1,10 @@
 -- What every call but a reset and a transfer keeps of streams and jacks: any property that the changes of control messages and events keep.
+use Rattle.std.specs.Prelude.{Result as Found, Option, Ok, Err, Some, None}
+use Rattle.ring.specs.declared.Cause.{Cause}
+use Rattle.counts.specs.declared.DescriptorNumber.{DescriptorNumber}
 use mathlib.Core.Path.{◌≡◌, refl, sym, ◌∙◌}
 use mathlib.Core.Bool.{Bool, true, false, ◌&&◌}
 use mathlib.Core.List.{List, []}
-use mathlib.Core.Option.{Option, none, some}
 use Prim.Native.Nat.{ℕ, zero, suc, ◌≤◌}
 use native.Mathlib.Omega.{arith}
 use borrow.Author.Tests.{ne_eqb, leb-true, eqb-true}
@@ -16,9 +18,6 @@ use Rattle.registers.proofs.Keeps.{by_cond}
 use Rattle.registers.specs.Map.{size_of}
 use Rattle.registers.specs.Rules.{live}
 use Rattle.ring.specs.Rules.{base_of, check_of, head_of}
-use Rattle.ring.specs.declared.Check.{Check}
-use Rattle.ring.specs.declared.Head.{Head}
-use Rattle.ring.specs.declared.Stop.{Stop}
 use Rattle.card.specs.Card.{fresh_state, released_state, no_stream}
 use Rattle.card.specs.declared.Jack.{Jack}
 use Rattle.card.specs.declared.Params.{Params}
@@ -40,8 +39,6 @@ use Rattle.rules.specs.declared.Asked.{Asked}
 use Rattle.rules.specs.declared.Asked.TheVariants.{Information, Remap, Pcm}
 use Rattle.rules.specs.declared.Command.{Command}
 use Rattle.rules.specs.declared.Command.TheVariants as command
-use Rattle.rules.specs.declared.Decoded.{Decoded}
-use Rattle.rules.specs.declared.Decoded.TheVariants.{Known, Unknown}
 use Rattle.rules.specs.declared.Listing.{Listing}
 use Rattle.device.proofs.Cases.{none-some}
 
@@ -68,7 +65,7 @@ pub record Closed (P : List Stream → List Jack → Type 0) : Type 0 where
       → P (set ss id (with_params state params (get_or ss id no_stream))) js
 
 -- a command that does not start from Fresh
-not-fresh : (c : Command) → transition c 0 ≡ none → (s t : ℕ) → transition c s ≡ some t → eqb s fresh_state ≡ false
+not-fresh : (c : Command) → transition c 0 ≡ None → (s t : ℕ) → transition c s ≡ Some t → eqb s fresh_state ≡ false
 not-fresh c z zero t h = absurd (none-some t (sym z ∙ h))
 not-fresh c z (suc s) t h = ne_eqb (suc s) 0 (λ e. omega (arith, e))
 
@@ -137,12 +134,12 @@ module _ (P : List Stream → List Jack → Type 0) (closed : Closed P) where
     led-kept : (c : Command) (id : ℕ) (request : List ℕ) (o : Option ℕ) → transition c (stream_in p id).state ≡ o
         → Kept (led p c id request o)
     unfolding transition
-    led-kept c id request none e = refused-kept _
-    led-kept command.SetParams id request (some t) e = set-kept id t request
-    led-kept command.Prepare id request (some t) e = moves-kept id t (not-fresh command.Prepare refl (stream_in p id).state t e)
-    led-kept command.Start id request (some t) e = moves-kept id t (not-fresh command.Start refl (stream_in p id).state t e)
-    led-kept command.Stop id request (some t) e = moves-kept id t (not-fresh command.Stop refl (stream_in p id).state t e)
-    led-kept command.Release id request (some t) e = record { is = not-fresh command.Release refl (stream_in p id).state t e }
+    led-kept c id request None e = refused-kept _
+    led-kept command.SetParams id request (Some t) e = set-kept id t request
+    led-kept command.Prepare id request (Some t) e = moves-kept id t (not-fresh command.Prepare refl (stream_in p id).state t e)
+    led-kept command.Start id request (Some t) e = moves-kept id t (not-fresh command.Start refl (stream_in p id).state t e)
+    led-kept command.Stop id request (Some t) e = moves-kept id t (not-fresh command.Stop refl (stream_in p id).state t e)
+    led-kept command.Release id request (Some t) e = record { is = not-fresh command.Release refl (stream_in p id).state t e }
 
     commanded-kept : (c : Command) (request : List ℕ) → Kept (commanded p c request)
     unfolding commanded
@@ -156,9 +153,9 @@ module _ (P : List Stream → List Jack → Type 0) (closed : Closed P) where
       answer-kept Remap request room = remap-kept request
       answer-kept (Pcm c) request room = commanded-kept c request
 
-      answered-kept : (d : Decoded) (request : List ℕ) (room : ℕ) → Kept (answered_by (inform_by items) d p request room)
-      answered-kept Unknown request room = refused-kept _
-      answered-kept (Known a) request room = pass (leb (layout_of a) (length request)) s_bad_msg _ (λ e. answer-kept a request room)
+      answered-kept : (d : Option Asked) (request : List ℕ) (room : ℕ) → Kept (answered_by (inform_by items) d p request room)
+      answered-kept None request room = refused-kept _
+      answered-kept (Some a) request room = pass (leb (layout_of a) (length request)) s_bad_msg _ (λ e. answer-kept a request room)
 
       served-kept : (request : List ℕ) (room : ℕ) → Kept (served_by (inform_by items) p request room)
       served-kept request room = answered-kept (decoded_of (word request 0)) request room
@@ -195,17 +192,18 @@ module _ (P : List Stream → List Jack → Type 0) (closed : Closed P) where
         (λ e. acted-kept (serve (parts_in r) asked (total reply)) p m k (served-kept (parts_in r) k items asked (total reply)))
         (λ e. replied-kept p (status s_bad_msg) m k)) (λ e. replied-kept p [] m k)
 
-    head-kept : (r : Rest) (m : List ℕ) (h : Head) → RestKept r → Is OrderKept (control_head_by serve r m h)
-    head-kept r m (Head.At n) k =
+    head-kept : (r : Rest) (m : List ℕ) (h : Found DescriptorNumber Cause) → RestKept r → Is OrderKept (control_head_by serve r m h)
+    head-kept r m (Ok n) k =
         message-kept (with_control (one_taken r.control) r) m n.0
         (walk_of m (base_of (page_of r control_queue)) (size_of control_queue) n.0 (indirect r)) k
-    head-kept r m (Head.Broken cause) k = record { is = k }
+    head-kept r m (Err cause) k = record { is = k }
 
-    found-kept : (r : Rest) (m : List ℕ) (c : Check) → RestKept r → Is OrderKept (control_found_by serve r m c)
-    found-kept r m Check.Idle k = record { is = k }
-    found-kept r m (Check.Broken cause) k = record { is = k }
-    found-kept r m (Check.New zero) k = record { is = k }
-    found-kept r m (Check.New (suc n)) k = head-kept r m (head_of m (page_of r control_queue) (size_of control_queue) r.control.taken) k
+    found-kept : (r : Rest) (m : List ℕ) (c : Found (Option ℕ) Cause) → RestKept r
+        → Is OrderKept (control_found_by serve r m c)
+    found-kept r m (Ok None) k = record { is = k }
+    found-kept r m (Err cause) k = record { is = k }
+    found-kept r m (Ok (Some zero)) k = record { is = k }
+    found-kept r m (Ok (Some (suc n))) k = head-kept r m (head_of m (page_of r control_queue) (size_of control_queue) r.control.taken) k
 
     pub order-kept : (r : Rest) (m : List ℕ) → RestKept r → Is OrderKept (order_by serve r m)
     order-kept r m k =
@@ -215,11 +213,11 @@ module _ (P : List Stream → List Jack → Type 0) (closed : Closed P) where
         (λ e. found-kept r m (check_of m (page_of r control_queue) (size_of control_queue) r.control.taken 0) k) (λ e. record { is = k }))
         (λ e. record { is = k })
 
-  released-kept : (d : Direction) (id : ℕ) (p : Pending) (m : List ℕ) (s : Stop) (signal : Bool) → OrderKept (ReleaseFirst id p)
+  released-kept : (d : Direction) (id : ℕ) (p : Pending) (m : List ℕ) (s : Option Cause) (signal : Bool) → OrderKept (ReleaseFirst id p)
       → RestKept (released_on d id p m s signal).rest
   unfolding replied
-  released-kept d id p m Stop.Going signal k = closed.moved p.rest.streams p.rest.jacks id released_state k.1 k.0
-  released-kept d id p m (Stop.Broke cause) signal k = k.0
+  released-kept d id p m None signal k = closed.moved p.rest.streams p.rest.jacks id released_state k.1 k.0
+  released-kept d id p m (Some cause) signal k = k.0
 
   -- ---- events
 
@@ -244,12 +242,12 @@ module _ (P : List Stream → List Jack → Type 0) (closed : Closed P) where
     chain-kept : (r : Rest) (m : List ℕ) (head : ℕ) (o : Option (List Range)) → RestKept r
         → Is TriedKept (event_chain code data' r m head o)
     unfolding event_posted
-    chain-kept r m head (some reply) k = record { is = k }
-    chain-kept r m head none k = record { is = k }
+    chain-kept r m head (Some reply) k = record { is = k }
+    chain-kept r m head None k = record { is = k }
 
-    event-head-kept : (r : Rest) (m : List ℕ) (h : Head) → RestKept r → Is TriedKept (event_head code data' r m h)
-    event-head-kept r m (Head.Broken cause) k = record { is = k }
-    event-head-kept r m (Head.At n) k =
+    event-head-kept : (r : Rest) (m : List ℕ) (h : Found DescriptorNumber Cause) → RestKept r → Is TriedKept (event_head code data' r m h)
+    event-head-kept r m (Err cause) k = record { is = k }
+    event-head-kept r m (Ok n) k =
         chain-kept r m n.0 (event_room m (walk_of m (base_of (page_of r event_queue)) (size_of event_queue) n.0 (indirect r))) k
 
     tried-kept : (r : Rest) (m : List ℕ) → RestKept r → Is TriedKept (tried code data' r m)
@@ -267,10 +265,11 @@ module _ (P : List Stream → List Jack → Type 0) (closed : Closed P) where
     run-kept zero r m k = record { is = k }
     run-kept (suc n) r m k = onward-kept (tried code data' r m) n (event_run code data' n) (tried-kept r m k) (run-kept n)
 
-    event-found-kept : (r : Rest) (m : List ℕ) (c : Check) → RestKept r → Is ResultKept (event_found code data' r m c).result
-    event-found-kept r m Check.Idle k = record { is = k }
-    event-found-kept r m (Check.Broken cause) k = record { is = k }
-    event-found-kept r m (Check.New n) k = run-kept n r m k
+    event-found-kept : (r : Rest) (m : List ℕ) (c : Found (Option ℕ) Cause) → RestKept r
+        → Is ResultKept (event_found code data' r m c).result
+    event-found-kept r m (Ok None) k = record { is = k }
+    event-found-kept r m (Err cause) k = record { is = k }
+    event-found-kept r m (Ok (Some n)) k = run-kept n r m k
 
     pub event-kept : (r : Rest) (m : List ℕ) → RestKept r → Is ResultKept (event_of r code data' m)
     unfolding event_of
@@ -291,7 +290,7 @@ module _ (P : List Stream → List Jack → Type 0) (closed : Closed P) where
     queue-kept output r q b k = k
     queue-kept input r q b k = k
 
-    pub ended-kept : (d : Direction) (id : ℕ) (p : Pending) (m : List ℕ) (s : Stop) (signal : Bool) (q : Q) (b : Device Q)
+    pub ended-kept : (d : Direction) (id : ℕ) (p : Pending) (m : List ℕ) (s : Option Cause) (signal : Bool) (q : Q) (b : Device Q)
         → OrderKept (ReleaseFirst id p)
         → RestKept (ended_on d (released_on d id p m s signal) q b).state.rest
     ended-kept d id p m s signal q b k = queue-kept d (released_on d id p m s signal).rest q b (released-kept d id p m s signal k)

@@ -1,8 +1,8 @@
 -- The lifecycle's table and the list of its twelve steps say the same: each place of the table is looked at, and each step of the list.
+use Rattle.std.specs.Prelude.{Option, None, Some}
 use mathlib.Core.Path.{◌≡◌, refl, sym, ap}
 use mathlib.Core.List.{List, [], ◌∷◌}
 use mathlib.Core.Logic.{inl, inr}
-use mathlib.Core.Option.{Option, none, some}
 use Prim.Native.Nat.{ℕ, zero, suc, ◌<◌}
 use native.Mathlib.Omega.{arith}
 use lib.ListN.{length, get_or}
@@ -14,10 +14,10 @@ use Rattle.rules.specs.declared.Command.TheVariants.{SetParams, Prepare, Start, 
 -- ---- options
 
 value_or : ℕ → Option ℕ → ℕ
-value_or d none = d
-value_or d (some v) = v
+value_or d None = d
+value_or d (Some v) = v
 
-some_same : (a b : ℕ) → some a ≡ some b → a ≡ b
+some_same : (a b : ℕ) → Some a ≡ Some b → a ≡ b
 unfolding value_or
 some_same a b h = ap (value_or 0) h
 
@@ -44,7 +44,7 @@ no_step = step SetParams 0 0
 at : {x : Step} (k : ℕ) → k < 12 → get_or lawful_steps k no_step ≡ x → Among x lawful_steps
 at {x} k h e = among-at no_step lawful_steps k x h e
 
-listed-step : (c : Command) (s t : ℕ) → transition c s ≡ some t → Among (step c s t) lawful_steps
+listed-step : (c : Command) (s t : ℕ) → transition c s ≡ Some t → Among (step c s t) lawful_steps
 unfolding transition
 listed-step SetParams zero t h = at 0 (omega arith) (ap (step SetParams 0) (some_same _ _ h))
 listed-step SetParams (suc zero) t h = at 1 (omega arith) (ap (step SetParams 1) (some_same _ _ h))
@@ -82,7 +82,7 @@ listed-step Release (suc (suc (suc (suc zero)))) t h = at 9 (omega arith) (ap (s
 listed-step Release (suc (suc (suc (suc (suc zero))))) t h = absurd (none-some t h)
 listed-step Release (suc (suc (suc (suc (suc (suc s)))))) t h = absurd (none-some t h)
 
-lawful-step : (x : Step) → Among x lawful_steps → transition x.command x.from ≡ some x.to
+lawful-step : (x : Step) → Among x lawful_steps → transition x.command x.from ≡ Some x.to
 unfolding transition
 lawful-step x (inl e) = rw e
 lawful-step x (inr (inl e)) = rw e

@@ -1,8 +1,9 @@
 -- What the five kinds of call are made of, each from the state, its arguments and the memory lent to it to the answer, the count, the next
 -- state and memory; for any way `Q` of keeping the stream queues. Registers, control messages and events are here; what a play, a capture
 -- or a Release does to its stream's queue is queue_lines', and the calls are line_calls'.
+use Rattle.std.specs.Prelude.{Option, Result as Found, Ok, Err, Some, None}
+use Rattle.counts.specs.declared.DescriptorNumber.{DescriptorNumber}
 use Rattle.std.specs.Prelude.{Bool, true, false, cond, ◌&&◌, ◌||◌, List, [], ◌++◌, map, ℕ, zero, suc, eqb, leb, ltb, length, get_or, set}
-use Rattle.std.proofs.Math.Option.{Option, none, some}
 use Rattle.std.proofs.lemmas.List.Edits.{sets}
 use Rattle.chain.specs.Walk.{Outcome, whole, faulted, walk_of}
 use Rattle.ranges.specs.Ranges.{total, places, bytes_at, put_at, all_inside}
@@ -19,9 +20,6 @@ use Rattle.registers.specs.declared.Written.{Written}
 use Rattle.registers.specs.declared.answers.Answer.{Answer}
 use Rattle.ring.specs.Rules.{base_of, check_of, head_of, posted_of, interrupts}
 use Rattle.ring.specs.declared.Cause.{Cause}
-use Rattle.ring.specs.declared.Check.{Check}
-use Rattle.ring.specs.declared.Head.{Head}
-use Rattle.ring.specs.declared.Stop.{Stop}
 use Rattle.card.specs.Card.{no_counters, running_state, released_state}
 use Rattle.card.specs.Rules.{jack_reset, stream_reset, rung_of}
 use Rattle.card.specs.declared.Jack.{Jack}
@@ -167,18 +165,18 @@ module _ (serve : Parts → List ℕ → ℕ → Served) where
       (Done (replied p (status s_bad_msg) m)))
       (Done (replied p [] m))
 
-  abbrev pub control_head_by : Rest → List ℕ → Head → Order
-  control_head_by r m (Head.At n) =
+  abbrev pub control_head_by : Rest → List ℕ → Found DescriptorNumber Cause → Order
+  control_head_by r m (Ok n) =
       read_message_by (with_control (one_taken r.control) r) m n.0
       (walk_of m (base_of (page_of r control_queue)) (size_of control_queue) n.0 (indirect r))
-  control_head_by r m (Head.Broken cause) = Done (broke control_queue cause r m)
+  control_head_by r m (Err cause) = Done (broke control_queue cause r m)
 
   -- "Base 0: the queue is idle; control, play and capture then answer 0, count 0."; so does a control call where nothing is new
-  abbrev pub control_found_by : Rest → List ℕ → Check → Order
-  control_found_by r m Check.Idle = Done (refused_with done r m)
-  control_found_by r m (Check.Broken cause) = Done (broke control_queue cause r m)
-  control_found_by r m (Check.New zero) = Done (refused_with done r m)
-  control_found_by r m (Check.New (suc n)) = control_head_by r m
+  abbrev pub control_found_by : Rest → List ℕ → Found (Option ℕ) Cause → Order
+  control_found_by r m (Ok None) = Done (refused_with done r m)
+  control_found_by r m (Err cause) = Done (broke control_queue cause r m)
+  control_found_by r m (Ok (Some zero)) = Done (refused_with done r m)
+  control_found_by r m (Ok (Some (suc n))) = control_head_by r m
       (head_of m (page_of r control_queue) (size_of control_queue) r.control.taken)
 
   -- "Control: 1, 5, 9."
@@ -190,7 +188,7 @@ module _ (serve : Parts → List ℕ → ℕ → Served) where
 -- ---- a Release, past its checks: the stream's queue, then the reply
 
 -- ".. then replies." "If the queue breaks, the control message stays taken, uncompleted, and the stream keeps its state."
-abbrev pub released_on : Direction → ℕ → Pending → List ℕ → Stop → Bool → Result
+abbrev pub released_on : Direction → ℕ → Pending → List ℕ → Option Cause → Bool → Result
 released_on d id p m stop signal =
     let r : Rest = with_registers (signalled_if signal p.rest.registers) p.rest in
     by_stop stop (replied (with_rest (with_stream r id (with_state released_state (stream_at r id))) p) (status s_ok) m)
@@ -246,9 +244,9 @@ event_posted r m head reply bytes =
 
 -- "A chain with readable bytes, a walk fault, a range outside RAM or reply under 8"
 abbrev pub event_room : List ℕ → Outcome → Option (List Range)
-event_room m (faulted f) = none
+event_room m (faulted f) = None
 event_room m (whole request reply) =
-    cond (eqb (total request) 0 && all_inside (length m) request && all_inside (length m) reply && leb 8 (total reply)) (some reply) none
+    cond (eqb (total request) 0 && all_inside (length m) request && all_inside (length m) reply && leb 8 (total reply)) (Some reply) None
 
 -- one entry tried: the event is delivered or can't be, or the next entry is tried
 pub data Tried : Type 0 where
@@ -263,12 +261,12 @@ pub record Sent : Type 0 where
 module _ (code data' : ℕ) where
   -- ".. completes with length 0 and the next is tried"
   abbrev pub event_chain : Rest → List ℕ → ℕ → Option (List Range) → Tried
-  event_chain r m head (some reply) = Ended (event_posted r m head reply (event_bytes code data'))
-  event_chain r m head none = Further (event_posted r m head [] [])
+  event_chain r m head (Some reply) = Ended (event_posted r m head reply (event_bytes code data'))
+  event_chain r m head None = Further (event_posted r m head [] [])
 
-  abbrev pub event_head : Rest → List ℕ → Head → Tried
-  event_head r m (Head.Broken cause) = Ended (broke event_queue cause r m)
-  event_head r m (Head.At n) =
+  abbrev pub event_head : Rest → List ℕ → Found DescriptorNumber Cause → Tried
+  event_head r m (Err cause) = Ended (broke event_queue cause r m)
+  event_head r m (Ok n) =
       event_chain r m n.0 (event_room m (walk_of m (base_of (page_of r event_queue)) (size_of event_queue) n.0 (indirect r)))
 
   unfoldable pub tried : Rest → List ℕ → Tried
@@ -284,10 +282,10 @@ module _ (code data' : ℕ) where
   event_run (suc k) r m = onward (tried r m) k (event_run k)
 
 -- "An idle queue is answer 8."
-abbrev pub event_found : ℕ → ℕ → Rest → List ℕ → Check → Sent
-event_found code data' r m Check.Idle = record { result = refused_with no_event_buffer r m; left = 0 }
-event_found code data' r m (Check.Broken cause) = record { result = broke event_queue cause r m; left = 0 }
-event_found code data' r m (Check.New n) = event_run code data' n r m
+abbrev pub event_found : ℕ → ℕ → Rest → List ℕ → Found (Option ℕ) Cause → Sent
+event_found code data' r m (Ok None) = record { result = refused_with no_event_buffer r m; left = 0 }
+event_found code data' r m (Err cause) = record { result = broke event_queue cause r m; left = 0 }
+event_found code data' r m (Ok (Some n)) = event_run code data' n r m
 
 -- "Event: 1, 5, 7, then 8 or 9." Answer 8 leaves "jack state recorded; bad chains completed".
 unfoldable pub event_of : Rest → ℕ → ℕ → List ℕ → Result

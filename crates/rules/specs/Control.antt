@@ -1,8 +1,8 @@
 -- 01, Control messages: what a request asks and is answered. The described parts and the request decide it alone; RELEASE,
 -- whose stream's queue comes first, is told apart.
-use Rattle.std.specs.Prelude.{Bool, cond, ◌&&◌, ◌||◌, not, List, [], ◌∷◌, ◌++◌, map, ℕ, suc, ◌+◌, ◌*◌, ◌/◌, ◌%◌, ◌^◌, eqb, leb, ltb}
+use Rattle.std.specs.Prelude.{Option, None, Some, Bool, cond, ◌&&◌, ◌||◌, not, List, [], ◌∷◌, ◌++◌, map, ℕ, suc}
+use Rattle.std.specs.Prelude.{◌+◌, ◌*◌, ◌/◌, ◌%◌, ◌^◌, eqb, leb, ltb}
 use Rattle.std.specs.Prelude.{length, get_or, set, take, drop, replicate}
-use Rattle.std.proofs.Math.Option.{Option, none, some}
 use Rattle.description.specs.declared.MapInfo.{MapInfo}
 use Rattle.description.specs.declared.StreamInfo.{StreamInfo}
 use Rattle.formats.specs.Widths.{physical_bits}
@@ -20,8 +20,6 @@ use Rattle.rules.specs.declared.Asked.{Asked}
 use Rattle.rules.specs.declared.Asked.TheVariants.{Information, Remap, Pcm}
 use Rattle.rules.specs.declared.Command.{Command}
 use Rattle.rules.specs.declared.Command.TheVariants as command
-use Rattle.rules.specs.declared.Decoded.{Decoded}
-use Rattle.rules.specs.declared.Decoded.TheVariants.{Known, Unknown}
 use Rattle.rules.specs.declared.Listing.{Listing}
 use Rattle.rules.specs.declared.Listing.TheVariants.{Jacks, Streams, Maps}
 
@@ -291,8 +289,8 @@ obeyed p command.Release id state request = Release id
 
 -- "transition not lawful: BAD_MSG"
 abbrev pub led : Parts → Command → ℕ → List ℕ → Option ℕ → Served
-led p c id request none = refusal p s_bad_msg
-led p c id request (some state) = obeyed p c id state request
+led p c id request None = refusal p s_bad_msg
+led p c id request (Some state) = obeyed p c id state request
 
 -- "stream absent: BAD_MSG; .."
 unfoldable pub commanded : Parts → Command → List ℕ → Served
@@ -303,17 +301,17 @@ commanded p c request =
 -- ---- a request
 
 -- "Unknown code: NOT_SUPP"
-unfoldable pub decoded_of : ℕ → Decoded
+unfoldable pub decoded_of : ℕ → Option Asked
 decoded_of code =
-    cond (eqb code jack_info) (Known (Information Jacks))
-    (cond (eqb code jack_remap) (Known Remap)
-    (cond (eqb code pcm_info) (Known (Information Streams))
-    (cond (eqb code pcm_set_params) (Known (Pcm command.SetParams))
-    (cond (eqb code pcm_prepare) (Known (Pcm command.Prepare))
-    (cond (eqb code pcm_release) (Known (Pcm command.Release))
-    (cond (eqb code pcm_start) (Known (Pcm command.Start))
-    (cond (eqb code pcm_stop) (Known (Pcm command.Stop))
-    (cond (eqb code chmap_info) (Known (Information Maps)) Unknown))))))))
+    cond (eqb code jack_info) (Some (Information Jacks))
+    (cond (eqb code jack_remap) (Some Remap)
+    (cond (eqb code pcm_info) (Some (Information Streams))
+    (cond (eqb code pcm_set_params) (Some (Pcm command.SetParams))
+    (cond (eqb code pcm_prepare) (Some (Pcm command.Prepare))
+    (cond (eqb code pcm_release) (Some (Pcm command.Release))
+    (cond (eqb code pcm_start) (Some (Pcm command.Start))
+    (cond (eqb code pcm_stop) (Some (Pcm command.Stop))
+    (cond (eqb code chmap_info) (Some (Information Maps)) None))))))))
 
 -- the length of a request's layout
 abbrev pub command_layout : Command → ℕ
@@ -337,9 +335,9 @@ module _ (inform : Parts → Listing → List ℕ → ℕ → Served) where
   answer_by (Pcm c) p request room = commanded p c request
 
   -- "Unknown code: NOT_SUPP. A request shorter than its layout: BAD_MSG; extra bytes are ignored."
-  abbrev pub answered_by : Decoded → Parts → List ℕ → ℕ → Served
-  answered_by Unknown p request room = refusal p s_not_supp
-  answered_by (Known a) p request room = passing p (leb (layout_of a) (length request)) s_bad_msg (answer_by a p request room)
+  abbrev pub answered_by : Option Asked → Parts → List ℕ → ℕ → Served
+  answered_by None p request room = refusal p s_not_supp
+  answered_by (Some a) p request room = passing p (leb (layout_of a) (length request)) s_bad_msg (answer_by a p request room)
 
   abbrev pub served_by : Parts → List ℕ → ℕ → Served
   served_by p request room = answered_by (decoded_of (word request 0)) p request room

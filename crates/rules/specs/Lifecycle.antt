@@ -1,6 +1,5 @@
 -- Order 4: the lifecycle of a stream as one decision over command and state, in source document 000's order ("PCM Command Lifecycle").
-use Rattle.std.specs.Prelude.{◌≡◌, List, [], ◌∷◌, ◌⊎◌, ℕ, length, get_or}
-use Rattle.std.proofs.Math.Option.{Option, none, some}
+use Rattle.std.specs.Prelude.{Option, None, Some, ◌≡◌, List, [], ◌∷◌, ◌⊎◌, ℕ, length, get_or}
 use Rattle.card.specs.Card.{fresh_state, set_state, prepared_state, running_state, stopped_state, released_state}
 use Rattle.rules.specs.declared.Command.{Command}
 use Rattle.rules.specs.declared.Command.TheVariants.{SetParams, Prepare, Start, Stop, Release}
@@ -11,15 +10,15 @@ use Rattle.rules.specs.declared.Command.TheVariants.{SetParams, Prepare, Start, 
 -- STOP from Running; RELEASE from Prepared, Stopped.": the state that a command leads to, from each of the six; none: not lawful
 abbrev pub leads : Command → List (Option ℕ)
 -- from         Fresh, Set, Prepared, Running, Stopped, Released
-leads SetParams = some set_state ∷ some set_state ∷ some set_state ∷ none ∷ none ∷ some set_state ∷ []
-leads Prepare = none ∷ some prepared_state ∷ some prepared_state ∷ none ∷ none ∷ some prepared_state ∷ []
-leads Start = none ∷ none ∷ some running_state ∷ none ∷ some running_state ∷ none ∷ []
-leads Stop = none ∷ none ∷ none ∷ some stopped_state ∷ none ∷ none ∷ []
-leads Release = none ∷ none ∷ some released_state ∷ none ∷ some released_state ∷ none ∷ []
+leads SetParams = Some set_state ∷ Some set_state ∷ Some set_state ∷ None ∷ None ∷ Some set_state ∷ []
+leads Prepare = None ∷ Some prepared_state ∷ Some prepared_state ∷ None ∷ None ∷ Some prepared_state ∷ []
+leads Start = None ∷ None ∷ Some running_state ∷ None ∷ Some running_state ∷ None ∷ []
+leads Stop = None ∷ None ∷ None ∷ Some stopped_state ∷ None ∷ None ∷ []
+leads Release = None ∷ None ∷ Some released_state ∷ None ∷ Some released_state ∷ None ∷ []
 
 -- where a command leads from a state
 unfoldable pub transition : Command → ℕ → Option ℕ
-transition c state = get_or (leads c) state none
+transition c state = get_or (leads c) state None
 
 -- ---- what holds of it: "of the 30 pairs it allows exactly 01's 12"
 
@@ -55,5 +54,5 @@ Among x (y ∷ ys) = (x ≡ y) ⊎ Among x ys
 -- a command is lawful in a state, and leads to another, exactly where this step is listed; there are twelve
 pub record Lifecycle : Type 0 where
   pub twelve : length lawful_steps ≡ 12
-  pub listed : (c : Command) (s t : ℕ) → transition c s ≡ some t → Among (step c s t) lawful_steps
-  pub lawful : (c : Command) (s t : ℕ) → Among (step c s t) lawful_steps → transition c s ≡ some t
+  pub listed : (c : Command) (s t : ℕ) → transition c s ≡ Some t → Among (step c s t) lawful_steps
+  pub lawful : (c : Command) (s t : ℕ) → Among (step c s t) lawful_steps → transition c s ≡ Some t

@@ -53,10 +53,7 @@ pub fn broken_answer(queue: u8, cause: Cause) -> Answer
         Cause::Entries => registers::TOO_MANY_ENTRIES,
         Cause::Head => registers::HEAD_PAST_TABLE,
     };
-    Answer {
-        number: number,
-        queue: queue,
-    }
+    Answer { number, queue }
 }
 
 // What a request for information lists.
@@ -83,11 +80,4 @@ pub enum Asked {
     Information(Listing),
     Remap,
     Pcm(Command),
-}
-
-// A code of the texts, or any other.
-#[derive(Clone, Copy)]
-pub enum Decoded {
-    Known(Asked),
-    Unknown,
 }

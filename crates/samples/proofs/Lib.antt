@@ -5,7 +5,6 @@ pub mod Table
 pub mod Width
 pub mod Samples
 pub mod Going
-pub mod Taken
 pub mod Answers
 pub mod Promise
 pub mod Cases

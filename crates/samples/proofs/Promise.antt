@@ -1,6 +1,6 @@
 -- Every call keeps the promise: sample i of the output is written once, and nothing else is (`promise`). Blocks that were converted
 -- apart, joined, are the conversion of the joined input (`joined`).
-use Rattle.std.proofs.Common.{◌≡◌, ℕ, zero, suc, ◌+◌, ◌-◌, ◌*◌, ◌/◌, ◌%◌, ◌^◌, ◌<◌, ◌≤◌, Bool, T, ◌⊎◌, List, ◌++◌, length, get_or, take}
+use Rattle.std.proofs.Common.{◌≡◌, ℕ, zero, suc, ◌+◌, ◌-◌, ◌*◌, ◌/◌, ◌%◌, ◌^◌, ◌<◌, ◌≤◌, Bool, T, List, ◌++◌, length, get_or, take}
 use Rattle.std.proofs.Common.{ℤ, pos, negsuc, sym, refl, ◌∙◌, ⊎_elim, mul-add, arith, length-append, length-take-le, get_or-take}
 use Rattle.std.proofs.Common.{get_or-append-add}
 use lib.ListN.{get_or-append}

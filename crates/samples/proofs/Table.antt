@@ -1,6 +1,6 @@
 -- The mu-law table's rule, proved once over the whole table: a test that is computed at each entry, and a law that turns it into the rule
 -- at any one.
-use Rattle.std.proofs.Common.{◌≡◌, ℕ, zero, suc, ◌+◌, ◌<◌, Bool, true, false, T, eqb, ◌⊎◌, List, [], ◌∷◌, length, get_or, ℤ, pos, negsuc}
+use Rattle.std.proofs.Common.{◌≡◌, ℕ, zero, suc, ◌+◌, ◌<◌, Bool, true, false, T, eqb, List, [], ◌∷◌, length, get_or, ℤ, pos, negsuc}
 use Rattle.std.proofs.Common.{sym, ap, ◌∙◌, ⊎_elim, le_of_suc-le-suc, add-zero, add-suc, suc-add, eq-or-lt_of_le, zero-add, arith, eqb→eq}
 use Rattle.samples.specs.MuLaw.{mu_law, MuLawTable}
 

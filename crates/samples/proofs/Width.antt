@@ -1,6 +1,6 @@
 -- A linear sample of any width becomes its top 16 bits in two's complement, an unsigned one with the top bit turned: one law over the
 -- width and the sign (`linear-signed`).
-use Rattle.std.proofs.Common.{◌≡◌, ℕ, ◌+◌, ◌-◌, ◌*◌, ◌/◌, ◌%◌, ◌^◌, ◌<◌, ◌≤◌, Bool, true, false, ◌⊎◌, ℤ, refl, ap, ◌∙◌, ⊎_elim, arith}
+use Rattle.std.proofs.Common.{◌≡◌, ℕ, ◌+◌, ◌-◌, ◌*◌, ◌/◌, ◌%◌, ◌^◌, ◌<◌, ◌≤◌, Bool, true, false, ℤ, refl, ap, ◌∙◌, ⊎_elim, arith}
 use Rattle.std.proofs.Common.{pow-add, le-ltb, lt-ltb}
 use native.Mathlib.Nat.{one-le-pow}
 use lib.IntN.{sub_ℕ}

@@ -1,6 +1,8 @@
 -- What a call of the converter answers and leaves in the output buffer, for all inputs.
-use Rattle.std.specs.Prelude.{◌≡◌, ℕ, zero, suc, ◌+◌, ◌*◌, ◌/◌, ◌%◌, ◌<◌, ◌≤◌, cond, List, length, ◌==◌, nat_le}
+use Rattle.std.specs.Prelude.{◌≡◌, ℕ, zero, suc, ◌+◌, ◌*◌, ◌/◌, ◌%◌, ◌<◌, ◌≤◌, cond, List, length, ◌==◌, nat_le, Result, Ok, Err}
 use Rattle.memory.specs.Bytes.{put}
+use Rattle.samples.specs.declared.Refusal.{Refusal}
+use Rattle.samples.specs.declared.Refusal.TheVariants.{OtherFormat, NotWhole, NoRoom}
 use Rattle.samples.specs.Formats.{Coding, coding_of, width, bits_at}
 
 -- `to` with the conversions of n samples, from number i on, each in two bytes
@@ -12,6 +14,16 @@ written c from i (suc n) to =
 -- n samples fill `from`, and `to` has room for their conversions
 abbrev pub Ready : Coding → ℕ → List ℕ → List ℕ → Type 0
 Ready c n from to = (0 < width c) × (length from ≡ width c * n) × (2 * n ≤ length to)
+
+-- "30 format not in the list, 31 input not whole samples, 32 room too small"
+abbrev pub number_of : Refusal → ℕ
+number_of OtherFormat = 30
+number_of NotWhole = 31
+number_of NoRoom = 32
+
+abbrev pub answer_of : Result (Unit {0}) Refusal → ℕ
+answer_of (Ok done) = 0
+answer_of (Err refusal) = number_of refusal
 
 -- the answer, and the output buffer after the call
 pub record Outcome : Type 0 where

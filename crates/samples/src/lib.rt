@@ -1,13 +1,16 @@
 // Samples converted to S16, for the mixer. The formats go by their virtio numbers; samples stand in byte slices, the lowest byte first.
 #![tactic(auto)]
 
-ghost use Rattle.std.specs.Prelude.{◌≡◌, ◌+◌, ◌*◌, ◌%◌, ◌<◌, ◌≤◌, length};
-ghost use Rattle.memory.specs.Bytes.{le, put};
+ghost use Rattle.std.specs.Prelude.{◌≡◌, ℕ, ◌+◌, ◌*◌, ◌/◌, ◌≤◌, List, length, Some, decimal};
+ghost use Rattle.std.specs.Fn.{FnReturnsAt};
+ghost use Rattle.memory.specs.Bytes.{put};
 ghost use Rattle.samples.specs.Values.{bits};
 ghost use Rattle.samples.specs.MuLaw.{mu_law, MuLawTable};
-ghost use Rattle.samples.specs.Formats.{Coding, coding_of, width, bits_at};
-ghost use Rattle.samples.specs.Loops.{turn};
-ghost use Rattle.samples.specs.Outcome.{written, Ready, outcome, converted};
+ghost use Rattle.samples.specs.Formats.{Coding, coding, coding_of, width, format_found};
+ghost use Rattle.samples.specs.Loops.{Converts};
+ghost use Rattle.samples.specs.Outcome.{written, number_of, answer_of, outcome, converted_by, converted};
+
+use std::fmt;
 
 // VIRTIO_SND_PCM_FMT_: the formats taken.
 pub const MU_LAW: u32 = 1;
@@ -24,7 +27,7 @@ pub const S24_3: u32 = 11;
 
 pub const S32: u32 = 17;
 
-// The answers.
+// The answers for C.
 pub const DONE: u32 = 0;
 
 pub const OTHER_FORMAT: u32 = 30;
@@ -32,6 +35,67 @@ pub const OTHER_FORMAT: u32 = 30;
 pub const NOT_WHOLE: u32 = 31;
 
 pub const NO_ROOM: u32 = 32;
+
+// Why nothing was converted: the format is not in the list; the input does not hold whole samples; the output has no room for them.
+#[derive(Clone, Copy, Debug, PartialEq, Eq)]
+pub enum Refusal {
+    OtherFormat,
+    NotWhole,
+    NoRoom,
+}
+
+impl From<Refusal> for u32 {
+    ghost from_gives = { λ refusal answer. answer ≡ number_of refusal };
+
+    fn from(refusal: Refusal) -> u32 {
+        match refusal {
+            Refusal::OtherFormat => OTHER_FORMAT,
+            Refusal::NotWhole => NOT_WHOLE,
+            Refusal::NoRoom => NO_ROOM,
+        }
+    }
+}
+
+// Its number.
+impl fmt::Display for Refusal {
+    ghost output = { λ refusal. Some (decimal (number_of refusal)) };
+
+    fn fmt<W: fmt::Write>(&self, f: &mut fmt::Formatter<W>) -> fmt::Result {
+        write!(f, "{}", u32::from(*self))
+    }
+}
+
+// A format of the list.
+#[derive(Clone, Copy, Debug, PartialEq, Eq)]
+pub enum Format {
+    MuLaw,
+    S8,
+    U8,
+    S16,
+    U16,
+    S24_3,
+    S32,
+}
+
+impl TryFrom<u32> for Format {
+    type Error = Refusal;
+
+    ghost try_from_gives = { format_found };
+
+    #[tactic(auto, unfolding(crate::specs::Formats::coding_of))]
+    fn try_from(number: u32) -> Result<Format, Refusal> {
+        match number {
+            MU_LAW => Ok(Format::MuLaw),
+            S8 => Ok(Format::S8),
+            U8 => Ok(Format::U8),
+            S16 => Ok(Format::S16),
+            U16 => Ok(Format::U16),
+            S24_3 => Ok(Format::S24_3),
+            S32 => Ok(Format::S32),
+            _ => Err(Refusal::OtherFormat),
+        }
+    }
+}
 
 // Mu-law: the 16-bit number of each code (ITU-T G.711).
 const MU_LAW_TABLE: [i16; 256] = [
@@ -61,109 +125,96 @@ fn mu_law_table() -> [i16; 256]
     MU_LAW_TABLE
 }
 
-// The number of a mu-law code.
-fn decoded(table: &[i16; 256], code: u8) -> i16
+// The 16 bits of a mu-law code's number.
+fn decoded(table: &[i16; 256], code: u8) -> u16
     requires { MuLawTable table.now }
-    ensures { result ≡ mu_law code }
+    ensures { result ≡ bits (mu_law code) }
 {
-    table[code as usize]
+    table[usize::from(code)].cast_unsigned()
 }
 
-// The 16 bits of `z` in two's complement.
-fn bits(z: i16) -> u16
-    ensures { result ≡ bits z }
-{
-    ((z as i32 + 65536) as u32 % 65536) as u16
-}
+// What turns the top bit of an unsigned sample, so that its middle becomes 0.
+const MIDDLE: u16 = 32768;
 
-fn widened(b: u8) -> u16
-    ensures { (result ≡ b) × (result < 256) }
-{
-    b as u16
-}
-
-// The number in two bytes at `at`. It asks that they are there, so that the loops test nothing at a sample.
-fn pair(s: &[u8], at: usize) -> u16
-    requires { at + 2 ≤ length s.now }
-    ensures { result ≡ le 2 s.now at }
-{
-    widened(s[at]) + 256 * widened(s[at + 1])
-}
-
-// `v`, stored in two bytes at `at`.
+// `v`, stored in two bytes at `at`. It asks that they are there, so that the loop tests nothing at a sample.
+#[tactic(auto, unfolding(memory::specs::Bytes::put))]
 fn store(s: &mut [u8], at: usize, v: u16)
     requires { at + 2 ≤ length s.old }
     ensures { s.new ≡ put 2 s.old at v }
 {
-    s[at] = (v % 256) as u8;
-    s[at + 1] = (v / 256) as u8;
+    let [low, high] = v.to_le_bytes();
+    s[at] = low;
+    s[at + 1] = high;
 }
 
-// The top 16 bits of a linear sample, where it is unsigned with the top bit turned, so that the middle becomes 0.
-fn turned(unsigned: bool, top: u16) -> u16
-    ensures { result ≡ (top + turn unsigned) % 65536 }
+// The 16 bits that `convert` makes of each sample, at the start of `to`.
+fn convert_each<S, F: Fn(&S) -> u16>(samples: &[S], to: &mut [u8], convert: F)
+    requires room { 2 * length samples.now ≤ length to.old }
+    requires callable { F.IsAlwaysCallable convert }
+    ensures { (c : Coding) (from : List ℕ) → Converts c from samples.now (FnReturnsAt F.Fn convert)
+        → to.new ≡ written c from 0 (length samples.now) to.old }
 {
-    if unsigned {
-        return std::num::wrapping_add_u16(top, 32768);
-    }
-    top
-}
-
-// Sample i of one byte, converted.
-fn narrow_sample(unsigned: bool, from: &[u8], i: usize) -> u16
-    requires { i < length from.now }
-    ensures { result ≡ bits_at (Coding.linear unsigned 1) from.now i }
-{
-    turned(unsigned, 256 * widened(from[i]))
-}
-
-// Sample i of two bytes or more, converted: its top two bytes are kept.
-fn wide_sample(unsigned: bool, bytes: usize, from: &[u8], i: usize) -> u16
-    requires { (2 ≤ bytes) × (bytes * i + bytes ≤ length from.now) }
-    ensures { result ≡ bits_at (Coding.linear unsigned bytes) from.now i }
-{
-    turned(unsigned, pair(from, bytes * i + (bytes - 2)))
-}
-
-// Sample i in mu-law, converted.
-fn mu_law_sample(table: &[i16; 256], from: &[u8], i: usize) -> u16
-    requires { MuLawTable table.now × (i < length from.now) }
-    ensures { result ≡ bits_at Coding.mulaw from.now i }
-{
-    bits(decoded(table, from[i]))
-}
-
-fn narrow(unsigned: bool, samples: usize, from: &[u8], to: &mut [u8])
-    requires { (samples ≤ length from.now) × (2 * samples ≤ length to.old) }
-    ensures { to.new ≡ written (Coding.linear unsigned 1) from.now 0 samples to.old }
-{
-    let mut i = 0;
-    while i < samples {
-        store(to, 2 * i, narrow_sample(unsigned, from, i));
-        i += 1;
+    for (i, sample) in samples.iter().enumerate() {
+        store(to, 2 * i, convert(sample));
     }
 }
 
-fn wide(unsigned: bool, bytes: usize, samples: usize, from: &[u8], to: &mut [u8])
-    requires { (2 ≤ bytes) × (bytes * samples ≤ length from.now) × (2 * samples ≤ length to.old) }
-    ensures { to.new ≡ written (Coding.linear unsigned bytes) from.now 0 samples to.old }
-{
-    let mut i = 0;
-    while i < samples {
-        store(to, 2 * i, wide_sample(unsigned, bytes, from, i));
-        i += 1;
+impl Format {
+    // The bytes of a sample.
+    pub fn bytes(self) -> usize
+        ensures { result ≡ width (coding self) }
+    {
+        match self {
+            Format::MuLaw | Format::S8 | Format::U8 => 1,
+            Format::S16 | Format::U16 => 2,
+            Format::S24_3 => 3,
+            Format::S32 => 4,
+        }
     }
-}
 
-fn mu_law(samples: usize, from: &[u8], to: &mut [u8])
-    requires { (samples ≤ length from.now) × (2 * samples ≤ length to.old) }
-    ensures { to.new ≡ written Coding.mulaw from.now 0 samples to.old }
-{
-    let table = mu_law_table();
-    let mut i = 0;
-    while i < samples {
-        store(to, 2 * i, mu_law_sample(&table, from, i));
-        i += 1;
+    // The whole samples of `from`, converted to the start of `to`: of a linear sample its top 16 bits.
+    fn convert(self, from: &[u8], to: &mut [u8])
+        requires { 2 * (length from.now / width (coding self)) ≤ length to.old }
+        ensures { to.new ≡ written (coding self) from.now 0 (length from.now / width (coding self)) to.old }
+    {
+        match self {
+            Format::MuLaw => {
+                let table = mu_law_table();
+                convert_each(from, to, |code| decoded(&table, *code));
+            }
+            Format::S8 => convert_each(from, to, |top| u16::from_le_bytes([0, *top])),
+            Format::U8 => convert_each(from, to, |top| {
+                u16::from_le_bytes([0, *top]).wrapping_add(MIDDLE)
+            }),
+            Format::S16 => convert_each(from.as_chunks::<2>().0, to, |bytes| {
+                u16::from_le_bytes(*bytes)
+            }),
+            Format::U16 => convert_each(from.as_chunks::<2>().0, to, |bytes| {
+                u16::from_le_bytes(*bytes).wrapping_add(MIDDLE)
+            }),
+            Format::S24_3 => convert_each(from.as_chunks::<3>().0, to, |[_, low, high]| {
+                u16::from_le_bytes([*low, *high])
+            }),
+            Format::S32 => convert_each(from.as_chunks::<4>().0, to, |[_, _, low, high]| {
+                u16::from_le_bytes([*low, *high])
+            }),
+        }
+    }
+
+    // Samples of `from` as S16 at the start of `to`. A refusal leaves `to` as it was.
+    #[tactic(auto, unfolding(crate::specs::Outcome::converted_by))]
+    pub fn to_s16(self, from: &[u8], to: &mut [u8]) -> Result<(), Refusal>
+        ensures { outcome (answer_of result) to.new ≡ converted_by (coding self) from.now to.old }
+    {
+        let bytes = self.bytes();
+        if from.len() % bytes != 0 {
+            return Err(Refusal::NotWhole);
+        }
+        if to.len() / 2 < from.len() / bytes {
+            return Err(Refusal::NoRoom);
+        }
+        self.convert(from, to);
+        Ok(())
     }
 }
 
@@ -171,50 +222,24 @@ fn mu_law(samples: usize, from: &[u8], to: &mut [u8])
 pub fn sample_bytes(format: u32) -> usize
     ensures { result ≡ width (coding_of format) }
 {
-    match format {
-        MU_LAW => 1,
-        S8 => 1,
-        U8 => 1,
-        S16 => 2,
-        U16 => 2,
-        S24_3 => 3,
-        S32 => 4,
-        _ => 0,
-    }
+    Format::try_from(format).map_or(0, Format::bytes)
 }
 
-// `samples` whole samples of `from`, converted to the start of `to`.
-fn convert(format: u32, samples: usize, from: &[u8], to: &mut [u8])
-    requires { Ready (coding_of format) samples from.now to.old }
-    ensures { to.new ≡ written (coding_of format) from.now 0 samples to.old }
+// Samples of `from`, in a format of the list by its number, as S16 at the start of `to`. A refusal leaves `to` as it was.
+#[tactic(auto, unfolding(crate::specs::Outcome::converted_by))]
+pub fn to_s16(format: u32, from: &[u8], to: &mut [u8]) -> Result<(), Refusal>
+    ensures { outcome (answer_of result) to.new ≡ converted format from.now to.old }
 {
-    match format {
-        MU_LAW => mu_law(samples, from, to),
-        S8 => narrow(false, samples, from, to),
-        U8 => narrow(true, samples, from, to),
-        S16 => wide(false, 2, samples, from, to),
-        U16 => wide(true, 2, samples, from, to),
-        S24_3 => wide(false, 3, samples, from, to),
-        _ => wide(false, 4, samples, from, to),
-    }
+    Format::try_from(format)?.to_s16(from, to)
 }
 
-// Samples of `from`, in a format of the list, as S16 at the start of `to`. 30: the format is not in the list; 31: `from` does not hold
-// whole samples; 32: `to` has no room for them. A refusal leaves `to` as it was.
+// The same with a number for the answer. 30: the format is not in the list; 31: `from` does not hold whole samples; 32: `to` has no room
+// for them.
 pub fn wekshurag_to_s16(format: u32, from: &[u8], to: &mut [u8]) -> u32
     ensures { outcome result to.new ≡ converted format from.now to.old }
 {
-    let bytes = sample_bytes(format);
-    if bytes == 0 {
-        return OTHER_FORMAT;
+    match to_s16(format, from, to) {
+        Ok(()) => DONE,
+        Err(refusal) => refusal.into(),
     }
-    if from.len() % bytes != 0 {
-        return NOT_WHOLE;
-    }
-    let samples = from.len() / bytes;
-    if to.len() / 2 < samples {
-        return NO_ROOM;
-    }
-    convert(format, samples, from, to);
-    DONE
 }

@@ -1,4 +1,6 @@
 -- Registers, and cards after a job, are fit.
+use Rattle.std.specs.Prelude.{Option, Some, None}
+use Rattle.ring.specs.declared.Cause.{Cause}
 use mathlib.Core.Bool.{Bool, true, false}
 use mathlib.Core.List.{List}
 use Prim.Native.Nat.{ℕ}
@@ -15,7 +17,6 @@ use Rattle.live.specs.declared.Live.{Live}
 use Rattle.live.proofs.Laws.{board-with-counters, board-play-kept, board-capture-kept}
 use Rattle.message.specs.declared.Direction.{Direction}
 use Rattle.message.specs.declared.Direction.TheVariants.{Output, Input}
-use Rattle.ring.specs.declared.Stop.{Stop}
 use Rattle.device.specs.Answers.{broken_by}
 use Rattle.device.specs.Device.{output, input, signalled_if}
 use Rattle.line_queue.specs.Between.{FitLines}
@@ -27,9 +28,9 @@ pub signal-fit : (b : Bool) (g : Registers) → FitRegisters g → FitRegisters 
 signal-fit true g f = signalled-fit g f
 signal-fit false g f = f
 
-pub broken-by-fit : (s : Stop) (g : Registers) → FitRegisters g → FitRegisters (broken_by s g)
-broken-by-fit Stop.Going g f = f
-broken-by-fit (Stop.Broke cause) g f = broken-fit g f
+pub broken-by-fit : (s : Option Cause) (g : Registers) → FitRegisters g → FitRegisters (broken_by s g)
+broken-by-fit None g f = f
+broken-by-fit (Some cause) g f = broken-fit g f
 
 -- ---- all that a card is made of, with the words of a direction's queue
 

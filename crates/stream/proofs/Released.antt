@@ -1,10 +1,11 @@
 -- A RELEASE past its checks, in the rules' terms, once its stream's line is emptied: what is left to do starts from the card after.
+use Rattle.std.specs.Prelude.{Option}
+use Rattle.ring.specs.declared.Cause.{Cause}
 use mathlib.Core.Path.{◌≡◌, ◌∙◌, sym, ap}
 use mathlib.Core.Bool.{Bool}
 use mathlib.Core.List.{List}
 use Prim.Native.Nat.{ℕ, ◌-◌}
 use Rattle.card.specs.declared.Card.{Card}
-use Rattle.ring.specs.declared.Stop.{Stop}
 use Rattle.device.specs.Device as rules
 use Rattle.device.specs.Transfer.{Run}
 use Rattle.rules.specs.Calls.{Pending, Result, Step, released_on, ended_on, step_by, with_rest}
@@ -18,7 +19,7 @@ use Rattle.meaning.specs.Card.{rest_of, device_of}
 use Rattle.stream.specs.Queue.{emptied_in, Empties}
 use Rattle.stream.proofs.Laws.{rest-with}
 
-module _ (c n : Card) (m m' : List ℕ) (stop : Stop) (signal : Bool) where
+module _ (c n : Card) (m m' : List ℕ) (stop : Option Cause) (signal : Bool) where
   -- all but the stream queues stays
   rest-kept : (d : rules.Direction) (line latency : ℕ) → Empties d line latency c m m' stop signal n → rest_of n ≡ rest_of c
   unfolding device_of
@@ -47,7 +48,7 @@ module _ (c n : Card) (m m' : List ℕ) (stop : Stop) (signal : Bool) where
     put_back rules.input line x e = rw (ap (λ (b : rules.Device Queue). b.play) e.device)
 
     -- the rules' Release, by the direction of its stream, all but the stream queues, and what the emptying of its line told
-    abbrev told : rules.Direction → List ℕ → Stop → Bool → Queue → Step (rules.Device Queue)
+    abbrev told : rules.Direction → List ℕ → Option Cause → Bool → Queue → Step (rules.Device Queue)
     told d mem stops signals q = ended_on d (released_on d id p mem stops signals) q (device_of c)
 
     abbrev ended : rules.Direction → rules.Rest → Step (rules.Device Queue)

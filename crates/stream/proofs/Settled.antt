@@ -1,8 +1,8 @@
 -- Words whose lines were dropped, once they are cleared, and those of which nothing was dropped: the lines stand in them.
+use Rattle.std.specs.Prelude.{None}
 use mathlib.Core.Path.{◌≡◌, refl, ap}
 use mathlib.Core.Bool.{Bool, true, false}
 use mathlib.Core.List.{List}
-use mathlib.Core.Option.{none}
 use Prim.Native.Nat.{ℕ, zero, suc}
 use native.Mathlib.Omega.{arith}
 use lib.ListN.{get_or, replicate}
@@ -38,11 +38,11 @@ nobody-in v =
 
 none_between : (v : Virtqueue) → Between v (no_lines v no_counters)
 none_between v =
-    let none = none-counted v.streams in
+    let None = none-counted v.streams in
     record {
       wraps = omega arith;
-      balanced = rw none;
-      few = rw none (omega arith);
+      balanced = rw None;
+      few = rw None (omega arith);
       line = λ i. rw (none-at v.streams i) (nobody-in v);
     }
 

@@ -1,4 +1,6 @@
 -- A stream queue in the card and in the rules' device, a job on one of its lines, and what the emptying of a line leaves.
+use Rattle.std.specs.Prelude.{Option}
+use Rattle.ring.specs.declared.Cause.{Cause}
 use Rattle.std.specs.Prelude.{◌≡◌, Bool, true, false, List, ℕ, ◌≤◌, length, get_or}
 use Rattle.registers.specs.Rules.{has_bit}
 use Rattle.registers.specs.declared.Registers.{Registers}
@@ -16,7 +18,6 @@ use Rattle.message.specs.Message.{direction_of}
 use Rattle.message.specs.declared.Virtqueue.{Virtqueue}
 use Rattle.message.specs.declared.Direction.{Direction}
 use Rattle.message.specs.declared.Direction.TheVariants.{Output, Input}
-use Rattle.ring.specs.declared.Stop.{Stop}
 use Rattle.queue_lines.specs.Chains as lines
 use Rattle.queue_lines.specs.Counters.{Queue}
 use Rattle.queue_lines.specs.Rules.{emptied}
@@ -108,7 +109,7 @@ abbrev pub emptied_in : rules.Direction → ℕ → ℕ → Card → List ℕ �
 emptied_in d line latency c m =
     emptied (card (streams_in c.parts) d) (virtqueue_of (streams_in c.parts) (rest_of c) d latency) line (rules.queue_for d (device_of c)) m
 
-pub record Empties (d : rules.Direction) (line latency : ℕ) (c : Card) (m m' : List ℕ) (stop : Stop) (signal : Bool) (n : Card)
+pub record Empties (d : rules.Direction) (line latency : ℕ) (c : Card) (m m' : List ℕ) (stop : Option Cause) (signal : Bool) (n : Card)
     : Type 0 where
   -- queue, memory, stop and signal are the rules'
   pub queue : (emptied_in d line latency c m).queue ≡ rules.queue_for d (device_of n)

@@ -22,17 +22,17 @@ pub use line_queue::{Job, Progress};
 use live::Live;
 use message::{Direction, Virtqueue};
 use registers::Registers;
-use ring::Stop;
+use ring::Cause;
 
 // The queues of the streams, as places in the card's arrays.
 const PLAY: usize = registers::PLAY_QUEUE as usize;
 
 const CAPTURE: usize = registers::CAPTURE_QUEUE as usize;
 
-// What a RELEASE made of a stream's queue: where it stands, an interrupt wanted, the small state.
+// What a RELEASE made of a stream's queue: why it broke, where it did, an interrupt wanted, the small state.
 #[derive(Clone, Copy)]
 pub struct Emptied {
-    pub stop: Stop,
+    pub stop: Option<Cause>,
     pub signal: bool,
     pub live: Live,
 }
@@ -42,18 +42,19 @@ pub fn signal_if(wanted: bool, registers: Registers) -> Registers
     ensures { result ≡ signalled_if wanted registers }
 {
     if wanted {
-        return registers.signal();
+        registers.signal()
+    } else {
+        registers
     }
-    registers
 }
 
 // A breakdown, where the queue is broken.
-pub fn break_by(stop: Stop, registers: Registers) -> Registers
+pub fn break_by(stop: Option<Cause>, registers: Registers) -> Registers
     ensures { result ≡ broken_by stop registers }
 {
     match stop {
-        Stop::Going => registers,
-        Stop::Broke(_) => registers.break_down(),
+        Some(_) => registers.break_down(),
+        None => registers,
     }
 }
 
@@ -66,12 +67,10 @@ pub fn backlog(live: Live, id: u32) -> u32
     if description::STREAMS <= i {
         return 0;
     }
-    let config = live.config;
-    if config.streams <= id {
+    if live.config.streams <= id {
         return 0;
     }
-    let backlogs = live.backlogs;
-    backlogs[i]
+    live.backlogs[i]
 }
 
 // The queue of a direction as the guest laid it out, in a call whose statuses carry this latency.
@@ -79,17 +78,15 @@ fn virtqueue(registers: Registers, direction: Direction, latency: u32) -> Virtqu
     requires { FitRegisters registers }
     ensures { result ≡ laid_out registers direction latency }
 {
-    let pages = registers.pages;
-    let indirect = registers.indirect();
     let page = match direction {
-        Direction::Output => pages[PLAY],
-        Direction::Input => pages[CAPTURE],
+        Direction::Output => registers.pages[PLAY],
+        Direction::Input => registers.pages[CAPTURE],
     };
     Virtqueue {
-        direction: direction,
-        page: page,
-        indirect: indirect,
-        latency: latency,
+        direction,
+        page,
+        indirect: registers.indirect(),
+        latency,
     }
 }
 
@@ -98,16 +95,15 @@ fn queue_of(live: Live, direction: Direction, latency: u32) -> LineQueue
     requires { FitLive live }
     ensures { result ≡ line_queue_in live direction latency }
 {
-    let registers = live.registers;
-    let queue = virtqueue(registers, direction, latency);
+    let queue = virtqueue(live.registers, direction, latency);
     match direction {
         Direction::Output => LineQueue {
-            queue: queue,
+            queue,
             first: 0,
             streams: live.outputs as u32,
         },
         Direction::Input => LineQueue {
-            queue: queue,
+            queue,
             first: live.outputs as u32,
             streams: live.inputs as u32,
         },
@@ -119,10 +115,9 @@ fn counters_of(live: Live, direction: Direction) -> Counters
     requires { FitLive live }
     ensures { result ≡ counters_live (direction_of direction) live }
 {
-    let queues = live.queues;
     match direction {
-        Direction::Output => queues[PLAY],
-        Direction::Input => queues[CAPTURE],
+        Direction::Output => live.queues[PLAY],
+        Direction::Input => live.queues[CAPTURE],
     }
 }
 
@@ -169,23 +164,20 @@ pub fn run(
 }
 
 // The small state after a job on the queue of a direction: its counters, and its lines stand in its words.
-pub fn with_progress(live: Live, direction: Direction, p: Progress) -> Live
+pub fn with_progress(mut live: Live, direction: Direction, p: Progress) -> Live
     ensures { result ≡ progress_live direction p live }
 {
-    let mut next = live;
-    let counters = p.counters;
     match direction {
         Direction::Output => {
-            next.queues[PLAY] = counters;
-            next.play_dropped = false;
-            next
+            live.queues[PLAY] = p.counters;
+            live.play_dropped = false;
         }
         Direction::Input => {
-            next.queues[CAPTURE] = counters;
-            next.capture_dropped = false;
-            next
+            live.queues[CAPTURE] = p.counters;
+            live.capture_dropped = false;
         }
     }
+    live
 }
 
 // A RELEASE of the stream of this line, past its checks: the queue is checked, all entries are taken, and the
@@ -213,9 +205,8 @@ pub fn empty(
         line,
         Job::Release,
     );
-    let stop = p.stop;
     Emptied {
-        stop: stop,
+        stop: p.stop,
         signal: p.signal,
         live: with_progress(live, direction, p),
     }

@@ -13,10 +13,7 @@ pub fn read_some<R: Read>(input: &mut R, block: &mut [u8]) -> usize
     ensures prefix_len { IsPrefixLen result block.new }
     ensures bytes { Consumes (R.remaining input.old) (R.remaining input.new) (take result block.new) }
 {
-    match input.read(block) {
-        Ok(count) => count,
-        Err(_) => 0,
-    }
+    input.read(block).unwrap_or(0)
 }
 
 // Reads until `block` is full, the input ends or a read fails, and how many bytes were put at its start.

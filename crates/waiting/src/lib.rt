@@ -21,45 +21,51 @@ fn place_behind(size: usize, start: u16, n: u16) -> usize
     ensures { (result ≡ place_behind size start n) × (result < size) }
 {
     let at = start as usize + n as usize;
-    if at < size {
-        return at;
-    }
-    at - size
+    if at < size { at } else { at - size }
 }
 
-// The head at the front of a line in which somebody waits.
-pub fn front(ring: &[u64], line: Line) -> DescriptorNumber
-    requires { FitLine (length ring.now) line }
-    ensures { 0 < line.count → heads_in ring.now line ≡ result.0 ∷ drop 1 (heads_in ring.now line) }
-{
-    DescriptorNumber::of((ring[line.start as usize] % 65536) as u16)
-}
-
-// A message more at the end of a line that is not full.
-pub fn join(ring: &mut [u64], line: Line, head: DescriptorNumber) -> Line
-    requires { FitLine (length ring.old) line × (line.count < length ring.old) }
-    ensures { (heads_in ring.new result ≡ heads_in ring.old line ++ head.0 ∷ [])
-        × FitLine (length ring.new) result }
-{
-    let at = place_behind(ring.len(), line.start, line.count);
-    ring[at] = head.number() as u64;
-    Line {
-        start: line.start,
-        count: line.count + 1,
+impl Line {
+    // No message waits.
+    pub fn empty() -> Line
+        ensures { result ≡ record { start = 0; count = 0 } }
+    {
+        Line { start: 0, count: 0 }
     }
-}
 
-// The front leaves its line; of an empty line nobody.
-pub fn leave(ring: &[u64], line: Line) -> Line
-    requires { FitLine (length ring.now) line }
-    ensures { (heads_in ring.now result ≡ drop 1 (heads_in ring.now line))
-        × FitLine (length ring.now) result }
-{
-    if line.count == 0 {
-        return line;
+    // The head at the front, where somebody waits.
+    pub fn front(self, ring: &[u64]) -> DescriptorNumber
+        requires { FitLine (length ring.now) self }
+        ensures { 0 < self.count → heads_in ring.now self ≡ result.0 ∷ drop 1 (heads_in ring.now self) }
+    {
+        DescriptorNumber::of((ring[self.start as usize] % 65536) as u16)
     }
-    Line {
-        start: place_behind(ring.len(), line.start, 1) as u16,
-        count: line.count - 1,
+
+    // A message more at the end, where the line is not full.
+    pub fn join(self, ring: &mut [u64], head: DescriptorNumber) -> Line
+        requires { FitLine (length ring.old) self × (self.count < length ring.old) }
+        ensures { (heads_in ring.new result ≡ heads_in ring.old self ++ head.0 ∷ [])
+            × FitLine (length ring.new) result }
+    {
+        let at = place_behind(ring.len(), self.start, self.count);
+        ring[at] = head.number() as u64;
+        Line {
+            count: self.count + 1,
+            ..self
+        }
+    }
+
+    // The line without its front; of an empty line nobody leaves.
+    pub fn leave(self, ring: &[u64]) -> Line
+        requires { FitLine (length ring.now) self }
+        ensures { (heads_in ring.now result ≡ drop 1 (heads_in ring.now self))
+            × FitLine (length ring.now) result }
+    {
+        if self.count == 0 {
+            return self;
+        }
+        Line {
+            start: place_behind(ring.len(), self.start, 1) as u16,
+            count: self.count - 1,
+        }
     }
 }

@@ -1,33 +1,21 @@
 -- The answers of the writer, each in its causes.
-use mathlib.Core.Path.{◌≡◌, refl}
+use mathlib.Core.Path.{◌≡◌, ◌∙◌, refl, sym}
 use mathlib.Core.Bool.{Bool, true, false, cond, ◌&&◌}
 use mathlib.Core.List.{List}
 use Prim.Native.Nat.{ℕ, ◌≤◌, ◌<◌}
 use native.Mathlib.Omega.{arith}
-use borrow.Author.Tests.{lt-ltb, le-ltb, le-leb, lt-leb, ne_eqb, leb-true, ltb-true}
+use borrow.Author.Tests.{lt-ltb, le-leb, lt-leb, ne_eqb, leb-true, ltb-true}
 use lib.Dec.{leb, ltb}
 use lib.ListN.{length}
 use Rattle.wave.specs.Lists.{bits_of, known, Known}
-use Rattle.wave.specs.Outcome.{max_data, judged, laid, outcome, placed}
+use Rattle.std.proofs.Common.{Result, Ok, Err}
+use Rattle.std.specs.Result.{is_err}
+use Rattle.wave.specs.declared.Refusal.{Refusal}
+use Rattle.wave.specs.declared.Refusal.TheVariants.{NotListed, TooLong, NoRoom, NoHeader, WrongWord, WrongNumber, WrongLength, WrongPad}
+use Rattle.wave.specs.Outcome.{number_of, answer_of, max_data, judged, laid, outcome, placed}
 use Rattle.formats.proofs.Table.{first, second}
 
 module _ (f c r n : ℕ) where
-  pub no-format : bits_of f ≡ 0 → 20 ≡ judged f c r n
-  unfolding judged known
-  no-format h = rw h
-
-  pub few-channels : 0 < bits_of f → c ≡ 0 → 20 ≡ judged f c r n
-  unfolding judged known
-  few-channels b h = rw (lt-ltb 0 (bits_of f) b, h)
-
-  pub many-channels : 0 < bits_of f → 18 < c → 20 ≡ judged f c r n
-  unfolding judged known
-  many-channels b h = rw (lt-ltb 0 (bits_of f) b, le-leb 1 c (omega arith), lt-leb c 18 h)
-
-  pub no-rate : 0 < bits_of f → 1 ≤ c → c ≤ 18 → 14 ≤ r → 20 ≡ judged f c r n
-  unfolding judged known
-  no-rate b l m h = rw (lt-ltb 0 (bits_of f) b, le-leb 1 c l, le-leb c 18 m, le-ltb r 14 h)
-
   known-true : Known f c r → known f c r ≡ true
   unfolding known
   known-true k = rw (lt-ltb 0 (bits_of f) k.format, le-leb 1 c k.least, le-leb c 18 k.most, lt-ltb r 14 k.rate)
@@ -70,6 +58,26 @@ module _ (f c r n : ℕ) where
       by-known true e true l h = (known_facts e, leb-true n max_data l)
       by-known true e false l h = absurd (omega arith)
       by-known false e u l h = absurd (omega arith)
+
+-- ---- what `judge` answers
+
+pub some_number : (e : Refusal) → number_of e ≡ 0 → ⊥
+some_number NotListed h = cc
+some_number TooLong h = cc
+some_number NoRoom h = cc
+some_number NoHeader h = cc
+some_number WrongWord h = cc
+some_number WrongNumber h = cc
+some_number WrongLength h = cc
+some_number WrongPad h = cc
+
+pub judged-refused : {T : Type 0} (r : Result T Refusal) (n : ℕ) → answer_of r ≡ n → is_err r ≡ true → n ≡ 0 → ⊥
+judged-refused (Ok done) n e h z = cc
+judged-refused (Err x) n e h z = some_number x (e ∙ z)
+
+pub judged-taken : {T : Type 0} (r : Result T Refusal) (n : ℕ) → answer_of r ≡ n → is_err r ≡ false → n ≡ 0
+judged-taken (Ok done) n e h = sym e
+judged-taken (Err x) n e h = cc
 
 module _ (a n : ℕ) (s out : List ℕ) (e : n ≡ length s) where
   pub refused : (a ≡ 0 → ⊥) → outcome a 0 out ≡ placed a s out

@@ -1,40 +1,30 @@
--- Laws of comparing: a turn of the loop, and what the test says of the bytes.
+-- Laws of comparing: the test by pairs of bytes, and what it says of the bytes.
 use mathlib.Core.Path.{◌≡◌, refl, ap, subst}
-use mathlib.Core.Bool.{true, false, ◌&&◌}
+use mathlib.Core.Bool.{true}
 use mathlib.Core.List.{List, [], ◌∷◌, ◌++◌, append_assoc}
-use Prim.Native.Nat.{ℕ, suc, ◌+◌, ◌≤◌, ◌<◌}
-use native.Mathlib.Nat.{add-zero}
+use Prim.Native.Nat.{ℕ, suc, ◌+◌, ◌-◌, ◌≤◌}
 use native.Mathlib.Numerals.{add-one}
 use native.Mathlib.Omega.{arith}
-use borrow.Author.Tests.{eq-eqb, ne_eqb, eqb-true}
+use borrow.Author.Tests.{eq-eqb, eqb-true}
 use lib.Dec.{eqb}
-use lib.ListN.{length, get_or, take, drop, drop_of_length-le, length-append}
+use lib.ListN.{length, get_or, take, drop, length-append}
 use lib.Seq.{drop-cons, get_or-append_seam}
+use Rattle.std.specs.Cmp.Lexicographic.{pointwise}
 use Rattle.wave.specs.Outcome.{holds}
 use Rattle.formats.proofs.Table.{first, second}
 
-module _ (file : List ℕ) (at : ℕ) (s : List ℕ) where
-  pub holds-start : holds file (at + 0) (drop 0 s) ≡ holds file at s
-  holds-start = rw (add-zero at)
+-- a part compared byte by byte
+holds-pointwise : (file : List ℕ) (at : ℕ) (s : List ℕ) → at + length s ≤ length file
+    → pointwise eqb (take (length s) (drop at file)) s ≡ holds file at s
+unfolding holds
+holds-pointwise file at [] h = refl
+holds-pointwise file at (x ∷ s) h = rw (drop-cons file at 0 (omega arith), ← (add-one at), holds-pointwise file (at + 1) s (omega arith))
 
-  holds_more : (i : ℕ) → i < length s
-      → holds file (at + i) (drop i s) ≡ eqb (get_or file (at + i) 0) (get_or s i 0) && holds file (at + (i + 1)) (drop (i + 1) s)
-  unfolding holds
-  holds_more i h =
-      let e : at + i + 1 ≡ at + (i + 1) = omega arith in
-      rw (drop-cons s i 0 h, e, add-one i)
-
-  pub holds-differs : (i : ℕ) → i < length s → holds file (at + i) (drop i s) ≡ holds file at s
-      → (get_or file (at + i) 0 ≡ get_or s i 0 → ⊥) → false ≡ holds file at s
-  holds-differs i h e n = rw (← e, holds_more i h, ne_eqb (get_or file (at + i) 0) (get_or s i 0) n)
-
-  pub holds-next : (i : ℕ) → i < length s → holds file (at + i) (drop i s) ≡ holds file at s
-      → get_or file (at + i) 0 ≡ get_or s i 0 → holds file (at + (i + 1)) (drop (i + 1) s) ≡ holds file at s
-  holds-next i h e n = rw (← e, holds_more i h, eq-eqb (get_or file (at + i) 0) (get_or s i 0) n)
-
-  pub holds-end : (i : ℕ) → length s ≤ i → holds file (at + i) (drop i s) ≡ holds file at s → true ≡ holds file at s
-  unfolding holds
-  holds-end i h e = rw (drop_of_length-le s h) at e
+pub holds-part : (file : List ℕ) (at : ℕ) (s : List ℕ) → at + length s ≤ length file
+    → pointwise eqb (take (at + length s - at) (drop at file)) s ≡ holds file at s
+holds-part file at s h =
+    let k : at + length s - at ≡ length s = omega arith in
+    rw k (holds-pointwise file at s h)
 
 -- a list stands in itself, and where a list stands its bytes are there
 pub holds-behind : (p s : List ℕ) → holds (p ++ s) (length p) s ≡ true

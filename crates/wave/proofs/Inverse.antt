@@ -14,7 +14,7 @@ use Rattle.wave.specs.File.{header_of, pad_of, file_of, file_len_of}
 use Rattle.wave.specs.Outcome.{judged, holds, has_words, has_numbers, has_pad, refusal, accepted, read_with, file_read}
 use Rattle.wave.specs.Outcome.{format_in, channels_in, rate_in, length_in}
 use Rattle.wave.specs.Promise.{Writable, Back, Accepted}
-use Rattle.wave.specs.declared.Found.{Found}
+use Rattle.wave.specs.Outcome.{Found}
 use Rattle.formats.proofs.Table.{first, second}
 use Rattle.wave.proofs.Answers.{fine, judged-fine}
 use Rattle.wave.proofs.Parts.{length-header, length-file}

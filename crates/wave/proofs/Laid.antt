@@ -1,19 +1,23 @@
--- Laws of bytes laid into a buffer: a turn of the loop that stores them, and two runs of bytes laid one behind the other.
+-- Laws of bytes laid into a buffer: bytes written over a part, and two runs of bytes laid one behind the other.
 use mathlib.Core.Path.{◌≡◌, ◌∙◌, refl, sym, ap}
 use mathlib.Core.List.{List, ◌++◌, append_assoc}
-use Prim.Native.Nat.{ℕ, ◌+◌, ◌≤◌}
+use Prim.Native.Nat.{ℕ, ◌+◌, ◌-◌, ◌≤◌}
 use native.Mathlib.Omega.{arith}
 use lib.ListN.{length, take, drop, length-append}
 use lib.Seq.{paste, take-length, take-paste, drop-paste, drop-drop}
+use borrow.Rule.Slice.PartMut.{put_mid}
 use Rattle.wave.specs.Outcome.{laid}
 
 pub laid-pasted : (d : List ℕ) (at : ℕ) (s : List ℕ) → paste d at s (length s) ≡ laid d at s
 unfolding laid
 laid-pasted d at s = rw (take-length s)
 
--- what a loop has pasted at its end
-pub whole-pasted : (d : List ℕ) (at : ℕ) (s : List ℕ) (n : ℕ) (out : List ℕ) → n ≡ length s → out ≡ paste d at s n → out ≡ laid d at s
-whole-pasted d at s n out e h = rw e at h ∙ laid-pasted d at s
+-- s written over the part of its length at `at`
+pub laid-part : (d : List ℕ) (at : ℕ) (s : List ℕ) → put_mid at (at + length s - at) d s ≡ laid d at s
+unfolding laid
+laid-part d at s =
+    let k : at + length s - at ≡ length s = omega arith in
+    rw (k, drop-drop (length s) at d) (sym (append_assoc (take at d) s (drop (at + length s) d)))
 
 laid_of : (d : List ℕ) (at : ℕ) (s : List ℕ) → laid d at s ≡ take at d ++ s ++ drop (at + length s) d
 unfolding laid

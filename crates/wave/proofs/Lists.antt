@@ -2,14 +2,14 @@
 use mathlib.Core.Path.{◌≡◌, refl}
 use mathlib.Core.Bool.{Bool, true, false, cond, ◌&&◌}
 use mathlib.Core.List.{List, [], ◌∷◌}
-use Prim.Native.Nat.{ℕ, zero, suc, ◌+◌, ◌≤◌, ◌<◌}
-use native.Mathlib.Nat.{zero-add}
-use native.Mathlib.Numerals.{add-one}
+use Prim.Native.Nat.{ℕ, zero, suc, ◌+◌, ◌≤◌}
 use native.Mathlib.Omega.{arith}
-use borrow.Author.Tests.{eq-eqb, ne_eqb, leb-true}
-use lib.Dec.{eqb, leb}
-use lib.ListN.{get_or, drop, get_or-eq_default}
-use lib.Seq.{drop-cons}
+use borrow.Author.Tests.{leb-true, ltb-false}
+use lib.Dec.{eqb, leb, ltb}
+use lib.ListN.{length, get_or}
+use Rattle.std.proofs.Common.{Option, None, Some, not}
+use Rattle.std.specs.Option.{MatchOption}
+use Rattle.std.specs.List.{position, position_or_len}
 use Rattle.formats.proofs.Table.{first, second}
 use Rattle.formats.specs.Widths.{physical_bits}
 use Rattle.wave.specs.Lists.{listed, bits_of, rates, hz_of, place, rate_with}
@@ -57,33 +57,30 @@ pub hz-bound : (r : ℕ) → hz_of r ≤ 384000
 unfolding hz_of bounded
 hz-bound r = bounded_at rates r refl
 
-pub hz-none : (r : ℕ) → 14 ≤ r → hz_of r ≡ 0
-unfolding hz_of
-hz-none r h = get_or-eq_default rates 0 h
+-- ---- the search for a rate
 
--- ---- a turn of the search for a rate
+place-position : (hz : ℕ) (l : List ℕ) → position_or_len (λ x. eqb hz x) l ≡ place hz l
+place-position hz [] = refl
+place-position hz (x ∷ l) = rw (place-position hz l) (by (eqb hz x))
+  where
+    by : (t : Bool) → cond (not t) (1 + place hz l) 0 ≡ cond t 0 (1 + place hz l)
+    by true = refl
+    by false = refl
 
-pub place-more : (hz i : ℕ) → i < 14 → place hz (drop i rates) ≡ cond (eqb hz (hz_of i)) 0 (1 + place hz (drop (i + 1) rates))
-unfolding hz_of
-place-more hz i h = rw (drop-cons rates i 0 h, add-one i)
+place-bound : (hz : ℕ) (l : List ℕ) → place hz l ≤ length l
+place-bound hz [] = omega arith
+place-bound hz (x ∷ l) = by (eqb hz x) (place-bound hz l)
+  where
+    by : (t : Bool) → place hz l ≤ length l → cond t 0 (1 + place hz l) ≤ suc (length l)
+    by true h = omega arith
+    by false h = omega arith
 
-pub place-start : (hz : ℕ) → 0 + place hz (drop 0 rates) ≡ rate_with hz
+-- the rate's place, or 14 where there is none
+pub rate_found : (hz r : ℕ) (o : Option ℕ) → o ≡ position (λ x. eqb hz x) rates → MatchOption o (r ≡ 14) (λ i. r ≡ i) → r ≡ rate_with hz
 unfolding rate_with
-place-start hz = zero-add (place hz rates)
-
-module _ (hz i : ℕ) where
-  pub place_found : i < 14 → hz ≡ hz_of i → i + place hz (drop i rates) ≡ rate_with hz → i ≡ rate_with hz
-  place_found l e h =
-      let m : i + 0 ≡ rate_with hz = rw (place-more hz i l, eq-eqb hz (hz_of i) e) at h in
-      omega (arith, m)
-
-  pub place-next : i < 14 → (hz ≡ hz_of i → ⊥) → i + place hz (drop i rates) ≡ rate_with hz
-      → i + 1 + place hz (drop (i + 1) rates) ≡ rate_with hz
-  place-next l n h =
-      let m : i + (1 + place hz (drop (i + 1) rates)) ≡ rate_with hz = rw (place-more hz i l, ne_eqb hz (hz_of i) n) at h in
-      omega (arith, m)
-
-  pub place_end : 14 ≤ i → i ≤ 14 → i + place hz (drop i rates) ≡ rate_with hz → 14 ≡ rate_with hz
-  place_end l m h =
-      let e : i ≡ 14 = omega arith in
-      rw e at h
+rate_found hz r o e h = by (ltb (place hz rates) 14) refl (rw (e, place-position hz rates) at h)
+  where
+    by : (t : Bool) → ltb (place hz rates) 14 ≡ t → MatchOption (cond t (Some (place hz rates)) None) (r ≡ 14) (λ i. r ≡ i)
+        → r ≡ place hz rates
+    by true l m = m
+    by false l m = omega (arith, place-bound hz rates, ltb-false (place hz rates) 14 l)

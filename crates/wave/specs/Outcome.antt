@@ -1,11 +1,28 @@
 -- What writing and reading answer and leave, for all inputs.
-use Rattle.std.specs.Prelude.{List, [], ◌∷◌, ◌++◌, Bool, true, cond, ◌&&◌, ◌||◌, ℕ, ◌+◌, ◌-◌, ◌%◌, eqb, leb, ltb, length, get_or, set}
+use Rattle.std.specs.Prelude.{List, [], ◌∷◌, ◌++◌, Bool, true, cond, ◌&&◌, ◌||◌, ℕ, ◌+◌}
+use Rattle.std.specs.Prelude.{◌-◌, ◌%◌, eqb, leb, ltb, length, get_or, set, Result, Ok, Err}
 use Rattle.std.specs.Prelude.{take, drop}
 use Rattle.memory.specs.Bytes.{le}
 use Rattle.wave.specs.Lists.{known, format_with, rate_with}
 use Rattle.wave.specs.File.{RIFF, WAVE, «fmt», «data», header_of, file_of, file_len_of}
-use Rattle.wave.specs.declared.Found.{Found}
-use Rattle.wave.specs.declared.Written.{Written}
+use Rattle.wave.specs.declared.Sound.{Sound}
+use Rattle.wave.specs.declared.Refusal.{Refusal}
+use Rattle.wave.specs.declared.Refusal.TheVariants.{NotListed, TooLong, NoRoom, NoHeader, WrongWord, WrongNumber, WrongLength, WrongPad}
+
+-- the numbers that are answered for C
+abbrev pub number_of : Refusal → ℕ
+number_of NotListed = 20
+number_of TooLong = 21
+number_of NoRoom = 22
+number_of NoHeader = 23
+number_of WrongWord = 24
+number_of WrongNumber = 25
+number_of WrongLength = 26
+number_of WrongPad = 27
+
+abbrev pub answer_of : {T : Type 0} → Result T Refusal → ℕ
+answer_of (Ok done) = 0
+answer_of (Err refusal) = number_of refusal
 
 -- "The largest data length is 4,294,967,258."
 abbrev pub max_data : ℕ
@@ -30,8 +47,9 @@ pub record Outcome : Type 0 where
 abbrev pub outcome : ℕ → ℕ → List ℕ → Outcome
 outcome a n out = record { answer = a; len = n; out = out }
 
-abbrev pub after : Written → List ℕ → Outcome
-after w out = outcome w.answer w.len out
+abbrev pub after : Result ℕ Refusal → List ℕ → Outcome
+after (Ok len) out = outcome 0 len out
+after (Err refusal) out = outcome (number_of refusal) 0 out
 
 -- `s`, after the answer a to what it is made of: written to the start of `out`, or "22 room too small"
 unfoldable pub placed : ℕ → List ℕ → List ℕ → Outcome
@@ -78,11 +96,31 @@ has_numbers f c r n file = eqb (judged f c r n) 0 && holds file 0 (header_of f c
 unfoldable pub has_pad : ℕ → ℕ → Bool
 has_pad n last = eqb (n % 2) 0 || eqb last 0
 
+-- what was read: the answer, and beside 0 the format, channels and rate and where in the file the data stands
+pub record Found : Type 0 where
+  pub answer : ℕ
+  pub format : ℕ
+  pub channels : ℕ
+  pub rate : ℕ
+  pub start : ℕ
+  pub len : ℕ
+
 abbrev pub refusal : ℕ → Found
 refusal a = record { answer = a; format = 0; channels = 0; rate = 0; start = 0; len = 0 }
 
 abbrev pub accepted : ℕ → ℕ → ℕ → ℕ → Found
 accepted f c r n = record { answer = 0; format = f; channels = c; rate = r; start = 44; len = n }
+
+abbrev pub found_of : Result Sound Refusal → Found
+found_of (Ok s) = record {
+  answer = 0;
+  format = s.form.format;
+  channels = s.form.channels;
+  rate = s.form.rate;
+  start = s.start;
+  len = s.len;
+}
+found_of (Err e) = refusal (number_of e)
 
 -- by format, channels, rate and data length read, the file's first bytes, its length and its last byte: "23 file under 44 bytes", then as
 -- quoted above, "26 file shorter or longer than these ask, 27 pad byte not zero"

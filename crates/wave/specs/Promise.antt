@@ -4,7 +4,7 @@ use Rattle.std.specs.Prelude.{◌≡◌, List, [], ◌∷◌, ◌++◌, ◌⊎�
 use Rattle.wave.specs.Lists.{Known}
 use Rattle.wave.specs.File.{RIFF, WAVE, «fmt», «data», header_of, file_of, file_len_of, riff_size, byte_rate, block_align, pad_of}
 use Rattle.wave.specs.Outcome.{max_data, judged, Outcome, outcome, refusal, file_read, accepted, data_in}
-use Rattle.wave.specs.declared.Found.{Found}
+use Rattle.wave.specs.Outcome.{Found}
 
 -- what the writer can write
 pub record Writable (f c r n : ℕ) : Type 0 where

@@ -1,356 +1,188 @@
 // The program `wave write FORMAT CHANNELS RATE FROM TO`, `wave read FROM TO`: what was played as a WAVE file, and back, a block at a time.
 #![tactic(auto)]
 
-ghost use Rattle.std.specs.Prelude.{◌≡◌, ◌≤◌, min, length};
+ghost use Rattle.std.specs.Prelude.{◌≡◌, OnOk, Some};
+ghost use Rattle.std.specs.Io.KnownBytes.{Appends};
 ghost use Rattle.wave.specs.Outcome.{judged};
+ghost use Rattle.wave_run.specs.Reports.{answer_of, report_text, line_of};
 
-use argument::Argument;
+use files::Refusal;
+use std::fmt;
 use std::fs::File;
-use std::io::{Read, Write};
+use std::io::{ErrorKind, Write};
+use wave::Form;
 
-// Wrong arguments, and a file that can't be used.
-const USAGE: u32 = 99;
-
-const UNUSABLE: u32 = 98;
-
-// The bytes read at a time.
-const BLOCK: usize = 65536;
-
-// More blocks than a file can have: the loop over them counts down from here, so that it ends whatever is read.
-const BLOCKS: u64 = 140737488355328;
-
-// What is printed: an answer, and beside 0 the numbers of a file that was read, and how much data.
+// What was done: so many bytes written as a WAVE file, or so many taken out of one of this form.
 #[derive(Clone, Copy)]
-struct Report {
-    answer: u32,
-    read: bool,
-    format: u32,
-    channels: u32,
-    rate: u32,
-    len: u64,
+enum Report {
+    Written(u64),
+    Read(Form, u64),
 }
 
-// What a pass saw: how many bytes, the last of them, and whether all went well to the end.
+// What is printed of it, behind the answer 0.
+impl fmt::Display for Report {
+    ghost output = { λ report. Some (report_text report) };
+
+    fn fmt<W: fmt::Write>(&self, f: &mut fmt::Formatter<W>) -> fmt::Result {
+        match self {
+            Report::Written(len) => write!(f, "{len}"),
+            Report::Read(form, len) => {
+                write!(f, "{} {} {} {len}", form.format, form.channels, form.rate)
+            }
+        }
+    }
+}
+
+type Answer = Result<Report, Refusal<wave::Refusal>>;
+
+// A file, by how many bytes it has and the last of them.
 #[derive(Clone, Copy)]
-struct Passed {
+struct Looked {
     bytes: u64,
     last: u8,
-    sound: bool,
-}
-
-fn refused(answer: u32) -> Report
-    ensures { result.answer ≡ answer }
-{
-    Report {
-        answer: answer,
-        read: false,
-        format: 0,
-        channels: 0,
-        rate: 0,
-        len: 0,
-    }
-}
-
-// How many of `count` bytes are among the next `left`.
-fn among(count: usize, left: u64) -> usize
-    ensures { (result ≡ min count left) × (result ≤ count) }
-{
-    if left < count as u64 {
-        return left as usize;
-    }
-    count
-}
-
-// The last of the first `count` bytes, or what it was.
-fn last_of(block: &[u8], count: usize, was: u8) -> u8 {
-    if count == 0 {
-        return was;
-    }
-    if block.len() < count {
-        return was;
-    }
-    block[count - 1]
-}
-
-// The next block of `source`; its first `left` bytes are written to `sink`.
-fn pass_block<R: Read, W: Write>(
-    source: &mut R,
-    sink: &mut W,
-    left: u64,
-    block: &mut [u8],
-) -> files::Block
-    ensures { result.count ≤ length block.new }
-{
-    let read = files::read_block(source, block);
-    let count = read.count;
-    let n = among(count, left);
-    let wrote = streams::write_all(sink, &block[..n]);
-    files::Block {
-        count: count,
-        sound: read.sound && wrote,
-    }
-}
-
-// What is left of `limit` bytes after `bytes`.
-fn rest(limit: u64, bytes: u64) -> u64 {
-    if limit < bytes {
-        return 0;
-    }
-    limit - bytes
-}
-
-// A pass over `source`, from where it stands to its end; its first `limit` bytes are written to `sink`.
-fn pass<R: Read, W: Write>(source: &mut R, sink: &mut W, limit: u64) -> Passed {
-    let mut block = io::large_buffer();
-    let mut bytes: u64 = 0;
-    let mut last: u8 = 0;
-    let mut left = BLOCKS;
-    while 0 < left {
-        let piece = pass_block(source, sink, rest(limit, bytes), &mut block);
-        bytes += piece.count as u64;
-        last = last_of(&block, piece.count, last);
-        if !piece.sound {
-            return Passed {
-                bytes: bytes,
-                last: last,
-                sound: false,
-            };
-        }
-        if piece.count < BLOCK {
-            return Passed {
-                bytes: bytes,
-                last: last,
-                sound: true,
-            };
-        }
-        left -= 1;
-    }
-    Passed {
-        bytes: bytes,
-        last: last,
-        sound: false,
-    }
 }
 
 // A pass that only looks at what it reads.
-fn look<R: Read>(source: &mut R) -> Passed {
-    pass(source, &mut std::io::sink(), 0)
+fn look(source: &mut File) -> std::io::Result<Looked> {
+    let mut last: u8 = 0;
+    let bytes = files::pass(source, &mut io::large_buffer(), |block| {
+        if let Some(byte) = block.last() {
+            last = *byte;
+        }
+        Ok(())
+    })?;
+    Ok(Looked { bytes, last })
 }
 
 // `limit` of the `bytes` bytes of `source` past `start`, written to `sink`.
-fn copy_part(source: &mut File, start: u64, bytes: u64, sink: &mut File, limit: u64) -> bool {
-    if !files::rewind(source, start) {
-        return false;
+fn copy_part(
+    source: &mut File,
+    start: u64,
+    bytes: u64,
+    sink: &mut File,
+    limit: u64,
+) -> std::io::Result<()> {
+    files::rewind(source, start)?;
+    let mut left = limit;
+    let again = files::pass(source, &mut io::large_buffer(), |block| {
+        let n = left.min(block.len() as u64);
+        left -= n;
+        sink.write_all(&block[..n as usize])
+    })?;
+    if again == bytes {
+        Ok(())
+    } else {
+        Err(ErrorKind::InvalidData.into())
     }
-    let passed = pass(source, sink, limit);
-    passed.sound && passed.bytes == bytes
 }
 
 // The file of all of `source`: its header, the bytes, and the pad byte of an odd length.
-fn write_wave(source: &mut File, bytes: u64, head: &[u8], sink: &mut File) -> bool {
-    if !streams::write_all(sink, head) {
-        return false;
-    }
-    if !copy_part(source, 0, bytes, sink, bytes) {
-        return false;
-    }
-    let pad = [0u8; 1];
-    streams::write_all(sink, &pad[..(bytes % 2) as usize])
-}
-
-// TO made to hold that file.
-fn write_to(rt: &HostRuntime, to: &[u8], source: &mut File, bytes: u64, head: &[u8]) -> bool {
-    let mut name = io::buffer();
-    let Some(mut sink) = files::open_sink(rt, to, &mut name) else {
-        return false;
-    };
-    let wrote = write_wave(source, bytes, head, &mut sink.file);
-    files::close_sink(rt, sink, &name, to, wrote)
-}
-
-// TO made to hold the data of `source`: `len` bytes behind the header.
-fn extract_to(rt: &HostRuntime, to: &[u8], source: &mut File, bytes: u64, len: u64) -> bool {
-    let mut name = io::buffer();
-    let Some(mut sink) = files::open_sink(rt, to, &mut name) else {
-        return false;
-    };
-    let wrote = copy_part(source, 44, bytes, &mut sink.file, len);
-    files::close_sink(rt, sink, &name, to, wrote)
+fn write_wave(source: &mut File, bytes: u64, head: &[u8], sink: &mut File) -> std::io::Result<()> {
+    sink.write_all(head)?;
+    copy_part(source, 0, bytes, sink, bytes)?;
+    sink.write_all(&[0u8; 1][..(bytes % 2) as usize])
 }
 
 // The order past FROM's opening: FROM can't be read, data too long, TO can't be used.
-fn write_open(
-    rt: &HostRuntime,
-    format: u32,
-    channels: u32,
-    rate: u32,
-    source: &mut File,
-    to: &[u8],
-) -> Report {
-    let data = look(source);
-    if !data.sound {
-        return refused(UNUSABLE);
-    }
+fn write_open(rt: &HostRuntime, form: Form, source: &mut File, to: &[u8]) -> Answer {
+    let Looked { bytes, .. } = look(source)?;
     let mut head = [0u8; 44];
-    let written = wave::header(format, channels, rate, data.bytes, &mut head);
-    if written.answer != wave::DONE {
-        return refused(written.answer);
-    }
-    if !write_to(rt, to, source, data.bytes, &head) {
-        return refused(UNUSABLE);
-    }
-    Report {
-        answer: wave::DONE,
-        read: false,
-        format: format,
-        channels: channels,
-        rate: rate,
-        len: data.bytes,
-    }
+    form.header(bytes, &mut head).map_err(Refusal::Refused)?;
+    files::replace(rt, to, |sink| write_wave(source, bytes, &head, sink))?;
+    Ok(Report::Written(bytes))
 }
 
 // The order past the arguments: not in the list, whatever FROM and TO are; then FROM can't be opened.
-fn write_file(
-    rt: &HostRuntime,
-    format: u32,
-    channels: u32,
-    rate: u32,
-    from: &[u8],
-    to: &[u8],
-) -> Report
-    ensures { (judged format channels rate 0 ≡ 0 → ⊥) → result.answer ≡ judged format channels rate 0 }
+fn write_file(rt: &HostRuntime, form: Form, from: &[u8], to: &[u8]) -> Answer
+    ensures { (judged form.format form.channels form.rate 0 ≡ 0 → ⊥)
+        → answer_of result ≡ judged form.format form.channels form.rate 0 }
 {
-    let answer = wave::judge(format, channels, rate, 0);
-    if answer != wave::DONE {
-        return refused(answer);
-    }
-    let Some(mut source) = files::open_read(rt, from) else {
-        return refused(UNUSABLE);
-    };
-    write_open(rt, format, channels, rate, &mut source, to)
+    form.judge(0).map_err(Refusal::Refused)?;
+    let mut source = files::open_read(rt, from)?;
+    write_open(rt, form, &mut source, to)
 }
 
 // The order past FROM's opening: FROM can't be read, 23 to 27, TO can't be used.
-fn read_open(rt: &HostRuntime, source: &mut File, to: &[u8]) -> Report {
-    let file = look(source);
-    if !file.sound {
-        return refused(UNUSABLE);
-    }
-    if !files::rewind(source, 0) {
-        return refused(UNUSABLE);
-    }
+fn read_open(rt: &HostRuntime, source: &mut File, to: &[u8]) -> Answer {
+    let file = look(source)?;
+    files::rewind(source, 0)?;
     let mut head = [0u8; 44];
     let n = streams::read_full(source, &mut head);
-    let found = wave::read_header(&head[..n], file.bytes, file.last);
-    if found.answer != wave::DONE {
-        return refused(found.answer);
-    }
-    if !extract_to(rt, to, source, rest(file.bytes, 44), found.len) {
-        return refused(UNUSABLE);
-    }
-    Report {
-        answer: wave::DONE,
-        read: true,
-        format: found.format,
-        channels: found.channels,
-        rate: found.rate,
-        len: found.len,
-    }
+    let sound = wave::read_header(&head[..n], file.bytes, file.last).map_err(Refusal::Refused)?;
+    let rest = file.bytes.saturating_sub(44);
+    files::replace(rt, to, |sink| copy_part(source, 44, rest, sink, sound.len))?;
+    Ok(Report::Read(sound.form, sound.len))
 }
 
-fn read_file(rt: &HostRuntime, from: &[u8], to: &[u8]) -> Report {
-    let Some(mut source) = files::open_read(rt, from) else {
-        return refused(UNUSABLE);
-    };
-    read_open(rt, &mut source, to)
-}
-
-// The last two arguments, FROM and TO. One that is too long for its buffer is read as empty.
-fn write_named(rt: &HostRuntime, format: u64, channels: u64, rate: u64) -> Report {
-    if 4294967295 < format {
-        return refused(wave::NOT_LISTED);
-    }
-    if 4294967295 < channels {
-        return refused(wave::NOT_LISTED);
-    }
-    if 4294967295 < rate {
-        return refused(wave::NOT_LISTED);
-    }
+// The last two arguments are FROM and TO. One that is too long for its buffer is read as empty.
+fn read_named(rt: &HostRuntime) -> Answer {
     let mut from = io::buffer();
-    let from_len = files::argument_word(rt, 5, &mut from);
     let mut to = io::buffer();
-    let to_len = files::argument_word(rt, 6, &mut to);
+    let mut source = files::open_read(rt, files::argument_word(rt, 2, &mut from))?;
+    read_open(rt, &mut source, files::argument_word(rt, 3, &mut to))
+}
+
+fn write_named(rt: &HostRuntime, form: Form) -> Answer {
+    let mut from = io::buffer();
+    let mut to = io::buffer();
     write_file(
         rt,
-        format as u32,
-        channels as u32,
-        rate as u32,
-        &from[..from_len],
-        &to[..to_len],
+        form,
+        files::argument_word(rt, 5, &mut from),
+        files::argument_word(rt, 6, &mut to),
     )
 }
 
-fn read_named(rt: &HostRuntime) -> Report {
-    let mut from = io::buffer();
-    let from_len = files::argument_word(rt, 2, &mut from);
-    let mut to = io::buffer();
-    let to_len = files::argument_word(rt, 3, &mut to);
-    read_file(rt, &from[..from_len], &to[..to_len])
+// A number of the form; one of more than 32 bits is in no list.
+fn form_number(n: u64) -> Result<u32, Refusal<wave::Refusal>> {
+    u32::try_from(n).map_err(|_| Refusal::Refused(wave::Refusal::NotListed))
 }
 
 // FORMAT, CHANNELS and RATE, 1 to 10 digits each.
-fn write_arguments(rt: &HostRuntime) -> Report {
-    let Argument::Number(format) = files::number_argument(rt, 2) else {
-        return refused(USAGE);
+fn write_arguments(rt: &HostRuntime) -> Answer {
+    let Some(format) = files::number_argument(rt, 2) else {
+        return Err(Refusal::Usage);
     };
-    let Argument::Number(channels) = files::number_argument(rt, 3) else {
-        return refused(USAGE);
+    let Some(channels) = files::number_argument(rt, 3) else {
+        return Err(Refusal::Usage);
     };
-    let Argument::Number(rate) = files::number_argument(rt, 4) else {
-        return refused(USAGE);
+    let Some(rate) = files::number_argument(rt, 4) else {
+        return Err(Refusal::Usage);
     };
-    write_named(rt, format, channels, rate)
+    let form = Form {
+        format: form_number(format)?,
+        channels: form_number(channels)?,
+        rate: form_number(rate)?,
+    };
+    write_named(rt, form)
 }
 
 // Whether the first argument is this word.
 fn is_command(rt: &HostRuntime, word: &[u8]) -> bool {
-    let mut first = io::buffer();
-    let n = files::argument_word(rt, 1, &mut first);
-    if n != word.len() {
-        return false;
-    }
-    replay_field::starts_with(&first[..n], word)
+    files::argument_word(rt, 1, &mut io::buffer()) == word
 }
 
-fn from_arguments(rt: &HostRuntime) -> Report {
+fn from_arguments(rt: &HostRuntime) -> Answer {
     if files::is_last_argument(rt, 6) && is_command(rt, b"write") {
-        return write_arguments(rt);
+        write_arguments(rt)
+    } else if files::is_last_argument(rt, 3) && is_command(rt, b"read") {
+        read_named(rt)
+    } else {
+        Err(Refusal::Usage)
     }
-    if files::is_last_argument(rt, 3) && is_command(rt, b"read") {
-        return read_named(rt);
-    }
-    refused(USAGE)
 }
 
-fn print_number<W: Write>(output: &mut W, n: u64) {
-    streams::write_all(output, b" ");
-    streams::write_number(output, n);
-}
-
-fn print<W: Write>(output: &mut W, report: Report) {
-    streams::write_number(output, report.answer as u64);
-    if report.read {
-        print_number(output, report.format as u64);
-        print_number(output, report.channels as u64);
-        print_number(output, report.rate as u64);
+// What is answered, as a line.
+fn print<W: Write>(output: &mut W, answer: Answer) -> std::io::Result<()>
+    ensures { OnOk result (Appends (W.contents output.old) (W.contents output.new) (line_of answer)) }
+{
+    match answer {
+        Ok(report) => writeln!(output, "0 {report}"),
+        Err(refusal) => writeln!(output, "{refusal}"),
     }
-    if report.answer == wave::DONE {
-        print_number(output, report.len);
-    }
-    streams::write_all(output, b"\n");
 }
 
 // The whole program.
 pub fn run(rt: &HostRuntime) {
-    print(&mut rt.stdout(), from_arguments(rt));
+    let _printed = print(&mut rt.stdout(), from_arguments(rt));
 }

@@ -41,17 +41,17 @@ module _ {l₀ l w₀ w : Option (List ℕ)} {s : Session} (b : Going l₀ l w�
         subst (Appends w₀ w') (session-told b.read) all,
       )
 
-pub loop-left-init : goal.loop-left-init
-loop-left-init g c = (
-  c.first_session-session.ensures.1,
+pub reads-init : goal.reads-init
+reads-init g c = (
+  c.first-session.ensures.1,
   c.buffer-block.ensures,
   c.text_buffer-out.ensures,
-  going-first _ _ _ c.first_session-session.ensures.0,
+  going-first _ _ _ c.first-session.ensures.0,
 )
 
 pub take_block-taken-requires : goal.take_block-taken-requires
 take_block-taken-requires g c =
-    let l = c.loop-left.invariant in
+    let l = c.reads.invariant in
     (l.0, omega (arith, l.1, l.2))
 
 pub slice_bounds-write_all-end : goal.slice_bounds-write_all-end
@@ -59,16 +59,16 @@ slice_bounds-write_all-end g c = sym (length-take-le _ _ c.take_block-taken.ensu
 
 pub returns-then-taken-eq0 : goal.returns-then-taken-eq0
 returns-then-taken-eq0 g c =
-    let l = c.loop-left.invariant in
+    let l = c.reads.invariant in
     let t = c.take_block-taken in
     let told = t.ensures.told in
     let out = put_back told.0.text (omega (arith, told.0.text.behind, told.1, t.auto.out)) in
     let wrote = subst (Appends _ _) out (c.write_all.ensures c.if-not-write_all.false) in
     λ _. going-end l.3 _ _ t.result.count t.new.block t.ensures.read wrote c.if-taken-eq0.true
 
-pub loop-left-preserved : goal.loop-left-preserved
-loop-left-preserved g c =
-    let l = c.loop-left.invariant in
+pub reads-preserved : goal.reads-preserved
+reads-preserved g c =
+    let l = c.reads.invariant in
     let t = c.take_block-taken in
     let told = t.ensures.told in
     let out = put_back told.0.text (omega (arith, told.0.text.behind, told.1, t.auto.out)) in

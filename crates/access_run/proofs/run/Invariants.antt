@@ -15,10 +15,7 @@ pub record Going (left₀ left written₀ written : Option (List ℕ)) (now : Se
   pub told : Appends written₀ written (block_text first_session read)
   pub session : now ≡ foldl fed first_session read
 
-abbrev pub invariant-loop-left : goal.invariant-loop-left
-invariant-loop-left g l = FitLive l.session.live × (4096 ≡ length l.block) × (262144 ≡ length l.out)
+abbrev pub invariant-reads : goal.invariant-reads
+invariant-reads g l = FitLive l.session.live × (4096 ≡ length l.block) × (262144 ≡ length l.out)
     × Going (g.R.Read.remaining l.initial.input) (g.R.Read.remaining l.input) (g.W.Write.contents l.initial.output)
     (g.W.Write.contents l.output) l.session
-
-abbrev pub decreases-loop-left : goal.decreases-loop-left
-decreases-loop-left g l = l.left

@@ -5,30 +5,26 @@ use Prim.Native.Nat.{ℕ, ◌+◌, ◌≤◌}
 use native.Mathlib.Omega.{arith}
 use borrow.Author.Tests.{le-leb, lt-leb, eq-eqb, ne_eqb}
 use Rattle.chain.specs.declared.Fault.{Fault}
-use Rattle.chain.specs.declared.End.TheVariants.{Faulted}
+use Rattle.std.specs.Prelude.{Err}
 use Rattle.chain.specs.declared.Descriptor.{Descriptor}
 use Rattle.chain.specs.declared.Chain.{Chain}
-use Rattle.chain.specs.declared.Walked.{Walked}
 use Rattle.ranges.specs.Ranges.{ranges_of}
 use Rattle.ranges.proofs.Laws.{length-ranges_in}
-use Rattle.chain.specs.Walk.{joined_of, range_of, faulted, SoundChain, Joins}
+use Rattle.chain.specs.Walk.{joined_of, range_of, faulted, Joins}
 use Rattle.chain.proofs.Laws.{reply-kept, reply-more, reply-sound, request-kept, request-more, request-sound}
 use Rattle.chain.proofs.joined.Goals as goal
 
--- a fault leaves the chain as it was
-stops : {ws : List ℕ} {c : Chain} {d : Descriptor} {f : Fault} {w : Walked}
-    → SoundChain ws c
-    → w ≡ record { end = Faulted f; chain = c }
-    → faulted f ≡ joined_of d (ranges_of ws c.request) (ranges_of ws c.reply)
-    → Joins ws c d ws w
-stops s e o = rw e (record { outcome = o; sound = s; more = omega arith })
+-- a fault leaves no chain
+stops : {ws : List ℕ} {c : Chain} {d : Descriptor} {f : Fault}
+    → faulted f ≡ joined_of d (ranges_of ws c.request) (ranges_of ws c.reply) → Joins ws c d ws (Err f)
+stops o = record { outcome = o; sound = tt; more = tt }
 
 pub returns-then-reply-d : goal.returns-then-reply-d
 unfolding joined_of
 returns-then-reply-d c =
     let p = c.requires in
     let a = c.args in
-    stops p.0 c.stopped.ensures
+    stops
     (rw (
       sym c.is_writable.ensures ∙ c.if-is_writable.true,
       ← p.0.reply,
@@ -41,7 +37,7 @@ returns-then-is_writable c =
     let p = c.requires in
     let a = c.args in
     let w = c.with_reply.ensures in
-    let e = rw c.range-range.ensures at c.put_range.ensures in
+    let e = rw c.range.ensures at c.put_range.ensures in
     let x = range_of a.d in
     let fits : a.chain.reply.bytes + a.d.len ≤ 1048576 = omega arith in
     record {
@@ -61,7 +57,7 @@ pub returns-then-reply-gt0 : goal.returns-then-reply-gt0
 unfolding joined_of
 returns-then-reply-gt0 c =
     let a = c.args in
-    stops c.requires.0 c.stopped-then-reply-gt0.ensures
+    stops
     (rw (
       sym c.is_writable.ensures ∙ c.if-is_writable.false,
       length-ranges_in a.list.now a.chain.reply.first a.chain.reply.count,
@@ -73,7 +69,7 @@ unfolding joined_of
 returns-then-request-d c =
     let p = c.requires in
     let a = c.args in
-    stops p.0 c.stopped-then-request-d.ensures
+    stops
     (rw (
       sym c.is_writable.ensures ∙ c.if-is_writable.false,
       length-ranges_in a.list.now a.chain.reply.first a.chain.reply.count,
@@ -88,7 +84,7 @@ returns c =
     let p = c.requires in
     let a = c.args in
     let w = c.with_request.ensures in
-    let e = rw c.range-range.ensures at c.put_range-2.ensures in
+    let e = rw c.range-2.ensures at c.put_range-2.ensures in
     let x = range_of a.d in
     let none : a.chain.reply.count ≡ 0 = omega (arith, c.if-reply-gt0.false) in
     let fits : a.chain.request.bytes + a.d.len ≤ 1048576 = omega arith in

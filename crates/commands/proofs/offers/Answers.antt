@@ -1,7 +1,8 @@
 -- A mask has 64 bits.
-use mathlib.Core.Path.{sym}
+use mathlib.Core.Path.{◌∙◌, sym}
+use borrow.Author.Tests.{le-ltb}
 use Rattle.commands.proofs.Laws.{offers-past}
 use Rattle.commands.proofs.offers.Goals as goal
 
-pub returns-then-i-ge64 : goal.returns-then-i-ge64
-returns-then-i-ge64 c = sym (offers-past _ _ c.ranges.mask.fits c.if-i-ge64.true)
+pub returns-else-i-lt64 : goal.returns-else-i-lt64
+returns-else-i-lt64 c = le-ltb _ _ c.if-i-lt64.false ∙ sym (offers-past _ _ c.ranges.mask.fits c.if-i-lt64.false)

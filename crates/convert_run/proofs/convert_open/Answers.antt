@@ -1,10 +1,10 @@
--- `convert_run::convert_open` never answers 30: its refusals are 98 and 31.
-use native.Mathlib.Omega.{arith}
-use Rattle.convert_run.proofs.Reports.{refused-so, refused-length}
+-- A length is never answered by 30.
+use Rattle.std.proofs.Common.{◌∙◌, sym}
+use Rattle.std.proofs.lemmas.Result.{err_from_is_err_and}
+use Rattle.convert_run.proofs.Reports.{length-answers}
 use Rattle.convert_run.proofs.convert_open.Goals as goal
 
-pub returns-then-answer-ne-DONE : goal.returns-then-answer-ne-DONE
-returns-then-answer-ne-DONE c = refused-length _ _ c.refused.ensures _ _ _ c.judge_length-answer.ensures
-
-pub returns-then-not-write_to : goal.returns-then-not-write_to
-returns-then-not-write_to c = λ h. omega (arith, refused-so _ _ c.refused-then-not-write_to.ensures, h)
+pub returns-in_err-length : goal.returns-in_err-length
+returns-in_err-length c = λ h.
+    let p = err_from_is_err_and c.from_residual.result c.from_residual.ensures.1 in
+    length-answers _ _ (sym c.in_err-length.ensures ∙ rw (p.1, p.2) at h)

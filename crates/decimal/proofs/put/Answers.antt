@@ -1,39 +1,26 @@
--- The digits are those that `io::decimal` made, the fewest that hold the number; the byte stands behind them.
+-- The digits of the number are written, at most 20 of them, and the byte behind them.
 use mathlib.Core.Path.{◌∙◌}
-use Prim.Native.Nat.{◌+◌, ◌≤◌}
-use native.Mathlib.Omega.{arith}
+use Rattle.std.proofs.Common.{ℕ, ◌^◌, ◌<◌, ◌≤◌, arith}
+use Rattle.io.specs.Digits.{IsDigitCount}
 use Rattle.decimal.proofs.Writing.{fewest-below, digits-of-fewest, put-field}
-use Rattle.decimal.proofs.put.Goals.{After-decimal-count, After-out-1}
 use Rattle.decimal.proofs.put.Goals as goal
 
 -- at most 20 digits
-few : (c : After-decimal-count) → c.decimal-count.result ≤ 20
-few c = fewest-below 20 c.args.n _ c.decimal-count.ensures.len (omega arith) (omega arith)
-
--- at most 20 digits
-few_at_After_out_1 : (c : After-out-1) → c.decimal-count.result ≤ 20
-few_at_After_out_1 c = fewest-below 20 c.args.n _ c.decimal-count.ensures.len (omega arith) (omega arith)
-
--- what is behind them is at most 20 further on
-behind : (c : After-out-1) → c.put_bytes-behind.result ≤ c.args.at + 20
-behind c =
-    omega (arith, few_at_After_out_1 c, c.decimal-count.ensures.in_bounds, c.put_bytes-behind.ensures.behind)
+few : {n r : ℕ} → IsDigitCount 10 1 n r → n < 2 ^ 64 → r ≤ 20
+few {n} {r} w h = fewest-below 20 n r w (omega arith) (omega arith)
 
 pub put_bytes-behind-requires : goal.put_bytes-behind-requires
-put_bytes-behind-requires c = omega (
-  arith,
-  few (goal.at.put_bytes-behind-requires c).After-decimal-count,
-  c.decimal-count.ensures.in_bounds,
-)
+put_bytes-behind-requires c = omega (arith, few c.decimal-count.ensures.len (omega arith))
 
 pub bounds-out-behind : goal.bounds-out-behind
-bounds-out-behind c = omega (arith, behind (goal.at.bounds-out-behind c).After-out-1, c.put_bytes-behind.auto.out)
+bounds-out-behind c = omega (arith, few c.decimal-count.ensures.len (omega arith), c.put_bytes-behind.ensures.behind)
 
 pub overflow_add-result : goal.overflow_add-result
-overflow_add-result c = omega (arith, behind (goal.at.overflow_add-result c).After-out-1)
+overflow_add-result c = omega (arith, few c.decimal-count.ensures.len (omega arith), c.put_bytes-behind.ensures.behind)
 
 pub returns : goal.returns
 returns c =
-    let a = c.args in
-    let digits = c.decimal-count.ensures.digits ∙ digits-of-fewest a.n _ (omega arith) c.decimal-count.ensures.len in
-    (put-field a.n a.end digits c.put_bytes-behind.ensures, omega (arith, behind (goal.at.returns c).After-out-1))
+    let w = c.decimal-count.ensures in (
+      put-field c.args.n c.args.end (w.digits ∙ digits-of-fewest c.args.n _ (omega arith) w.len) c.put_bytes-behind.ensures,
+      omega (arith, few w.len (omega arith), c.put_bytes-behind.ensures.behind),
+    )

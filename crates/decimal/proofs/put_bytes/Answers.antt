@@ -1,42 +1,18 @@
--- Each turn stores the next byte at the next place.
-use mathlib.Core.Path.{◌≡◌, ◌∙◌, sym, refl}
-use Prim.Native.Nat.{◌+◌, ◌-◌, ◌≤◌}
-use native.Mathlib.Omega.{arith}
-use lib.ListN.{length-set}
-use Rattle.decimal.proofs.Writing.{sets_more, sets_end}
+-- The bytes copied over a part of the buffer are stored one behind the other.
+use mathlib.Core.Path.{◌∙◌, sym, refl}
+use Rattle.std.proofs.Common.{◌+◌, ◌-◌, length, take, append_assoc, arith}
+use Rattle.std.proofs.lemmas.Slice.{put_mid-paste}
+use Rattle.std.proofs.lemmas.List.Edits.{paste_all, sets-eq}
 use Rattle.decimal.proofs.put_bytes.Goals as goal
-
-pub loop-i-init : goal.loop-i-init
-loop-i-init c = (omega arith, omega arith, refl, refl)
-
-pub bounds-bytes-i : goal.bounds-bytes-i
-bounds-bytes-i c = omega arith
-
-pub bounds-out-to : goal.bounds-out-to
-bounds-out-to c = omega arith
-
-pub overflow_add-to : goal.overflow_add-to
-overflow_add-to c = omega arith
-
-pub overflow_add-i : goal.overflow_add-i
-overflow_add-i c = omega arith
-
-pub loop-i-smaller : goal.loop-i-smaller
-loop-i-smaller c = omega arith
-
-pub loop-i-preserved : goal.loop-i-preserved
-loop-i-preserved c =
-    let l = c.loop-i in
-    let a = c.args in
-    (omega arith, omega arith, simp length-set (omega arith), sym (sets_more _ a.bytes.now l.i l.to (omega arith)) ∙ l.invariant.3)
-
-pub shape_of-out : goal.shape_of-out
-shape_of-out c = omega arith
 
 pub returns : goal.returns
 returns c =
-    let l = c.loop-i in
+    let a = c.args in
+    let n = length a.bytes.now in
     record {
-      stored = sym (sets_end _ c.args.bytes.now l.i l.to (omega arith)) ∙ l.invariant.3;
-      behind = omega arith;
+      stored =
+          put_mid-paste a.at (a.at + n - a.at) a.out.now _ a.bytes.now n c.copy_from_slice.ensures.after (omega arith) refl
+          ∙ paste_all a.out.now a.at a.bytes.now n refl ∙ sym (append_assoc (take a.at a.out.now) _ _)
+          ∙ sym (sets-eq a.bytes.now a.out.now a.at (omega arith));
+      behind = refl;
     }

@@ -61,7 +61,7 @@ record_state-requires c =
 pub returns : goal.returns
 returns c pw cw f =
     let a = c.args in
-    rw (c.record_state.ensures, c.with_attempt-after.ensures)
+    rw (c.record_state.ensures, c.with_attempt.ensures)
     (told_in a.live a.parts pw cw f a.code a.«data» a.m.now c.send-attempt.new.m c.send-attempt.result
     (long (goal.at.returns c).Else-not-is_live) (lives (goal.at.returns c).Else-not-is_live)
     (rw (rest_in_lem a.live a.parts pw cw) (allowed (goal.at.returns c).Else-not-is_allowed)) c.send-attempt.ensures.0

@@ -1,26 +1,11 @@
--- The code picks the rule.
+-- An event of a jack may be sent where the jack is.
 use native.Mathlib.Omega.{arith}
-use borrow.Author.Tests.{ne_eqb}
-use Rattle.rules.specs.Calls.{event_allowed}
-use Rattle.event.proofs.Cards.{jacks-there}
+use Rattle.event.specs.Event.{rest_in}
+use Rattle.event.proofs.Cards.{jacks-there, allowed-jacks}
 use Rattle.event.proofs.is_allowed.Goals as goal
 
 pub returns-in-4096 : goal.returns-in-4096
-unfolding event_allowed
 returns-in-4096 c =
-    rw (c.in-4096.is, jacks-there c.args.live c.args.parts c.requires)
-
-pub returns-in-4097 : goal.returns-in-4097
-unfolding event_allowed
-returns-in-4097 c =
-    rw (c.in-4097.is, jacks-there c.args.live c.args.parts c.requires)
-
-pub returns-in-4353 : goal.returns-in-4353
-unfolding event_allowed
-returns-in-4353 c = rw c.in-4353.is c.tells_xruns.ensures
-
-pub returns-in_default : goal.returns-in_default
-unfolding event_allowed
-returns-in_default c =
-    let n = c.args.code in
-    rw (ne_eqb n 4096 (λ e. omega arith), ne_eqb n 4097 (λ e. omega arith), ne_eqb n 4353 (λ e. omega arith))
+    let a = c.args in
+    let e = a.event in
+    rw (allowed-jacks (rest_in a.live a.parts) e.code e.«data» (omega arith) (omega arith), jacks-there a.live a.parts c.requires)

@@ -1,66 +1,59 @@
--- The tests stand in the definition's order; a stream that is there is the array's, without parameters after a reset.
-use mathlib.Core.Path.{◌≡◌}
-use mathlib.Core.Bool.{Bool, true, false, cond}
-use Prim.Native.Nat.{◌<◌}
+-- A stream that is there is the array's, without parameters after a reset.
+use mathlib.Core.Path.{◌≡◌, ◌∙◌, refl, sym}
+use mathlib.Core.Bool.{Bool, true, false, cond, not, ◌&&◌}
+use Prim.Native.Nat.{◌/◌, ◌%◌}
 use borrow.Author.Tests.{lt-ltb, le-ltb, eq-eqb, ne_eqb}
-use lib.Dec.{ltb}
-use lib.ListN.{length}
-use Rattle.card.specs.Card.{no_params}
+use lib.Dec.{eqb, ltb}
+use lib.ListN.{length, get_or}
+use Rattle.card.specs.Card.{no_params, no_stream}
 use Rattle.card.specs.declared.Params.{Params}
-use Rattle.live.specs.Live as pieces
+use Rattle.registers.specs.Rules.{has_bit}
+use Rattle.rules.specs.Calls.{is_running}
 use Rattle.device.specs.Device.{stream_at}
 use Rattle.event.specs.Event.{rest_in}
-use Rattle.event.proofs.Cards.{streams-there, stream-below, stream-in}
-use Rattle.event.proofs.tells_xruns.Goals.{Else-config-stream}
+use Rattle.event.proofs.Cards.{streams-there, stream-in}
+use Rattle.event.proofs.tells_xruns.Goals.{Else-live-stream, Joined-live-at-eq-RUNNING, then-live-at-eq-RUNNING, else-live-at-eq-RUNNING}
 use Rattle.event.proofs.tells_xruns.Goals as goal
 
--- its parameters: none after a reset
-params_none : (fresh : Bool) (v : Params) → fresh ≡ true → cond fresh no_params v ≡ no_params
-params_none fresh v h = rw h
+-- a stream has no parameters after a reset
+kept : (running fresh : Bool) (v : Params)
+    → (running && not fresh && eqb (v.features / 16 % 2) 1) ≡ (running && has_bit (cond fresh no_params v).features 4)
+kept true true v = refl
+kept true false v = refl
+kept false fresh v = refl
 
-params-kept : (fresh : Bool) (v : Params) → fresh ≡ false → cond fresh no_params v ≡ v
-params-kept fresh v h = rw h
+-- the rule, of the arrays
+told : (c : Else-live-stream) → let a = c.args in
+    (eqb (get_or a.live.states a.stream 0) 3 && not a.live.fresh
+    && eqb ((get_or a.parts.streams a.stream no_stream).params.features / 16 % 2) 1)
+    ≡ (is_running (rest_in a.live a.parts) a.stream && has_bit (stream_at (rest_in a.live a.parts) a.stream).params.features 4)
+told c =
+    let a = c.args in
+    let there : ltb a.stream (length (rest_in a.live a.parts).streams) ≡ true =
+    rw (streams-there a.live a.parts c.requires) (lt-ltb _ _ c.if-live-stream.false) in
+    rw (there, stream-in a.live a.parts c.requires a.stream c.if-live-stream.false)
+    (kept (eqb (get_or a.live.states a.stream 0) 3) a.live.fresh (get_or a.parts.streams a.stream no_stream).params)
 
-below : (c : Else-config-stream) → c.args.stream < 6
-below c = stream-below c.args.live c.args.parts c.requires c.args.stream c.if-config-stream.false
+-- both tests of the small state
+tested : (c : Joined-live-at-eq-RUNNING) → let a = c.args in
+    c.if-live-at-eq-RUNNING.value ≡ (eqb (get_or a.live.states a.stream 0) 3 && not a.live.fresh)
+tested c = elim c.if-live-at-eq-RUNNING.branch [
+  | then-live-at-eq-RUNNING w ↦ rw (eq-eqb _ _ w.if-live-at-eq-RUNNING.true) w.value-is
+  | else-live-at-eq-RUNNING w ↦
+      rw (ne_eqb _ _ w.if-live-at-eq-RUNNING.false) (w.value-is ∙ ne_eqb _ _ w.if-live-at-eq-RUNNING.false)
+]
 
-counted : (c : Else-config-stream) → let a = c.args in ltb a.stream (length (rest_in a.live a.parts).streams) ≡ true
-counted c = rw (streams-there c.args.live c.args.parts c.requires) (lt-ltb _ _ c.if-config-stream.false)
+pub returns-then-live-stream : goal.returns-then-live-stream
+returns-then-live-stream c = rw (streams-there c.args.live c.args.parts c.requires, le-ltb _ _ c.if-live-stream.true)
 
-found : (c : Else-config-stream) → let a = c.args in
-    stream_at (rest_in a.live a.parts) a.stream ≡ pieces.stream_at a.live a.parts a.stream
-found c = stream-in c.args.live c.args.parts c.requires c.args.stream c.if-config-stream.false
+pub returns-then-not-live : goal.returns-then-not-live
+returns-then-not-live c =
+    let at = goal.at.returns-then-not-live c in
+    let t = sym (tested at.Joined-live-at-eq-RUNNING) ∙ c.if-not-live.true in
+    rw t at (told at.Else-live-stream)
 
-pub returns-then-config-stream : goal.returns-then-config-stream
-returns-then-config-stream c = rw (streams-there c.args.live c.args.parts c.requires, le-ltb _ _ c.if-config-stream.true)
-
-pub bounds-states-at : goal.bounds-states-at
-bounds-states-at c = below (goal.at.bounds-states-at c).Else-config-stream
-
-pub returns-then-states-at-ne-RUNNING : goal.returns-then-states-at-ne-RUNNING
-returns-then-states-at-ne-RUNNING c = rw (
-  counted (goal.at.returns-then-states-at-ne-RUNNING c).Else-config-stream,
-  found (goal.at.returns-then-states-at-ne-RUNNING c).Else-config-stream,
-  ne_eqb _ _ c.if-states-at-ne-RUNNING.true,
-)
-
-pub returns-then-live : goal.returns-then-live
-returns-then-live c =
-    rw (
-      counted (goal.at.returns-then-live c).Else-config-stream,
-      found (goal.at.returns-then-live c).Else-config-stream,
-      eq-eqb _ _ c.if-states-at-ne-RUNNING.false,
-      params_none _ _ c.if-live.true,
-    )
-
-pub bounds-streams-at : goal.bounds-streams-at
-bounds-streams-at c = below (goal.at.bounds-streams-at c).Else-config-stream
-
-pub returns : goal.returns
-returns c =
-    rw (
-      counted (goal.at.returns c).Else-config-stream,
-      found (goal.at.returns c).Else-config-stream,
-      eq-eqb _ _ c.if-states-at-ne-RUNNING.false,
-      params-kept _ _ c.if-live.false,
-    )
+pub returns-else-not-live : goal.returns-else-not-live
+returns-else-not-live c =
+    let at = goal.at.returns-else-not-live c in
+    let t = sym (tested at.Joined-live-at-eq-RUNNING) ∙ c.if-not-live.false in
+    c.if-not-live.false ∙ rw t at (told at.Else-live-stream)

@@ -8,6 +8,6 @@ returns c =
     rw (
       c.complete.ensures,
       c.queue_size-size.ensures,
-      c.event_bytes-bytes.ensures,
+      c.bytes-bytes.ensures,
     )
     (delivered a.m.now a.page a.completed a.head _ _ _)

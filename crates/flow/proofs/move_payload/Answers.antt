@@ -5,34 +5,30 @@ use native.Mathlib.Omega.{arith}
 use lib.ListN.{length}
 use Rattle.message.specs.Message.{direction_of}
 use Rattle.message.specs.declared.Direction.{Direction}
+use mathlib.Core.List.{List}
+use Rattle.flow.specs.declared.Flow.{Flow}
 use Rattle.flow.specs.Flow.{payload_bytes, advanced_by, FitFlow}
 use Rattle.flow.proofs.Laws.{handed-on, filled, moved_fit, no-input}
-use Rattle.flow.proofs.move_payload.Goals.{After-least-n, Start}
+use Rattle.flow.proofs.move_payload.Goals.{After-min-n}
 use Rattle.flow.proofs.move_payload.Goals as goal
 
 -- how many they are
-abbrev share : (c : Start) → Direction → ℕ
-share s d =
-    min (length s.args.host.now - s.args.f.moved) (payload_bytes (direction_of d) s.args.f.message - s.args.f.message.done)
+abbrev share : List ℕ → Flow → Direction → ℕ
+share host f d = min (length host - f.moved) (payload_bytes (direction_of d) f.message - f.message.done)
 
--- how many they are
-abbrev share_at_After_least_n : (c : After-least-n) → Direction → ℕ
-share_at_After_least_n s d =
-    min (length s.args.host.now - s.args.f.moved) (payload_bytes (direction_of d) s.args.f.message - s.args.f.message.done)
+number : (c : After-min-n) → c.min-n.result ≡ share c.args.host.now c.args.f c.args.q.direction
+number c = rw (← c.waiting.ensures) c.min-n.ensures
 
-number : (c : After-least-n) → c.least-n.result ≡ share_at_After_least_n c c.args.q.direction
-number c = rw (← c.waiting.ensures) c.least-n.ensures
-
-fits_after : (c : After-least-n) → let a = c.args in FitFlow (length a.m.now) (length a.host.now) a.list.now
-    (advanced_by c.least-n.result a.f)
+fits_after : (c : After-min-n) → let a = c.args in FitFlow (length a.m.now) (length a.host.now) a.list.now
+    (advanced_by c.min-n.result a.f)
 fits_after c =
-    moved_fit (direction_of c.args.q.direction) _ _ _ c.args.f c.least-n.result c.requires.0 c.requires.1 (number c)
+    moved_fit (direction_of c.args.q.direction) _ _ _ c.args.f c.min-n.result c.requires.0 c.requires.1 (number c)
 
 pub advanced-requires : goal.advanced-requires
-advanced-requires c = let g = fits_after (goal.at.advanced-requires c).After-least-n in (g.message.moved, omega (arith, g.inside))
+advanced-requires c = let g = fits_after (goal.at.advanced-requires c).After-min-n in (g.message.moved, omega (arith, g.inside))
 
 pub advanced-requires-in-Input : goal.advanced-requires-in-Input
-advanced-requires-in-Input c = let g = fits_after (goal.at.advanced-requires-in-Input c).After-least-n in
+advanced-requires-in-Input c = let g = fits_after (goal.at.advanced-requires-in-Input c).After-min-n in
     (g.message.moved, omega (arith, g.inside))
 
 pub returns-in-Output : goal.returns-in-Output
@@ -43,10 +39,10 @@ returns-in-Output c =
       steps = record {
         run =
             rw (c.advanced.ensures, c.gather.ensures, told)
-            (handed-on a.q a.list.now a.m.now a.host.now a.f c.least-n.result c.requires.0 c.requires.1.inside
-            c.requires.1.message.request (number (goal.at.returns-in-Output c).After-least-n
-            ∙ ap (share (goal.at.returns-in-Output c).Start) told));
-        fit = rw c.advanced.ensures (fits_after (goal.at.returns-in-Output c).After-least-n);
+            (handed-on a.q a.list.now a.m.now a.host.now a.f c.min-n.result c.requires.0 c.requires.1.inside
+            c.requires.1.message.request (number (goal.at.returns-in-Output c).After-min-n
+            ∙ ap (share c.args.host.now c.args.f) told));
+        fit = rw c.advanced.ensures (fits_after (goal.at.returns-in-Output c).After-min-n);
         long = refl;
         host-long = c.gather.auto.dst;
         read = λ e. absurd (no-input (rw told at e));
@@ -62,10 +58,10 @@ returns-in-Input c =
       steps = record {
         run =
             rw (c.advanced-in-Input.ensures, c.scatter.ensures, told)
-            (filled a.q a.list.now a.m.now a.host.now a.f c.least-n.result c.requires.0 c.requires.1.inside
-            c.requires.1.message.reply (number (goal.at.returns-in-Input c).After-least-n
-            ∙ ap (share (goal.at.returns-in-Input c).Start) told));
-        fit = rw c.advanced-in-Input.ensures (fits_after (goal.at.returns-in-Input c).After-least-n);
+            (filled a.q a.list.now a.m.now a.host.now a.f c.min-n.result c.requires.0 c.requires.1.inside
+            c.requires.1.message.reply (number (goal.at.returns-in-Input c).After-min-n
+            ∙ ap (share c.args.host.now c.args.f) told));
+        fit = rw c.advanced-in-Input.ensures (fits_after (goal.at.returns-in-Input c).After-min-n);
         long = c.scatter.auto.m;
         host-long = refl;
         read = λ e. refl;

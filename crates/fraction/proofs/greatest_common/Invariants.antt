@@ -1,9 +1,9 @@
-use mathlib.Core.Path.{◌≡◌}
-use Rattle.fraction.proofs.Laws.{Alike}
+use Rattle.std.proofs.Common.{ℕ}
+use Rattle.std.specs.Int.{IsGcd}
 use Rattle.fraction.proofs.greatest_common.Given as goal
 
-abbrev pub invariant-loop-y : goal.invariant-loop-y
-invariant-loop-y l = Alike l.a l.b l.x l.y
+abbrev pub invariant-loop-b : goal.invariant-loop-b
+invariant-loop-b l = (g : ℕ) → IsGcd l.a l.b g → IsGcd l.fn.a l.fn.b g
 
-abbrev pub decreases-loop-y : goal.decreases-loop-y
-decreases-loop-y l = l.y
+abbrev pub decreases-loop-b : goal.decreases-loop-b
+decreases-loop-b l = l.b

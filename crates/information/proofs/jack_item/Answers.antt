@@ -7,9 +7,9 @@ pub returns : goal.returns
 unfolding put bytes_of
 returns c =
     rw (
-      c.set32-4.ensures,
-      c.set32-3.ensures,
-      c.set32-2.ensures,
-      c.set32.ensures,
-      c.defconf_now-defconf.ensures,
+      c.set-4.ensures,
+      c.set-3.ensures,
+      c.set-2.ensures,
+      c.set.ensures,
+      c.defconf_now.ensures,
     )

@@ -8,8 +8,8 @@ unfolding put bytes_of
 returns c =
     rw (
       c.direction_of.ensures,
-      c.set64-2.ensures,
-      c.set64.ensures,
-      c.set32-2.ensures,
-      c.set32.ensures,
+      c.set-4.ensures,
+      c.set-3.ensures,
+      c.set-2.ensures,
+      c.set.ensures,
     )

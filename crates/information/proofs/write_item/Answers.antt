@@ -15,10 +15,10 @@ use Rattle.information.proofs.write_item.Goals as goal
 pub returns : goal.returns
 returns c =
     let a = c.args in
-    let k = c.least-k.result in
+    let k = c.min-k.result in
     let ps = places (ranges_of a.list.now a.reply) in
     let item = a.item.now in
-    let least : k ≡ min a.natural a.size = c.least-k.ensures in
+    let least : k ≡ min a.natural a.size = c.min-k.ensures in
     let n : length (take a.natural item) ≡ a.natural = length-take-le a.natural item c.requires.1 in
     let front : take a.size (take a.natural item) ≡ take k item = sym (rw least (take_min a.natural a.size item)) in
     let long : length (take k item) ≡ k = length-take-le k item (omega (arith, least, c.requires.1)) in

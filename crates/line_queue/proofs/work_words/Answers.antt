@@ -54,5 +54,5 @@ returns c =
     ∙ slot-long (slot_words (queue_size v)) a.line a.words.now (inside (goal.at.returns c).After-slot_words-size) in
     rw (e, c.slot_words-size.ensures)
     (works-line v a.line a.job a.words.now a.m.now a.host.now a.p c.requires.0 c.requires.1
-    c.in-Going.is
+    c.in-None.is
     w.new.slot _ _ w.result l (rw (e, c.slot_words-size.ensures) at w.ensures))

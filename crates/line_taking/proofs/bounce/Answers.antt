@@ -17,7 +17,7 @@ returns c =
     let ec : c.refuse-posted.result.completed ≡ k.completed = ap (λ (x : Completion). x.completed) e in
     let ei : c.refuse-posted.result.interrupt ≡ k.interrupt = ap (λ (x : Completion). x.interrupt) e in
     record {
-      run = λ host. rw (c.either.ensures, c.wrapping_add_u16.ensures.value, em, ec, ei)
+      run = λ host. rw (em, ec, ei)
           (bounced-run v a.words.now a.m.now host a.p a.chain.head.0 t);
       fit = c.requires.1;
       moved = refl;

@@ -13,20 +13,11 @@ pub vacate_line-requires : goal.vacate_line-requires
 vacate_line-requires c =
     (rw c.loop-line.invariant.0 c.requires, omega (arith, c.loop-line-test.true))
 
-pub overflow_add-line : goal.overflow_add-line
-overflow_add-line c = omega arith
-
-pub loop-line-smaller : goal.loop-line-smaller
-loop-line-smaller c = omega arith
-
 pub loop-line-preserved : goal.loop-line-preserved
 loop-line-preserved c =
     let w = c.vacate_line in
     let l = c.loop-line in
     (w.auto.words ∙ l.invariant.0, omega (arith, c.loop-line-test.true), one_more _ l.line _ _ l.invariant.2 w.ensures)
-
-pub shape_of-words : goal.shape_of-words
-shape_of-words c = c.loop-line.invariant.0
 
 pub returns : goal.returns
 returns c =

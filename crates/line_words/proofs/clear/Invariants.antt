@@ -8,6 +8,3 @@ use Rattle.line_words.proofs.clear.Given as goal
 abbrev pub invariant-loop-line : goal.invariant-loop-line
 invariant-loop-line l =
     (length l.words ≡ length l.initial.words) × (l.line ≤ l.q.streams) × VacantBelow (virtqueue_of l.q) l.line l.words
-
-abbrev pub decreases-loop-line : goal.decreases-loop-line
-decreases-loop-line l = l.q.streams - l.line

@@ -23,5 +23,5 @@ returns c =
     let size₂ : length (with_marks first b) ≡ length slot = marks-long first b long₂ lb ∙ size₁ in
     vacant-by (with_marks first b) (rw size₂ p.0) (rw size₂ p.1)
     (ap message_in (marks-here first b long₂ lb) ∙ c.store_line.ensures.1
-    ∙ ap message_in (marks-here slot a long₁ la) ∙ c.store.ensures.0 ∙ c.no_message-none.ensures)
-    (ap line_in (marks-here first b long₂ lb) ∙ c.store_line.ensures.0)
+    ∙ ap message_in (marks-here slot a long₁ la) ∙ c.store.ensures.0 ∙ c.no_message.ensures)
+    (ap line_in (marks-here first b long₂ lb) ∙ c.store_line.ensures.0 ∙ c.empty.ensures)

@@ -28,7 +28,7 @@ returns c =
     let ec : c.refuse-posted.result.completed ≡ k.completed = ap (λ (x : Completion). x.completed) e in
     let ei : c.refuse-posted.result.interrupt ≡ k.interrupt = ap (λ (x : Completion). x.interrupt) e in
     record {
-      run = λ host. rw (c.either.ensures, em, ec, ei)
+      run = λ host. rw (em, ec, ei)
           (refused-read v a.list.now a.m.now host a.f t c.requires.0 (sym c.is_well.ensures ∙ c.if-is_well.false));
       message = c.requires.2;
       moved = refl;

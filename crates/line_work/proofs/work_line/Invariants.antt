@@ -1,4 +1,4 @@
-use Prim.Native.Nat.{◌-◌, ◌<◌}
+use Prim.Native.Nat.{◌+◌, ◌-◌, ◌<◌}
 use Rattle.device.specs.Device.{input}
 use Rattle.line_chains.specs.Queue.{virtqueue_of}
 use Rattle.line_work.specs.Work.{lifted, job_step, station_of, Aside, FitFront}
@@ -6,21 +6,19 @@ use Rattle.queue_lines.specs.Counters.{Line}
 use Rattle.queue_lines.specs.Rules.{times}
 use lib.ListN.{length}
 use mathlib.Core.List.{List}
-use mathlib.Core.Path.{◌≡◌, ◌∙◌}
+use mathlib.Core.Path.{◌≡◌}
 use Rattle.line_work.proofs.work_line.Given as goal
 
-abbrev pub invariant-loop-left : goal.invariant-loop-left
-invariant-loop-left l =
+abbrev pub invariant-loop : goal.invariant-loop
+invariant-loop l =
     let v = virtqueue_of l.q in
     ((lines : List Line) → l.line < length lines
-    → times (job_step l.job v l.line) l.left (lifted lines l.line (station_of l.slot l.at l.m l.host))
-    ≡ times (job_step l.job v l.line) l.initial.left (lifted lines l.line
+    → times (job_step l.job v l.line) (l.fn.front.flow.message.count + l.fn.front.line.count - l.counter)
+    (lifted lines l.line (station_of l.slot l.at l.m l.host))
+    ≡ times (job_step l.job v l.line) (l.fn.front.flow.message.count + l.fn.front.line.count) (lifted lines l.line
     (station_of l.initial.slot l.initial.at l.initial.m l.initial.host)))
     × FitFront (length l.initial.m) (length l.initial.host) l.slot l.at
     × (length l.m ≡ length l.initial.m)
     × (length l.host ≡ length l.initial.host)
     × Aside l.initial.slot l.slot
     × (v.direction ≡ input → l.host ≡ l.initial.host)
-
-abbrev pub decreases-loop-left : goal.decreases-loop-left
-decreases-loop-left l = l.left

@@ -1,6 +1,6 @@
 -- The loop reads from the top byte down; its sum is `le` of the bytes passed.
 use mathlib.Core.Path.{◌≡◌, ◌∙◌}
-use Prim.Native.Nat.{◌+◌, ◌-◌, ◌≤◌}
+use Prim.Native.Nat.{◌+◌, ◌-◌}
 use native.Mathlib.Omega.{arith}
 use native.Mathlib.Nat.{add-zero, sub-zero}
 use Rattle.memory.specs.Bytes.{le}
@@ -10,14 +10,8 @@ use Rattle.memory.proofs.get_each.Goals as goal
 pub loop-i-init : goal.loop-i-init
 loop-i-init c = (omega arith, rw (le-none (c.args.n - c.args.n) _ _ (omega arith)))
 
-pub overflow_sub-i : goal.overflow_sub-i
-overflow_sub-i c = omega arith
-
-pub byte_behind-requires : goal.byte_behind-requires
-byte_behind-requires c = omega arith
-
-pub overflow_mul-acc : goal.overflow_mul-acc
-overflow_mul-acc c =
+pub overflow_mul-number : goal.overflow_mul-number
+overflow_mul-number c =
     let l = c.loop-i in
     let a = c.args in
     omega (
@@ -26,8 +20,8 @@ overflow_mul-acc c =
           (omega arith),
     )
 
-pub overflow_add-acc : goal.overflow_add-acc
-overflow_add-acc c =
+pub overflow_add-number : goal.overflow_add-number
+overflow_add-number c =
     let l = c.loop-i in
     let a = c.args in
     omega (
@@ -35,9 +29,6 @@ overflow_add-acc c =
       le-fits (a.n - l.i) 7 a.m.now (a.at + l.i) (λ k. (c.shared_slice_known-1.given k).fits)
           (omega arith),
     )
-
-pub loop-i-smaller : goal.loop-i-smaller
-loop-i-smaller c = omega arith
 
 pub loop-i-preserved : goal.loop-i-preserved
 loop-i-preserved c =
@@ -50,5 +41,5 @@ pub returns : goal.returns
 returns c =
     let z : c.loop-i.i ≡ 0 = omega arith in
     let a = c.args in
-    let e : c.loop-i.acc ≡ le a.n a.m.now a.at = c.loop-i.invariant.1 ∙ rw (z, sub-zero, add-zero) in
+    let e : c.loop-i.number ≡ le a.n a.m.now a.at = c.loop-i.invariant.1 ∙ rw (z, sub-zero, add-zero) in
     (e, rw e (le-fits a.n a.n a.m.now a.at (λ k. (c.shared_slice_known-1.given k).fits) (omega arith)))

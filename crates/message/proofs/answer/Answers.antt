@@ -6,15 +6,15 @@ use Rattle.ranges.specs.Ranges.{ranges_of}
 use Rattle.ring.specs.Rules.{post_of}
 use Rattle.message.proofs.answer.Goals as goal
 
-pub returns-in-Nothing : goal.returns-in-Nothing
+pub returns-in-None : goal.returns-in-None
 unfolding answered_of post_of
-returns-in-Nothing c =
-    rw (c.post.ensures, c.queue_size-size.ensures, c.in-Nothing.is)
+returns-in-None c =
+    rw (c.post.ensures, c.queue_size-size.ensures, c.in-None.is)
 
-pub returns-in-Code : goal.returns-in-Code
-returns-in-Code c =
+pub returns-in-Some : goal.returns-in-Some
+returns-in-Some c =
     let a = c.args in
-    rw c.in-Code.is (c.post-in-Code.ensures
+    rw c.in-Some.is (c.post-in-Some.ensures
     ∙ rw (
       c.put_status.ensures,
       c.used_length-len.ensures,

@@ -6,4 +6,4 @@ use Rattle.message.proofs.gathered_id.Goals as goal
 
 pub returns : goal.returns
 returns c =
-    rw (c.number32.ensures, c.gather.ensures) (le-of-four _ (rw (length-map, length-take) (omega arith)))
+    rw (c.number.ensures, c.gather.ensures) (le-of-four _ (rw (length-map, length-take) (omega arith)))

@@ -7,6 +7,6 @@ use Rattle.message.proofs.put_status.Goals as goal
 pub returns : goal.returns
 returns c =
     let a = c.args in
-    c.put32-2.ensures
-    ∙ rw c.put32.ensures (status-last a.m.now a.list.now a.reply.first a.reply.count
+    c.put-2.ensures
+    ∙ rw c.put.ensures (status-last a.m.now a.list.now a.reply.first a.reply.count
     c.range_at-last.result a.code a.latency (omega arith) c.range_at-last.ensures (omega arith))

@@ -4,4 +4,4 @@ use Rattle.message.proofs.Laws.{io-status-put}
 use Rattle.message.proofs.status_bytes.Goals as goal
 
 pub returns : goal.returns
-returns c = c.set32-2.ensures ∙ rw c.set32.ensures (io-status-put _ _)
+returns c = c.set-2.ensures ∙ rw c.set.ensures (io-status-put _ _)

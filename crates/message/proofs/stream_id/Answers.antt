@@ -11,7 +11,7 @@ returns c =
     let a = c.args in
     let n = a.request.count in
     rw (
-      c.get32.ensures,
+      c.get.ensures,
       add-zero,
       ranges_in-more a.list.now a.request.first n (n - 1) (omega arith),
       ← c.range_at-range.ensures,

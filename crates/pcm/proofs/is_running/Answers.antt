@@ -1,7 +1,6 @@
 -- Past the six there is no stream, nor is one of the other direction there; else its state decides.
 use mathlib.Core.Path.{◌∙◌, sym}
-use mathlib.Core.Bool.{false, true≢false}
-use borrow.Author.Tests.{eq-eqb, ne_eqb}
+use mathlib.Core.Bool.{true≢false}
 use Rattle.message.specs.Message.{direction_of}
 use Rattle.pcm.proofs.Laws.{runs_past, runs-off, runs-at}
 use Rattle.pcm.proofs.is_running.Goals as goal
@@ -21,22 +20,10 @@ returns-then-not-is_on c =
       λ e. absurd (true≢false (sym e)),
     )
 
-pub returns-then-state_of-eq-RUNNING : goal.returns-then-state_of-eq-RUNNING
-returns-then-state_of-eq-RUNNING c =
-    let a = c.args in
-    let on = sym c.is_on.ensures ∙ c.if-not-is_on.false in (
-      λ p pw cw f.
-          sym (runs-at a.live p pw cw f.board (direction_of a.direction) a.id on
-          ∙ eq-eqb _ _ (sym c.state_of.ensures ∙ c.if-state_of-eq-RUNNING.true)),
-      λ e. (c.if-id.false, on),
-    )
-
 pub returns : goal.returns
 returns c =
     let a = c.args in
     let on = sym c.is_on.ensures ∙ c.if-not-is_on.false in (
-      λ p pw cw f.
-          sym (runs-at a.live p pw cw f.board (direction_of a.direction) a.id on
-          ∙ ne_eqb _ _ (λ e. c.if-state_of-eq-RUNNING.false (c.state_of.ensures ∙ e))),
-      λ e. absurd (true≢false (sym e)),
+      λ p pw cw f. rw c.state_of.ensures (sym (runs-at a.live p pw cw f.board (direction_of a.direction) a.id on)),
+      λ e. (c.if-id.false, on),
     )

@@ -17,7 +17,6 @@ use Rattle.line_calls.specs.Calls.{runs_on}
 use Rattle.line_calls.specs.Streams.{streams_in}
 use Rattle.card.specs.declared.Card.{Card}
 use Rattle.pcm.specs.Entry.{refusal_of}
-use borrow.Author.Rules.{rules}
 use Rattle.pcm.proofs.refusal.Goals as goal
 
 -- the answer by the three tests
@@ -57,8 +56,8 @@ returns-then-is_running c =
       λ e. let k = c.is_running.ensures.1 c.if-is_running.true in (c.if-len-live.false, k.0, k.1),
     )
 
-pub returns : goal.returns
-returns c =
+pub returns-else-is_running : goal.returns-else-is_running
+returns-else-is_running c =
     let a = c.args in
     let d = direction_of a.direction in (
       λ p pw cw m f l.

@@ -6,6 +6,6 @@ returns c =
     rw (
       c.remember-remembered.ensures,
       c.with_progress-told.ensures,
-      c.registers_after-after.ensures,
+      c.registers_after-next.ensures,
       c.answer_by-answer.ensures,
     )

@@ -1,11 +1,8 @@
-use mathlib.Core.Path.{◌≡◌, ◌∙◌}
-use Prim.Native.Nat.{◌+◌, ◌-◌, ◌≤◌}
-use Rattle.ranges.specs.Ranges.{ranges_in, all_inside}
+use Rattle.std.proofs.Common.{◌≡◌, ◌+◌, ◌-◌, ◌≤◌}
+use Rattle.ranges.specs.Ranges.{ranges_in, ranges_of, all_inside}
 use Rattle.ranges.proofs.all_inside.Given as goal
 
-abbrev pub invariant-loop-more : goal.invariant-loop-more
-invariant-loop-more l = (l.i + l.more ≤ 8589934591) × (all_inside l.len (ranges_in l.list l.i l.more)
-    ≡ all_inside l.len (ranges_in l.list l.initial.i l.initial.more))
-
-abbrev pub decreases-loop-more : goal.decreases-loop-more
-decreases-loop-more l = l.more
+abbrev pub invariant-loop-i : goal.invariant-loop-i
+invariant-loop-i l =
+    (l.i ≤ l.i-end) × (l.i-end ≡ l.fn.r.first + l.fn.r.count)
+    × (all_inside l.len (ranges_in l.list l.i (l.i-end - l.i)) ≡ all_inside l.len (ranges_of l.list l.fn.r))

@@ -1,11 +1,8 @@
 -- At each turn what is left to take of the ranges not yet passed, put at `d`, makes the whole; no more is taken than `dst`
 -- has room for.
-use mathlib.Core.Path.{◌≡◌, refl}
-use Prim.Native.Nat.{◌+◌, ◌-◌, ◌≤◌}
-use native.Mathlib.Omega.{arith}
-use lib.ListN.{length}
+use Rattle.std.proofs.Common.{◌≡◌, ◌+◌, ◌-◌, ◌≤◌, length, refl, arith}
 use Rattle.ranges.specs.Ranges.{ranges_in}
-use Rattle.ranges.proofs.Laws.{sets-past, places-next, places-none, places-skip, gather-next, gather-room, room_next, ranges_in-none}
+use Rattle.ranges.proofs.Laws.{sets-past, places-within, places-none, places-skip, gather-next, gather-room, room_next, ranges_in-none}
 use Rattle.ranges.proofs.Laws.{ranges_in-more}
 use Rattle.ranges.proofs.gather.Goals as goal
 
@@ -15,103 +12,54 @@ returns-then-dst-at c =
     let past : length a.dst.now ≤ a.at = c.if-dst-at.true in
     rw sets-past
 
-pub overflow_sub-dst : goal.overflow_sub-dst
-overflow_sub-dst c = omega arith
-
-pub least-left-requires : goal.least-left-requires
-least-left-requires c = omega arith
-
-pub overflow_cast-i : goal.overflow_cast-i
-overflow_cast-i c = omega arith
-
-pub loop-more-init : goal.loop-more-init
-loop-more-init c =
-    let a = c.args in (
+pub loop-i-init : goal.loop-i-init
+loop-i-init c =
+    let a = c.args in
+    let all : a.r.first + a.r.count - a.r.first ≡ a.r.count = omega arith in (
       omega arith,
       refl,
       omega arith,
-      gather-room a.m.now a.n c.least-left.result _ a.dst.now a.at
-          c.least-left.ensures,
+      refl,
+      rw all (gather-room a.m.now a.n c.min-left.result _ a.dst.now a.at c.min-left.ensures),
     )
 
-pub shape_of-dst-then-left-eq0 : goal.shape_of-dst-then-left-eq0
-shape_of-dst-then-left-eq0 c = omega arith
-
-pub returns-then-left-eq0 : goal.returns-then-left-eq0
-returns-then-left-eq0 c = rw (← c.loop-more.invariant.3, c.if-left-eq0.true)
-
-pub range_at-range-requires : goal.range_at-range-requires
-range_at-range-requires c = omega arith
-
-pub overflow_add-i : goal.overflow_add-i
-overflow_add-i c = omega arith
-
-pub overflow_sub-more : goal.overflow_sub-more
-overflow_sub-more c = omega arith
-
-pub loop-more-smaller-then-len-skip : goal.loop-more-smaller-then-len-skip
-loop-more-smaller-then-len-skip c = omega arith
-
-pub loop-more-preserved-then-len-skip : goal.loop-more-preserved-then-len-skip
-loop-more-preserved-then-len-skip c =
-    let l = c.loop-more in
-    let list = c.args.list.now in
-    let x = c.range_at-range in (
-      omega arith,
-      omega arith,
-      omega arith,
-      rw (← (places-skip x.result (ranges_in list (l.i + 1) (l.more - 1)) l.skip l.left c.if-len-skip.true))
-          (rw (ranges_in-more list l.i l.more (l.more - 1) (omega arith), ← x.ensures) at l.invariant.3),
-    )
-
-pub least-gone-requires : goal.least-gone-requires
-least-gone-requires c = omega arith
-
-pub overflow_sub-len : goal.overflow_sub-len
-overflow_sub-len c = omega arith
-
-pub least-k-requires : goal.least-k-requires
-least-k-requires c = omega arith
-
-pub gather_run-requires : goal.gather_run-requires
-gather_run-requires c = omega arith
-
-pub overflow_sub-skip-in-loop-more : goal.overflow_sub-skip-in-loop-more
-overflow_sub-skip-in-loop-more c = omega arith
-
-pub overflow_add-d : goal.overflow_add-d
-overflow_add-d c = omega arith
-
-pub overflow_sub-left : goal.overflow_sub-left
-overflow_sub-left c = omega arith
-
-pub loop-more-smaller : goal.loop-more-smaller
-loop-more-smaller c = omega arith
-
-pub loop-more-preserved : goal.loop-more-preserved
-loop-more-preserved c =
-    let l = c.loop-more in
+pub loop-i-preserved-then-len-skip : goal.loop-i-preserved-then-len-skip
+loop-i-preserved-then-len-skip c =
+    let l = c.loop-i in
     let a = c.args in
     let x = c.range_at-range in
-    let gone = c.least-gone in
-    let k = c.least-k in
+    let end = a.r.first + a.r.count in (
+      omega arith,
+      omega arith,
+      omega arith,
+      refl,
+      rw (← (places-skip x.result (ranges_in a.list.now (l.i + 1) (end - (l.i + 1))) l.skip l.left c.if-len-skip.true))
+          (rw (ranges_in-more a.list.now l.i (end - l.i) (end - (l.i + 1)) (omega arith), ← x.ensures) at l.invariant.4),
+    )
+
+pub loop-i-preserved : goal.loop-i-preserved
+loop-i-preserved c =
+    let l = c.loop-i in
+    let a = c.args in
+    let x = c.range_at-range in
+    let k = c.min-k in
     let g = c.gather_run in
-    let behind = ranges_in a.list.now (l.i + 1) (l.more - 1) in (
+    let end = a.r.first + a.r.count in
+    let behind = ranges_in a.list.now (l.i + 1) (end - (l.i + 1)) in (
       rw g.auto.dst (room_next l.d l.left _ k.result (length l.dst) l.invariant.0 k.ensures),
       omega arith,
       omega arith,
+      refl,
       rw (
         g.ensures,
         ← (gather-next a.m.now _ k.result _ l.dst l.d),
-        ← (places-next x.result behind l.skip l.left gone.result k.result gone.ensures k.ensures),
+        ← (places-within x.result behind l.skip l.left k.result c.if-len-skip.false k.ensures),
       )
-          (rw (ranges_in-more a.list.now l.i l.more (l.more - 1) (omega arith), ← x.ensures) at l.invariant.3),
+          (rw (ranges_in-more a.list.now l.i (end - l.i) (end - (l.i + 1)) (omega arith), ← x.ensures) at l.invariant.4),
     )
-
-pub shape_of-dst : goal.shape_of-dst
-shape_of-dst c = omega arith
 
 pub returns : goal.returns
 returns c =
-    let l = c.loop-more in
-    rw (← l.invariant.3, ranges_in-none _ l.i l.more (omega arith), places-none)
+    let l = c.loop-i in
+    let end = c.args.r.first + c.args.r.count in
+    rw (← l.invariant.4, ranges_in-none c.args.list.now l.i (end - l.i) (omega arith), places-none)

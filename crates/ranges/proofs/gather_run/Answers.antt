@@ -7,7 +7,7 @@ pub returns : goal.returns
 returns c =
     let a = c.args in
     let from = c.place-from in
-    let k = c.least-k in
+    let k = c.min-k in
     rw (
       gather-place a.m.now (a.start.0 + a.skip) a.n from.result k.result from.ensures k.ensures a.dst.now a.at,
       ← c.copy.ensures,

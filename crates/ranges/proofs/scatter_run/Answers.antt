@@ -7,7 +7,7 @@ pub returns : goal.returns
 returns c =
     let a = c.args in
     let at = c.place-at in
-    let k = c.least-k in
+    let k = c.min-k in
     rw (scatter-place a.m.now (a.start.0 + a.skip) a.n at.result k.result at.ensures k.ensures a.src.now a.from
     c.requires)
     c.copy.ensures

@@ -1,12 +1,7 @@
-use mathlib.Core.Path.{◌≡◌, ◌∙◌}
-use Prim.Native.Nat.{◌+◌, ◌-◌, ◌≤◌}
-use lib.ListN.{length, drop}
+use Rattle.std.proofs.Common.{◌≡◌, drop}
 use Rattle.replay_field.specs.Hex.{bytes_of_hex, poured}
 use Rattle.replay_field.proofs.pour_hex.Given as goal
 
-abbrev pub invariant-loop-i : goal.invariant-loop-i
-invariant-loop-i l = (length l.m ≡ length l.initial.m) × (poured (bytes_of_hex (drop l.i l.s)) l.m l.d
-    ≡ poured (bytes_of_hex (drop l.at l.s)) l.initial.m l.to)
-
-abbrev pub decreases-loop-i : goal.decreases-loop-i
-decreases-loop-i l = length l.s - l.i
+abbrev pub invariant-loop-d : goal.invariant-loop-d
+invariant-loop-d l =
+    poured (bytes_of_hex l.rest) l.m l.d ≡ poured (bytes_of_hex (drop l.at l.s)) l.initial.m l.to

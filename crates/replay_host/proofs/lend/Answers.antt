@@ -13,7 +13,7 @@ returns-in-Capture c =
     let l = c.lend_hex.ensures in
     let line = c.args.s.now in
     let host = c.args.host.now in
-    let at = c.in-Capture.at in
+    let at = c.in-Capture.place in
     let behind = c.in-Capture.behind in
     let end = c.within-end.ensures.value in
     record {

@@ -1,15 +1,12 @@
 -- The invariant: what the lines that are left make of the state is what all lines make of the first one. Each line starts behind the
 -- one before it.
-use Rattle.std.proofs.Common.{◌≡◌, ℕ, ◌-◌, ◌<◌, ◌≤◌, List, length, drop, sym, refl, ◌∙◌, arith, length-drop, length-take-le}
-use Rattle.meaning.specs.Fit.{Fit}
-use Rattle.lines.specs.Lines.{lines_of, behind_of}
+use Rattle.std.proofs.Common.{◌<◌, ◌≤◌, length, drop, sym, refl, ◌∙◌, arith, length-drop, length-take-le}
+use Rattle.lines.specs.Lines.{behind_of}
 use Rattle.lines.proofs.Laws.{span-within, behind-moves}
-use Rattle.replay_run.specs.Session.{world_of, first_world, session_world}
-use Rattle.replay_run.specs.declared.State.{State}
+use Rattle.replay_run.specs.Session.{world_of}
 use Rattle.replay_run.proofs.Laws.{session-next, session-end}
 use Rattle.replay_run.proofs.session.Goals.{After-line_end-line_end}
 use Rattle.replay_run.proofs.session.Given.{Over}
-use Rattle.replay_run.proofs.session.Invariants.{Going}
 use Rattle.replay_run.proofs.session.Goals as goal
 
 -- a line ends inside the script
@@ -27,7 +24,7 @@ moves g c = behind-moves _ c.loop-at.at _ c.loop-at-test.true (omega (arith, c.l
 
 pub loop-at-init : goal.loop-at-init
 loop-at-init g c =
-    let first = c.first_state-state.ensures in
+    let first = c.first-state.ensures in
     record { inside = omega arith; lent = refl; long = refl; fit = first.1; world = rw first.0 }
 
 pub slice_bounds-step-count : goal.slice_bounds-step-count
@@ -39,15 +36,15 @@ slice_bounds-step-start g c = omega (arith, c.loop-at-test.true)
 pub slice_bounds-step-end : goal.slice_bounds-step-end
 slice_bounds-step-end g c = omega (arith, ends g (goal.at.slice_bounds-step-end g c).After-line_end-line_end, c.line_end-line_end.ensures)
 
-pub step-turn-requires : goal.step-turn-requires
-step-turn-requires g c =
+pub step-end-requires : goal.step-end-requires
+step-end-requires g c =
     (c.loop-at.invariant.fit, omega (arith, c.loop-at.invariant.long, c.requires))
 
 pub slice_bounds-write_all-end : goal.slice_bounds-write_all-end
-slice_bounds-write_all-end g c = c.step-turn.ensures.room
+slice_bounds-write_all-end g c = c.step-end.ensures.room
 
 pub slice_bounds-write_all-end-in-loop-at : goal.slice_bounds-write_all-end-in-loop-at
-slice_bounds-write_all-end-in-loop-at g c = sym (length-take-le _ _ c.step-turn.ensures.room)
+slice_bounds-write_all-end-in-loop-at g c = sym (length-take-le _ _ c.step-end.ensures.room)
 
 pub loop-at-smaller : goal.loop-at-smaller
 loop-at-smaller g c =
@@ -55,12 +52,12 @@ loop-at-smaller g c =
 
 pub loop-at-preserved : goal.loop-at-preserved
 loop-at-preserved g c =
-    let d = c.step-turn.ensures in
+    let d = c.step-end.ensures in
     let l = c.loop-at in
     record {
       inside = omega (arith, c.behind-at.ensures, (moves g (goal.at.loop-at-preserved g c).After-line_end-line_end).1);
-      lent = c.step-turn.auto.ram ∙ l.invariant.lent;
-      long = c.step-turn.auto.out ∙ l.invariant.long;
+      lent = c.step-end.auto.ram ∙ l.invariant.lent;
+      long = c.step-end.auto.out ∙ l.invariant.long;
       fit = d.fit;
       world =
           rw (c.behind-at.ensures, d.world)

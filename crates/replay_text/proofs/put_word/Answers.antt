@@ -1,6 +1,5 @@
 -- Two digits for each byte, or a dash for none.
-use native.Mathlib.Omega.{arith}
-use borrow.Author.Tests.{eq-eqb, ne_eqb}
+use Rattle.std.proofs.Common.{arith, eq-eqb, ne_eqb}
 use Rattle.replay_text.specs.Hex.{hex_word}
 use Rattle.replay_text.proofs.put_word.Goals as goal
 
@@ -10,8 +9,8 @@ returns-then-n-eq0 c =
     let p = c.put_bytes.ensures in
     rw (eq-eqb _ 0 c.if-n-eq0.true) (p, omega (arith, p.behind))
 
-pub returns : goal.returns
+pub returns-else-n-eq0 : goal.returns-else-n-eq0
 unfolding hex_word
-returns c =
+returns-else-n-eq0 c =
     let p = c.put_hex.ensures in
     rw (ne_eqb _ 0 c.if-n-eq0.false) (p.0, omega (arith, p.1))

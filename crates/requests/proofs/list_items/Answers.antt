@@ -11,13 +11,13 @@ use Rattle.requests.proofs.list_items.Goals as goal
 pub write_items-len-requires : goal.write_items-len-requires
 write_items-len-requires c =
     let a = c.args in
-    let n = length-items a.size (items_in a.l (parts_now a.live a.parts)) a.count a.start c.requires.1 in
+    let n = length-items a.query.size (items_in a.l (parts_now a.live a.parts)) a.query.count a.query.start c.requires.1 in
     (c.requires.0, c.requires.1, rw n c.requires.2)
 
 pub overflow_cast-len : goal.overflow_cast-len
 overflow_cast-len c =
     let a = c.args in
-    let n = length-items a.size (items_in a.l (parts_now a.live a.parts)) a.count a.start c.requires.1 in
+    let n = length-items a.query.size (items_in a.l (parts_now a.live a.parts)) a.query.count a.query.start c.requires.1 in
     omega (arith, c.write_items-len.ensures.1, n, c.requires.2)
 
 pub returns : goal.returns

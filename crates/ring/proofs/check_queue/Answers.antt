@@ -1,38 +1,33 @@
 -- Each answer is the test that led to it; the sum of new and in work is formed in 32 bits.
-use Rattle.std.proofs.Common.{◌≡◌, ◌+◌, cond, not, ltb, length, sym, ◌∙◌, arith, le-ltb, lt-ltb, eq-eqb, ne_eqb}
+use Rattle.std.specs.Prelude.{Ok, Err, Some}
+use Rattle.std.proofs.Common.{ℕ, Bool, List, ◌≡◌, ◌+◌, cond, not, ltb, length, sym, ◌∙◌, arith, le-ltb, lt-ltb, eq-eqb, ne_eqb}
+use Rattle.counts.specs.Counts.{address_of_page}
+use Rattle.counts.specs.declared.PageNumber.{PageNumber}
+use Rattle.counts.specs.declared.GuestAddress.{GuestAddress}
+use Rattle.memory.specs.Bytes.{inside_of}
 use Rattle.ring.specs.Layout.{end_at}
 use Rattle.ring.specs.Rules.{base_of, check_of, found_of}
 use Rattle.ring.specs.declared.Cause.{Cause}
-use Rattle.ring.specs.declared.Check.{Check}
 use Rattle.ring.proofs.Laws.{past_the_end}
-use Rattle.ring.proofs.check_queue.Goals.{After-inside, After-new_entries-new}
+use Rattle.ring.proofs.check_queue.Goals.{After-new_entries-new}
 use Rattle.ring.proofs.check_queue.Goals as goal
 
-region-judged : (c : After-inside) → let a = c.args in
-    ltb (length a.m.now) (base_of a.page + end_at a.size) ≡ not c.inside.result
-region-judged c =
-    let a = c.args in
-    past_the_end (length a.m.now) (base_of a.page) (end_at a.size) (omega arith)
-    ∙ rw (c.inside.ensures, c.end_at.ensures, c.address-base.ensures)
-
-region_judged_at_After_new_entries_new : (c : After-new_entries-new) → let a = c.args in
-    ltb (length a.m.now) (base_of a.page + end_at a.size) ≡ not c.inside.result
-region_judged_at_After_new_entries_new c =
-    let a = c.args in
-    past_the_end (length a.m.now) (base_of a.page) (end_at a.size) (omega arith)
-    ∙ rw (c.inside.ensures, c.end_at.ensures, c.address-base.ensures)
+region-judged : (m : List ℕ) (page : PageNumber) (size : ℕ) {base : GuestAddress} {end : ℕ} {r : Bool}
+    → base ≡ address_of_page page → end ≡ end_at size → r ≡ inside_of (length m) base.0 end
+    → ltb (length m) (base_of page + end_at size) ≡ not r
+region-judged m page size b e i = past_the_end (length m) (base_of page) (end_at size) (omega arith) ∙ rw (i, e, b)
 
 entries-judged : (c : After-new_entries-new) → let a = c.args in
     check_of a.m.now a.page a.size a.taken a.in_work
-    ≡ cond (ltb a.size (c.new_entries-new.result + a.in_work)) (Check.Broken Cause.Entries) (Check.New c.new_entries-new.result)
+    ≡ cond (ltb a.size (c.new_entries-new.result + a.in_work)) (Err Cause.Entries) (Ok (Some c.new_entries-new.result))
 unfolding found_of
 entries-judged c =
     rw (
       ne_eqb _ _ (λ h. c.if-number-eq0.false (c.number.ensures ∙ h)),
-      region_judged_at_After_new_entries_new c,
+      region-judged c.args.m.now c.args.page c.args.size c.address-base.ensures c.end_at.ensures c.inside.ensures,
       c.if-not-inside.false,
       c.new_entries-new.ensures,
-      c.get16-index.ensures,
+      c.get-index.ensures,
       c.available_at.ensures,
       c.address-base.ensures,
     )
@@ -46,7 +41,7 @@ unfolding found_of
 returns-then-not-inside c =
     rw (
       ne_eqb _ _ (λ h. c.if-number-eq0.false (c.number.ensures ∙ h)),
-      region-judged (goal.at.returns-then-not-inside c).After-inside,
+      region-judged c.args.m.now c.args.page c.args.size c.address-base.ensures c.end_at.ensures c.inside.ensures,
       c.if-not-inside.true,
     )
 

@@ -6,13 +6,12 @@ pub returns : goal.returns
 unfolding post_of posted_at interrupts
 returns c =
     rw (
-      c.get16-flags.ensures,
+      c.get-flags.ensures,
       c.available_at.ensures,
-      c.put16.ensures,
-      c.put32-2.ensures,
-      c.put32.ensures,
+      c.put-3.ensures,
+      c.put-2.ensures,
+      c.put.ensures,
       c.number.ensures,
-      c.wrapping_add_u16-next.ensures.value,
       c.ring_place.ensures,
       c.used_at-used.ensures,
       c.address-base.ensures,

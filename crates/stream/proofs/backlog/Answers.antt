@@ -16,12 +16,12 @@ returns-then-i-ge-STREAMS c p pw cw f =
     let counted : a.live.config.streams ≡ p.stream_count = ap (λ (k : Config). k.streams) f.board.counts in
     sym (ap word (stream-absent a.live p pw cw f.board a.id (omega (arith, counted, f.board.parts.streams, c.if-i-ge-STREAMS.true))))
 
-pub returns-then-config-id : goal.returns-then-config-id
-returns-then-config-id c p pw cw f =
+pub returns-then-live-id : goal.returns-then-live-id
+returns-then-live-id c p pw cw f =
     let a = c.args in
-    sym (ap word (stream-absent a.live p pw cw f.board a.id c.if-config-id.true))
+    sym (ap word (stream-absent a.live p pw cw f.board a.id c.if-live-id.true))
 
 pub returns : goal.returns
 returns c p pw cw f =
     let a = c.args in
-    sym (ap word (stream-there a.live p pw cw f.board a.id c.if-config-id.false))
+    sym (ap word (stream-there a.live p pw cw f.board a.id c.if-live-id.false))

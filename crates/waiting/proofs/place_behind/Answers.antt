@@ -8,8 +8,8 @@ returns-then-at-size c =
     let a = c.args in
     (sym (inside a.size a.start a.n c.if-at-size.true), c.if-at-size.true)
 
-pub returns : goal.returns
-returns c =
+pub returns-else-at-size : goal.returns-else-at-size
+returns-else-at-size c =
     let a = c.args in
     let p = c.requires in
     let there = around a.size a.start a.n c.if-at-size.false in

@@ -1,8 +1,7 @@
--- The report of what was kept is that of the bytes read, and fits its text whole.
-use Rattle.latency.proofs.Readings.{answered}
+-- The report of what was kept is that of the bytes read.
 use Rattle.latency.proofs.input.answer.Goals as goal
 
 pub returns : goal.returns
 returns g c =
-    let b = c.read_input.ensures in
-    rw c.report.ensures (answered c.read_input.result b.0, b.1)
+    let b = c.read_input.ensures.0 in
+    rw c.report.ensures (record { read = b.read; bytes = b.bytes; same = b.same }, c.read_input.ensures.1)

@@ -1,5 +1,5 @@
-use mathlib.Core.Path.{◌≡◌, ◌∙◌}
-use Prim.Native.Nat.{◌+◌, ◌-◌, ◌%◌, ◌^◌, ◌≤◌}
+use mathlib.Core.Path.{◌≡◌}
+use Prim.Native.Nat.{◌-◌, ◌%◌}
 use lib.ListN.{length}
 use Rattle.std.specs.Io.KnownBytes.{Consumes}
 use Rattle.latency.specs.Reading.{Behind}

@@ -1,13 +1,11 @@
-use Rattle.std.proofs.Common.{◌≡◌, ◌+◌, ◌-◌, ◌*◌, ◌≤◌, length}
+-- What the records left make of the tally so far is what all of them make of the first.
+use Rattle.std.proofs.Common.{◌≡◌, ◌-◌, ◌*◌, ◌/◌, length}
 use mathlib.Core.List.{foldl}
 use Rattle.latency_tally.specs.Records.{records}
 use Rattle.latency_tally.specs.Tally.{with_record}
 use Rattle.latency_tally.proofs.Tally.with_block.Given as goal
 
-abbrev pub invariant-loop-left : goal.invariant-loop-left
-invariant-loop-left l =
-    (l.at + 8 * l.left ≤ length l.block) × (foldl with_record l.next (records l.left l.block l.at)
-    ≡ foldl with_record l.initial.next (records l.initial.left l.block 0))
-
-abbrev pub decreases-loop-left : goal.decreases-loop-left
-decreases-loop-left l = l.left
+abbrev pub invariant-loop-record : goal.invariant-loop-record
+invariant-loop-record l =
+    foldl with_record l.next (records (length l.block / 8 - l.record-index) l.block (8 * l.record-index))
+    ≡ foldl with_record l.fn.self (records (length l.block / 8) l.block 0)

@@ -1,9 +1,0 @@
--- The comparison tells.
-use borrow.Author.Tests.{eq-eqb, ne_eqb}
-use Rattle.commands.proofs.is_periodic.Goals as goal
-
-pub returns-then-p-eq0 : goal.returns-then-p-eq0
-returns-then-p-eq0 c = rw (eq-eqb _ _ c.if-p-eq0.true)
-
-pub returns : goal.returns
-returns c = rw (ne_eqb _ _ c.if-p-eq0.false)

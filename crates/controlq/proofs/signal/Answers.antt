@@ -1,5 +1,0 @@
--- The registers are put into the small state.
-use Rattle.controlq.proofs.signal.Goals as goal
-
-pub returns : goal.returns
-returns c = rw c.signal_if-next.ensures

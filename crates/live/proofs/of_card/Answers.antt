@@ -1,6 +1,0 @@
--- Every field from its own function.
-use Rattle.live.proofs.of_card.Goals as goal
-
-pub returns : goal.returns
-returns c =
-    rw (c.backlogs_of.ensures, c.states_of.ensures, c.config_of.ensures)

@@ -1,0 +1,2 @@
+-- Texts of at most so many bytes.
+pub mod Text
