@@ -1,7 +1,6 @@
 -- Each entry does the rules' step; the call tells what the entry told, and only a play writes to the host buffer.
-use mathlib.Core.Path.{◌≡◌, refl}
+use mathlib.Core.Path.{refl}
 use Rattle.meaning.proofs.Steps.{read-step, write_step}
-use Rattle.calls.specs.Calls.{queue_outcome}
 use Rattle.calls.proofs.call.Goals as goal
 
 pub returns-in-Read : goal.returns-in-Read
@@ -21,30 +20,3 @@ returns-in-Write c =
       c.write-written.ensures.1,
       refl,
     )
-
-pub returns-in-Control : goal.returns-in-Control
-returns-in-Control c =
-    let e = c.control-answered in
-    let o : c.queue_outcome.result ≡ queue_outcome e.result.answer e.result.count e.result.card = c.queue_outcome.ensures in
-    rw (c.in-Control.is, o) (record { says = e.ensures.0 }, e.ensures.1, refl)
-
-pub returns-in-Play : goal.returns-in-Play
-returns-in-Play c =
-    let e = c.play-played in
-    let q = c.queue_outcome-in-Play in
-    let o : q.result ≡ queue_outcome e.result.answer e.result.count e.result.card = q.ensures in
-    rw (c.in-Play.is, o) (record { says = e.ensures.0 }, e.ensures.1, refl)
-
-pub returns-in-Capture : goal.returns-in-Capture
-returns-in-Capture c =
-    let e = c.capture-captured in
-    let q = c.queue_outcome-in-Capture in
-    let o : q.result ≡ queue_outcome e.result.answer e.result.count e.result.card = q.ensures in
-    rw (c.in-Capture.is, o) (record { says = e.ensures.0 }, e.ensures.1, e.ensures.2)
-
-pub returns-in-Event : goal.returns-in-Event
-returns-in-Event c =
-    let e = c.event-sent in
-    let q = c.queue_outcome-in-Event in
-    let o : q.result ≡ queue_outcome e.result.answer e.result.count e.result.card = q.ensures in
-    rw (c.in-Event.is, o) (record { says = e.ensures.0 }, e.ensures.1, refl)

@@ -1,10 +1,6 @@
 -- The small state and the words are lent; the card is put together again.
-use Rattle.calls.proofs.Whole.{capture-own, capture-whole}
+use Rattle.calls.proofs.Whole.{capture-whole}
 use Rattle.calls.proofs.capture.Goals as goal
-
-pub capture-told-requires : goal.capture-told-requires
-capture-told-requires c =
-    rw c.of_card.ensures (capture-own c.args.card c.requires)
 
 pub returns : goal.returns
 returns c =

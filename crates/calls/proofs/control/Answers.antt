@@ -2,10 +2,6 @@
 use Rattle.calls.proofs.Whole.{control-whole}
 use Rattle.calls.proofs.control.Goals as goal
 
-pub control-told-requires : goal.control-told-requires
-control-told-requires c =
-    rw c.of_card.ensures c.requires.fits
-
 pub returns : goal.returns
 returns c =
     let a = c.args in

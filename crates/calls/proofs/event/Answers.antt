@@ -2,10 +2,6 @@
 use Rattle.calls.proofs.Whole.{event-whole}
 use Rattle.calls.proofs.event.Goals as goal
 
-pub event-told-requires : goal.event-told-requires
-event-told-requires c =
-    rw c.of_card.ensures c.requires.fits.board
-
 pub returns : goal.returns
 returns c =
     let a = c.args in

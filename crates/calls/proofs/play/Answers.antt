@@ -1,10 +1,6 @@
 -- The small state and the words are lent; the card is put together again.
-use Rattle.calls.proofs.Whole.{play-own, play-whole}
+use Rattle.calls.proofs.Whole.{play-whole}
 use Rattle.calls.proofs.play.Goals as goal
-
-pub play-told-requires : goal.play-told-requires
-play-told-requires c =
-    rw c.of_card.ensures (play-own c.args.card c.requires)
 
 pub returns : goal.returns
 returns c =

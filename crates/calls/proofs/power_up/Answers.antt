@@ -2,12 +2,6 @@
 use Rattle.calls.proofs.Whole.{powered-whole}
 use Rattle.calls.proofs.power_up.Goals as goal
 
-pub power_up-powered-requires : goal.power_up-powered-requires
-power_up-powered-requires c = tt
-
-pub assembled-requires : goal.assembled-requires
-assembled-requires c = tt
-
 pub returns : goal.returns
 returns c =
     let a = c.assembled in

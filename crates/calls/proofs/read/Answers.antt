@@ -2,15 +2,6 @@
 use Rattle.calls.proofs.Whole.{read_whole}
 use Rattle.calls.proofs.read.Goals as goal
 
-pub of_card-requires : goal.of_card-requires
-of_card-requires c = c.requires.parts
-
-pub read-after-requires : goal.read-after-requires
-read-after-requires c = rw c.of_card.ensures c.requires.fits.board.live
-
-pub joined-requires : goal.joined-requires
-joined-requires c = tt
-
 pub returns : goal.returns
 returns c =
     rw c.joined.ensures

@@ -1,7 +1,6 @@
 -- The bytes moved are the rule's, and host and message move on together.
 use mathlib.Core.Path.{◌≡◌, ◌∙◌, refl, ap}
 use Prim.Native.Nat.{ℕ, ◌-◌, min}
-use native.Mathlib.Omega.{arith}
 use lib.ListN.{length}
 use Rattle.message.specs.Message.{direction_of}
 use Rattle.message.specs.declared.Direction.{Direction}
@@ -23,13 +22,6 @@ fits_after : (c : After-min-n) → let a = c.args in FitFlow (length a.m.now) (l
     (advanced_by c.min-n.result a.f)
 fits_after c =
     moved_fit (direction_of c.args.q.direction) _ _ _ c.args.f c.min-n.result c.requires.0 c.requires.1 (number c)
-
-pub advanced-requires : goal.advanced-requires
-advanced-requires c = let g = fits_after (goal.at.advanced-requires c).After-min-n in (g.message.moved, omega (arith, g.inside))
-
-pub advanced-requires-in-Input : goal.advanced-requires-in-Input
-advanced-requires-in-Input c = let g = fits_after (goal.at.advanced-requires-in-Input c).After-min-n in
-    (g.message.moved, omega (arith, g.inside))
 
 pub returns-in-Output : goal.returns-in-Output
 returns-in-Output c =

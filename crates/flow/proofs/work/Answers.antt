@@ -59,9 +59,6 @@ returns-then-not-is_over c =
       read = g.steps.read;
     }
 
-pub end_message-requires : goal.end_message-requires
-end_message-requires c = (c.move_for-g.ensures.busy, still-fit (goal.at.end_message-requires c).After-move_for-g)
-
 pub returns : goal.returns
 returns c =
     let a = c.args in

@@ -9,9 +9,6 @@ use mathlib.Core.Bool.{false≢true}
 use Rattle.line_chains.proofs.Laws.{arrived-by, in-line, at-once, judged-fit}
 use Rattle.line_chains.proofs.arrive.Goals as goal
 
-pub place_of-requires : goal.place_of-requires
-place_of-requires c = c.in-Ok.ensures.1.request
-
 pub returns-in-Err : goal.returns-in-Err
 returns-in-Err c =
     let a = c.args in (

@@ -3,7 +3,7 @@ use Rattle.line_chains.specs.Queue.{virtqueue_of}
 use Rattle.line_words.specs.Slots.{queue_in}
 use Rattle.queue_lines.specs.Claim.{card}
 use Rattle.queue_lines.specs.Rules as rules
-use Rattle.std.proofs.Common.{◌≡◌, sym, ◌∙◌, arith, rules, refl}
+use Rattle.std.proofs.Common.{◌≡◌, sym, ◌∙◌, rules, refl}
 use Rattle.line_queue.proofs.Laws.{found-by, room-new, ran-idle, ran-broken, ran-new}
 use Rattle.line_queue.proofs.run.Goals.{After-check_queue}
 use Rattle.line_queue.proofs.run.Goals as goal
@@ -24,11 +24,6 @@ take_all-p-requires c =
       room-new (virtqueue_of a.q) a.line a.words.now a.m.now a.host.now a.counters _
           (found-is (goal.at.take_all-p-requires c).After-check_queue ∙ (cc)),
     )
-
-pub work_words-requires : goal.work_words-requires
-work_words-requires c =
-    let t = c.take_all-p.ensures in
-    (rw t.long t.fit, c.requires.1, rw t.moved (omega arith))
 
 pub returns-in-Ok-None : goal.returns-in-Ok-None
 returns-in-Ok-None c =

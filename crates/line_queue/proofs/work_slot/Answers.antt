@@ -21,21 +21,6 @@ front-is c =
 long-still : (c : After-work_line-done) → 79 ≤ length c.work_line-done.new.slot
 long-still c = omega (arith, c.requires.0, c.work_line-done.auto.slot)
 
-pub work_line-done-requires : goal.work_line-done-requires
-work_line-done-requires c =
-    let p = c.requires in
-    rw (front-is (goal.at.work_line-done-requires c).After-front_of-front)
-    (p.0, record { flow = record { message = p.1.message; inside = p.2 }; line = p.1.line })
-
-pub slice_bounds-store-end : goal.slice_bounds-store-end
-slice_bounds-store-end c = long-still (goal.at.slice_bounds-store-end c).After-work_line-done
-
-pub slice_bounds-store_line-end : goal.slice_bounds-store_line-end
-slice_bounds-store_line-end c =
-    let l : length c.store.new.w ≡ 11 = omega arith in
-    rw (marks-long c.work_line-done.new.slot c.store.new.w (long-still (goal.at.slice_bounds-store_line-end c).After-work_line-done) l)
-    (long-still (goal.at.slice_bounds-store_line-end c).After-work_line-done)
-
 pub returns : goal.returns
 returns c =
     let a = c.args in

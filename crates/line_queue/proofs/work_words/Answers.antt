@@ -21,19 +21,6 @@ returns-in_default c =
     gone-line (virtqueue_of a.q) a.line a.job a.words.now a.m.now a.host.now a.p c.requires.0
     c.requires.2 (rw c.in_default.is)
 
-pub overflow_mul-from : goal.overflow_mul-from
-overflow_mul-from c = rw c.slot_words-size.ensures (omega (arith, inside c))
-
-pub overflow_add-to : goal.overflow_add-to
-overflow_add-to c = rw c.slot_words-size.ensures (omega (arith, inside c))
-
-pub offset_bounds-words-from : goal.offset_bounds-words-from
-offset_bounds-words-from c = rw c.slot_words-size.ensures (omega (arith, inside (goal.at.offset_bounds-words-from c).After-slot_words-size))
-
-pub slice_bounds-work_slot-end : goal.slice_bounds-work_slot-end
-slice_bounds-work_slot-end c = rw c.slot_words-size.ensures (omega
-    (arith, inside (goal.at.slice_bounds-work_slot-end c).After-slot_words-size))
-
 pub work_slot-requires : goal.work_slot-requires
 unfolding slot_of
 work_slot-requires c =

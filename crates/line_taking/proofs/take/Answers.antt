@@ -1,8 +1,7 @@
 -- The arrival decides.
-use Rattle.line_chains.specs.Queue.{virtqueue_of, arrival_in, FitArrival}
+use Rattle.line_chains.specs.Queue.{virtqueue_of, arrival_in}
 use Rattle.line_taking.specs.Progress.{run_in}
-use Rattle.message.specs.Message.{taking_in}
-use Rattle.queue_lines.specs.Chains.{Arrival, in_line, at_once, arrival_of}
+use Rattle.queue_lines.specs.Chains.{Arrival, in_line, arrival_of}
 use Rattle.queue_lines.specs.Claim.{card}
 use Rattle.queue_lines.specs.Rules.{taken}
 use Rattle.std.proofs.Common.{◌≡◌, sym, refl, ap, ◌∙◌}
@@ -20,11 +19,6 @@ join-requires c =
     let v = virtqueue_of a.q in
     open-line v _ _ a.words.now c.requires.0 (joins-there v a.m.now a.head.0 _ (joins (goal.at.join-requires c).In-InLine)) c.requires.1
 
-pub bounce-requires : goal.bounce-requires
-bounce-requires c =
-    let fit : FitArrival _ c.arrive.new.list c.arrive.result = c.arrive.ensures.1 in
-    (rw c.in-AtOnce.is at fit, c.requires.0)
-
 pub returns-in-InLine : goal.returns-in-InLine
 returns-in-InLine c =
     let a = c.args in
@@ -38,19 +32,4 @@ returns-in-InLine c =
       fit = j.ensures.fit _ c.requires.0;
       moved = rw c.count_taken.ensures;
       long = refl;
-    }
-
-pub returns-in-AtOnce : goal.returns-in-AtOnce
-returns-in-AtOnce c =
-    let a = c.args in
-    let v = virtqueue_of a.q in
-    let e : at_once (taking_in c.arrive.new.list c.in-AtOnce.chain) ≡ arrival_of v a.m.now a.head.0 =
-    ap (arrival_in c.arrive.new.list) (sym c.in-AtOnce.is) ∙ c.arrive.ensures.0 in
-    let t = c.bounce.ensures in
-    record {
-      run = λ host. t.run host
-          ∙ ap (λ (x : Arrival). taken (card v) v a.head.0 x (run_in v a.words.now a.p a.m.now host)) e;
-      fit = t.fit;
-      moved = t.moved;
-      long = t.long;
     }

@@ -1,5 +1,5 @@
 -- What is left to take, run on the state now, is all of it run on the first state.
-use Rattle.std.proofs.Common.{◌≡◌, ◌+◌, ◌-◌, sym, refl, ap, ◌∙◌, arith}
+use Rattle.std.proofs.Common.{◌+◌, ◌-◌, sym, ap, ◌∙◌, arith}
 use Rattle.line_chains.specs.Queue.{virtqueue_of}
 use Rattle.line_taking.specs.Progress.{run_in}
 use Rattle.line_taking.specs.declared.Progress.{Progress}
@@ -7,15 +7,6 @@ use Rattle.queue_lines.specs.Claim.{card}
 use Rattle.queue_lines.specs.Rules.{taking_run}
 use Rattle.line_taking.proofs.Laws.{taking-none, taking-more, one_more}
 use Rattle.line_taking.proofs.take_all.Goals as goal
-
-pub loop-init : goal.loop-init
-loop-init c =
-    let all : c.args.new - 0 ≡ c.args.new = omega arith in
-    (λ host. rw all, c.requires.0, rw all c.requires.1, refl, refl, refl, refl)
-
-pub take_next-p-requires : goal.take_next-p-requires
-take_next-p-requires c =
-    let l = c.loop in (rw l.invariant.3 l.invariant.1, omega (arith, l.invariant.2), omega (arith, l.invariant.6))
 
 pub loop-preserved : goal.loop-preserved
 loop-preserved c =

@@ -1,5 +1,5 @@
 -- One line after the other.
-use Prim.Native.Nat.{◌-◌, ◌≤◌}
+use Prim.Native.Nat.{◌-◌}
 use mathlib.Core.Path.{◌≡◌, ◌∙◌, refl}
 use native.Mathlib.Omega.{arith}
 use Rattle.line_chains.specs.Queue.{virtqueue_of}
@@ -8,10 +8,6 @@ use Rattle.line_words.proofs.clear.Goals as goal
 
 pub loop-line-init : goal.loop-line-init
 loop-line-init c = (refl, omega arith, none_below _ _)
-
-pub vacate_line-requires : goal.vacate_line-requires
-vacate_line-requires c =
-    (rw c.loop-line.invariant.0 c.requires, omega (arith, c.loop-line-test.true))
 
 pub loop-line-preserved : goal.loop-line-preserved
 loop-line-preserved c =

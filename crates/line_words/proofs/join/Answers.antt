@@ -5,22 +5,9 @@ use Rattle.line_words.specs.Slots.{slot_words, slot_of}
 use Rattle.queue_lines.specs.Chains.{queue_size}
 use lib.ListN.{length}
 use mathlib.Core.Path.{◌≡◌, ◌∙◌}
-use native.Mathlib.Omega.{arith}
 use Rattle.line_words.proofs.Joins.{open-inside, joined_by, between}
 use Rattle.line_words.proofs.Parts.{slot-long}
 use Rattle.line_words.proofs.join.Goals as goal
-
-pub overflow_mul-from : goal.overflow_mul-from
-overflow_mul-from c = let e = open-inside _ _ _ c.requires in rw c.slot_words-size.ensures (omega (arith, e))
-
-pub overflow_add-to : goal.overflow_add-to
-overflow_add-to c = let e = open-inside _ _ _ c.requires in rw c.slot_words-size.ensures (omega (arith, e))
-
-pub offset_bounds-words-from : goal.offset_bounds-words-from
-offset_bounds-words-from c = let e = open-inside _ _ _ c.requires in rw c.slot_words-size.ensures (omega (arith, e))
-
-pub slice_bounds-push-end : goal.slice_bounds-push-end
-slice_bounds-push-end c = let e = open-inside _ _ _ c.requires in rw c.slot_words-size.ensures (omega (arith, e))
 
 pub push-requires : goal.push-requires
 unfolding slot_of

@@ -8,9 +8,6 @@ use Rattle.line_words.proofs.Joins.{pushed-by}
 use Rattle.line_words.proofs.Parts.{with_ring, ring_long, ring-here, ring-chain, ring-marks, marks-here, marks-chain, marks-ring}
 use Rattle.line_words.proofs.push.Goals as goal
 
-pub join-longer-requires : goal.join-longer-requires
-join-longer-requires c = let p = c.requires in rw c.line-line.ensures (p.line, p.room)
-
 pub returns : goal.returns
 returns c =
     let slot = c.args.slot.now in

@@ -20,18 +20,6 @@ inside c =
     let a = c.args in
     omega (arith, slot-room (slot_words (queue_size (virtqueue_of a.q))) a.line a.q.streams c.requires.1, c.requires.0)
 
-pub overflow_mul-from : goal.overflow_mul-from
-overflow_mul-from c = rw c.slot_words-size.ensures (omega (arith, inside c))
-
-pub overflow_add-to : goal.overflow_add-to
-overflow_add-to c = rw c.slot_words-size.ensures (omega (arith, inside c))
-
-pub offset_bounds-words-from : goal.offset_bounds-words-from
-offset_bounds-words-from c = rw c.slot_words-size.ensures (omega (arith, inside c))
-
-pub slice_bounds-vacate-end : goal.slice_bounds-vacate-end
-slice_bounds-vacate-end c = rw c.slot_words-size.ensures (omega (arith, inside c))
-
 pub vacate-requires : goal.vacate-requires
 unfolding slot_of
 vacate-requires c =

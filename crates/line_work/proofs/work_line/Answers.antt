@@ -4,20 +4,15 @@ use Rattle.line_chains.specs.Queue.{virtqueue_of}
 use Rattle.line_work.specs.Work.{job_step}
 use Rattle.queue_lines.proofs.Lists.{times_none, times_more}
 use Rattle.queue_lines.specs.Rules.{times}
-use mathlib.Core.Path.{◌≡◌, ◌∙◌, refl, sym, ap}
+use mathlib.Core.Path.{◌∙◌, sym, ap}
 use native.Mathlib.Omega.{arith}
-use Rattle.line_work.proofs.Laws.{turn_up, turn-none, aside_none, aside-both}
+use Rattle.line_work.proofs.Laws.{turn_up, turn-none, aside-both}
 use Rattle.line_work.specs.declared.Front.{Front}
 use Rattle.line_work.proofs.work_line.Goals as goal
 
 -- a turn for each message in work or in line
 abbrev turns : Front → ℕ
 turns front = front.flow.message.count + front.line.count
-
-pub loop-init : goal.loop-init
-loop-init c =
-    let all : turns c.args.front - 0 ≡ turns c.args.front = omega arith in
-    (λ lines there. rw all, c.requires.1, refl, refl, aside_none _, λ e. refl)
 
 pub returns-then-not-reaches : goal.returns-then-not-reaches
 returns-then-not-reaches c =
@@ -33,17 +28,6 @@ returns-then-not-reaches c =
       aside = l.invariant.4;
       read = l.invariant.5;
     }
-
-pub open_front-at-requires : goal.open_front-at-requires
-open_front-at-requires c =
-    let l = c.loop in
-    (rw l.invariant.4.long c.requires.0, rw l.invariant.2 l.invariant.1.flow.message, l.invariant.1.line)
-
-pub work-at-requires : goal.work-at-requires
-work-at-requires c =
-    let l = c.loop in
-    let e = c.open_front-at.ensures in
-    record { message = rw e.long e.message; inside = rw (e.moved, l.invariant.3) l.invariant.1.flow.inside }
 
 pub loop-preserved : goal.loop-preserved
 loop-preserved c =

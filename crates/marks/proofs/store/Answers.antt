@@ -3,7 +3,7 @@ use mathlib.Core.Path.{◌≡◌, refl}
 use mathlib.Core.List.{List}
 use Prim.Native.Nat.{ℕ, ◌%◌}
 use native.Mathlib.Omega.{arith}
-use lib.ListN.{length, set, length-set}
+use lib.ListN.{length, set}
 use Rattle.marks.specs.Marks.{message_in, line_in}
 use Rattle.marks.proofs.Laws.{of-eleven}
 use Rattle.marks.proofs.store.Goals as goal
@@ -27,24 +27,6 @@ Laid a b d e f g h i j ws =
 laid : (ws : List ℕ) → length ws ≡ 11 → (a b d e f g h i j : ℕ) → Laid a b d e f g h i j ws
 unfolding message_in line_in
 laid ws l a b d e f g h i j = of-eleven (Laid a b d e f g h i j) (λ x0 x1 x2 x3 x4 x5 x6 x7 x8 x9 x10. (refl, refl)) ws l
-
-pub bounds-w-4 : goal.bounds-w-4
-bounds-w-4 c = simp length-set (omega arith)
-
-pub bounds-w-5 : goal.bounds-w-5
-bounds-w-5 c = simp length-set (omega arith)
-
-pub bounds-w-6 : goal.bounds-w-6
-bounds-w-6 c = simp length-set (omega arith)
-
-pub bounds-w-7 : goal.bounds-w-7
-bounds-w-7 c = simp length-set (omega arith)
-
-pub bounds-w-8 : goal.bounds-w-8
-bounds-w-8 c = simp length-set (omega arith)
-
-pub shape_of-w : goal.shape_of-w
-shape_of-w c = simp length-set (omega arith)
 
 pub returns : goal.returns
 returns c =

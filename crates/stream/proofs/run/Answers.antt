@@ -2,9 +2,6 @@
 use Rattle.stream.proofs.Lent.{own-lines, runs_by}
 use Rattle.stream.proofs.run.Goals as goal
 
-pub settle-requires : goal.settle-requires
-settle-requires c = rw c.queue_of-q.ensures c.requires.0.1.room
-
 pub run-requires : goal.run-requires
 run-requires c =
     let a = c.args in (

@@ -6,15 +6,6 @@ use lib.ListN.{length, length-set}
 use Rattle.waiting.proofs.Laws.{heads-join}
 use Rattle.waiting.proofs.Line.join.Goals as goal
 
-pub place_behind-at-requires : goal.place_behind-at-requires
-place_behind-at-requires c = let p = c.requires in (p.0.front, p.0.few)
-
-pub bounds-ring-at : goal.bounds-ring-at
-bounds-ring-at c = c.place_behind-at.ensures.1
-
-pub overflow_add-result : goal.overflow_add-result
-overflow_add-result c = let p = c.requires in omega (arith, p.1, p.0.narrow)
-
 pub returns : goal.returns
 returns c =
     let a = c.args in

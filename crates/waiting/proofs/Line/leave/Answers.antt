@@ -8,12 +8,6 @@ returns-then-self-eq0 c =
     let a = c.args in
     (heads-none _ a.ring.now a.self.start a.self.count c.if-self-eq0.true, c.requires)
 
-pub place_behind-requires : goal.place_behind-requires
-place_behind-requires c = let f = c.requires in (f.front, omega (arith, f.front))
-
-pub overflow_cast-result : goal.overflow_cast-result
-overflow_cast-result c = omega (arith, c.place_behind.ensures.1, c.requires.narrow)
-
 pub returns : goal.returns
 returns c =
     let placed = c.place_behind.ensures in
