@@ -59,10 +59,6 @@ field-at s at then = by (ltb at (length s)) refl where
   by true h = rw (h, drop-cons s at 0 (ltb-true at (length s) h), ← (add-one at)) (number-then s (at + 1) then (eqb (get_or s at 0) 32))
   by false h = rw (drop_of_length-le s (ltb-false at (length s) h), h)
 
-pub field_is : (s : List ℕ) (at : ℕ) (then : ℕ → List ℕ → Option Access)
-    → field (drop at s) then ≡ by_number (field_at s at 10 9999999999) (λ v next. then v (drop next s)) None
-field_is s at then = field-at s at then
-
 pub ended_at : (s : List ℕ) (n : ℕ) (access : Access) → at_end (drop n s) access ≡ cond (ltb n (length s)) None (Some access)
 unfolding at_end
 ended_at s n access = by (ltb n (length s)) refl where
@@ -79,12 +75,12 @@ field_by s at then = by_number (field_at s at 10 9999999999) then None
 
 pub read_form_is : (s : List ℕ) → read_form (drop 1 s) ≡ field_by s 1 (λ off a. field_by s a (λ w b. at_end (drop b s) (Read off w)))
 unfolding read_form
-read_form_is s = simp field_is
+read_form_is s = simp field-at
 
 pub write_form_is : (s : List ℕ) → write_form (drop 1 s)
     ≡ field_by s 1 (λ off a. field_by s a (λ w b. field_by s b (λ v c. at_end (drop c s) (Write off w v))))
 unfolding write_form
-write_form_is s = simp field_is
+write_form_is s = simp field-at
 
 -- ---- the letter
 
