@@ -2,17 +2,19 @@
 // The queues, and with them the work of RELEASE, are the caller's.
 #![tactic(auto)]
 
-ghost use Rattle.std.specs.Prelude.{◌≡◌, replicate};
+ghost use Rattle.std.specs.Prelude.{◌≡◌, leb, replicate};
 ghost use Rattle.card.specs.Fit.{FitParts};
 ghost use Rattle.rules.specs.Parts.{parts_of};
 ghost use Rattle.ranges.specs.Ranges.{Sound, ranges_of, places, bytes_at};
 ghost use Rattle.reply.specs.Reply.{Serves};
+ghost use Rattle.requests.specs.Requests.{checked};
 ghost use Rattle.rules.specs.Control.{decoded_of, layout_of};
 ghost use Rattle.control.specs.Control.{asking_of, changed_by, Reads};
 
 use card::Parts;
 use ranges::Ranges;
 use reply::{Pending, Served};
+use requests::Check;
 use ring::Posted;
 use rules::{Asked, Command, Listing};
 
@@ -73,6 +75,13 @@ fn layout(asked: Asked) -> u32
     }
 }
 
+// A request has the length of its layout.
+fn is_laid_out(asked: Asked, len: u32) -> Check
+    ensures { result ≡ checked (leb (layout_of asked) len) }
+{
+    (layout(asked) <= len).then_some(())
+}
+
 // What a control request asks, or the completion of one that is refused. Its first bytes are put into `bytes`; no
 // layout is longer.
 pub fn read(
@@ -90,7 +99,7 @@ pub fn read(
     let Some(asked) = decode(memory::number::<u32>(bytes, 0)) else {
         return Err(reply::complete(m, list, pending, rules::NOT_SUPP));
     };
-    let true = (layout(asked) <= request.bytes) else {
+    let Some(()) = is_laid_out(asked, request.bytes) else {
         return Err(reply::complete(m, list, pending, rules::BAD_MSG));
     };
     Ok(Asking::from(asked))

@@ -15,6 +15,7 @@ ghost use Rattle.meaning.specs.Fit.{Fits, FitQueue, streams_live};
 ghost use Rattle.ranges.specs.Ranges.{Sound, no_ranges, ranges_of};
 ghost use Rattle.registers.specs.Map.{size_of};
 ghost use Rattle.reply.specs.Reply.{closed_of};
+ghost use Rattle.requests.specs.Requests.{checked};
 ghost use Rattle.ring.specs.Rules.{completion};
 ghost use Rattle.rules.specs.Calls.{ReleaseFirst};
 ghost use Rattle.device.specs.Device.{output, input, queue_number, signalled_if};
@@ -31,6 +32,7 @@ use message::Direction;
 use ranges::Ranges;
 use registers::Answer;
 use reply::{Kind, Pending};
+use requests::Check;
 use ring::{Cause, Posted};
 use stream::Emptied;
 
@@ -77,11 +79,11 @@ fn queue_size() -> u16
 }
 
 // Whether a side of a message can be used: it lies inside RAM and has the four bytes of a header.
-fn judge(len: usize, list: &[u64], ranges: Ranges) -> bool
+fn judge(len: usize, list: &[u64], ranges: Ranges) -> Check
     requires { Sound list.now ranges }
-    ensures { result ≡ side_of len (ranges_of list.now ranges) }
+    ensures { result ≡ checked (side_of len (ranges_of list.now ranges)) }
 {
-    ranges::all_inside(len, list, ranges) && ranges.bytes >= 4
+    (ranges::all_inside(len, list, ranges) && ranges.bytes >= 4).then_some(())
 }
 
 // One message more is taken.
@@ -328,10 +330,10 @@ fn meet(
     let Ok(chain) = chain::walk(m, words, page.address(), size, head, registers.indirect()) else {
         return Err(complete_mute(live, m, head));
     };
-    let true = judge(m.len(), words, chain.reply) else {
+    let Some(()) = judge(m.len(), words, chain.reply) else {
         return Err(complete_mute(live, m, head));
     };
-    let true = judge(m.len(), words, chain.request) else {
+    let Some(()) = judge(m.len(), words, chain.request) else {
         let pending = pending_in(live, head, chain.reply);
         return Err(reply::complete(m, words, pending, rules::BAD_MSG));
     };

@@ -1,6 +1,6 @@
 -- Laws of the steps of reading.
 use mathlib.Core.Path.{◌≡◌, ◌∙◌, refl, sym}
-use mathlib.Core.Bool.{Bool, true, false, true≢false, cond, ◌&&◌}
+use mathlib.Core.Bool.{Bool, true, false, cond}
 use mathlib.Core.List.{List}
 use Prim.Native.Nat.{ℕ, ◌*◌, ◌≤◌, ◌<◌}
 use native.Mathlib.Nat.{mul-le-mul}
@@ -13,7 +13,8 @@ use Rattle.card.specs.declared.Parts.{Parts}
 use Rattle.rules.specs.Parts.{parts_of}
 use Rattle.reply.proofs.Laws.{jack-total, jack-at}
 use Rattle.rules.specs.Control as rules
-use Rattle.device.specs.Numbers.{s_ok, s_bad_msg, s_not_supp}
+use Rattle.device.specs.Numbers.{s_bad_msg, s_not_supp}
+use Rattle.requests.specs.Requests.{checked}
 use Rattle.std.specs.Prelude.{Some, None}
 use Rattle.std.proofs.lemmas.Option.{cond_some}
 
@@ -33,18 +34,13 @@ found-there id count i asked e h =
 pub found-absent : (id count asked : ℕ) → id ≡ asked → None ≡ cond (ltb id count) (Some id) None → ltb asked count ≡ false
 found-absent id count asked e h = rw (← e) (cond-none (ltb id count) id h)
 
--- two checks that refuse alike
-both : (a b : Bool) (p : rules.Parts) (code : ℕ) (go : rules.Served) → (a && b) ≡ true
-    → rules.passing p a code (rules.passing p b code go) ≡ go
-both true true p code go h = refl
-both true false p code go h = absurd (true≢false (sym h))
-both false b p code go h = absurd (true≢false (sym h))
+-- what a step's answer says of its test
+pub check-passed : (b : Bool) → Some tt ≡ checked b → b ≡ true
+check-passed true h = refl
+check-passed false h = cc
 
-both-not : (a b : Bool) (p : rules.Parts) (code : ℕ) (go : rules.Served) → (a && b) ≡ false
-    → rules.passing p a code (rules.passing p b code go) ≡ rules.refusal p code
-both-not true true p code go h = absurd (true≢false h)
-both-not true false p code go h = refl
-both-not false b p code go h = refl
+pub check-failed : (b : Bool) → None ≡ checked b → b ≡ false
+check-failed b h = cond-none b tt h
 
 -- ---- JACK_REMAP, by its checks
 
@@ -60,28 +56,11 @@ module _ (p : Parts) (f : FitParts p) (request : List ℕ) where
     unfolding rules.remap
     remap-refused g = rw (jack-total p f, h, jack-at p (rules.word request 1) (ltb-true _ _ h), g)
 
-    module _ (g : rules.remappable (get_or p.jacks (rules.word request 1) rules.no_jack) ≡ true) where
-      remap-there : rules.remap (parts_of p) request
-          ≡ rules.remap_at (parts_of p) (rules.word request 1) (rules.word request 2) (rules.word request 3)
-      unfolding rules.remap
-      remap-there = rw (jack-total p f, h, jack-at p (rules.word request 1) (ltb-true _ _ h), g)
-
-      pub remap-wide : (rules.four_bits (rules.word request 2) && rules.four_bits (rules.word request 3)) ≡ false
-          → rules.remap (parts_of p) request ≡ rules.refusal (parts_of p) s_bad_msg
-      remap-wide k = remap-there
-          ∙ both-not (rules.four_bits (rules.word request 2)) (rules.four_bits (rules.word request 3)) (parts_of p) s_bad_msg _ k
-
-      pub remap-narrow : (rules.four_bits (rules.word request 2) && rules.four_bits (rules.word request 3)) ≡ true
-          → rules.remap (parts_of p) request ≡ rules.Reply
-          (rules.with_jack (rules.word request 1)
-          (rules.with_defconf
-          (rules.remapped_to (get_or p.jacks (rules.word request 1) rules.no_jack).defconf (rules.word request 2) (rules.word request 3))
-          (get_or p.jacks (rules.word request 1) rules.no_jack)) (parts_of p))
-          (rules.status s_ok)
-      remap-narrow k =
-          remap-there
-          ∙ rw (jack-at p (rules.word request 1) (ltb-true _ _ h))
-          (both (rules.four_bits (rules.word request 2)) (rules.four_bits (rules.word request 3)) (parts_of p) s_bad_msg _ k)
+    pub remap-there : rules.remappable (get_or p.jacks (rules.word request 1) rules.no_jack) ≡ true
+        → rules.remap (parts_of p) request
+        ≡ rules.remap_at (parts_of p) (rules.word request 1) (rules.word request 2) (rules.word request 3)
+    unfolding rules.remap
+    remap-there g = rw (jack-total p f, h, jack-at p (rules.word request 1) (ltb-true _ _ h), g)
 
 -- ---- numbers
 

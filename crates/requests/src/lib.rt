@@ -1,8 +1,8 @@
-// Control requests of jacks and for information (01, "Control messages"), step by step: where a step refuses, the
-// message is completed with the step's status.
+// Control requests of jacks and for information (01, "Control messages"), step by step: each step answers an
+// `Option`, and where it refuses, the message is completed with the step's status.
 #![tactic(auto)]
 
-ghost use Rattle.std.specs.Prelude.{◌≡◌, ◌&&◌, ◌++◌, map, ◌+◌, ◌*◌, ◌≤◌, ◌<◌, cond, leb, ltb, length, take, drop};
+ghost use Rattle.std.specs.Prelude.{◌≡◌, ◌++◌, map, ◌+◌, ◌*◌, ◌≤◌, ◌<◌, cond, leb, ltb, length, take, drop};
 ghost use Rattle.card.specs.Fit.{FitParts};
 ghost use Rattle.rules.specs.Parts.{parts_of};
 ghost use Rattle.information.specs.Items.{items_in};
@@ -10,16 +10,19 @@ ghost use Rattle.live.specs.Live.{parts_now};
 ghost use Rattle.line_calls.specs.Streams.{streams_in, direction_number};
 ghost use Rattle.reply.specs.Reply.{Serves, completion_of};
 ghost use Rattle.ring.specs.Rules.{completion};
-ghost use Rattle.rules.specs.Control.{items_by, inform_by, remap as remap_of, remappable, four_bits, remapped_to, fitted, joined};
+ghost use Rattle.rules.specs.Control.{items_by, inform_by, remap as remap_of, remappable, four_bits, fitted, joined};
 ghost use Rattle.rules.specs.Control.{spaced, roomy, status};
 ghost use Rattle.device.specs.Numbers.{s_ok};
-ghost use Rattle.requests.specs.Requests.{query_in, Replies};
+ghost use Rattle.requests.specs.Requests.{checked, query_in, Replies};
 
 use card::{Jack, Parts};
 use live::Live;
 use reply::{Pending, Served};
 use ring::Posted;
 use rules::Listing;
+
+// Whether a request passes a step of its reading: `Some` where it does.
+pub type Check = Option<()>;
 
 // The number of a jack or a stream of which there are `count`.
 pub fn find(id: u32, count: usize) -> Option<usize>
@@ -30,24 +33,20 @@ pub fn find(id: u32, count: usize) -> Option<usize>
 }
 
 // JACK_REMAP: the jack has the feature.
-fn is_remappable(jack: Jack) -> bool
-    ensures { result ≡ remappable jack }
+fn is_remappable(jack: Jack) -> Check
+    ensures { result ≡ checked (remappable jack) }
 {
-    jack.info.features == 1
+    (jack.info.features == 1).then_some(())
 }
 
-// JACK_REMAP: association and sequence, each at most 15, in bits 7:4 and 3:0 of a configuration default.
-fn remapped(defconf: u32, association: u32, sequence: u32) -> Option<u32>
-    ensures { result
-        ≡ cond (four_bits association && four_bits sequence) (Some (remapped_to defconf association sequence)) None }
+// JACK_REMAP: an association or a sequence is at most 15.
+fn has_four_bits(v: u32) -> Check
+    ensures { result ≡ checked (four_bits v) }
 {
-    if association > 15 || sequence > 15 {
-        return None;
-    }
-    Some(defconf / 256 * 256 + association * 16 + sequence)
+    (v <= 15).then_some(())
 }
 
-// JACK_REMAP.
+// JACK_REMAP: association and sequence replace bits 7:4 and 3:0 of the jack's configuration default.
 pub fn remap(m: &mut [u8], list: &[u64], parts: Parts, pending: Pending, request: &[u8]) -> Served
     requires { FitParts parts }
     ensures { Serves list.now pending parts (remap_of (parts_of parts) request.now)
@@ -57,14 +56,18 @@ pub fn remap(m: &mut [u8], list: &[u64], parts: Parts, pending: Pending, request
         return reply::answer(m, list, parts, pending, rules::BAD_MSG);
     };
     let jack = parts.jacks[i];
-    let true = is_remappable(jack) else {
+    let Some(()) = is_remappable(jack) else {
         return reply::answer(m, list, parts, pending, rules::NOT_SUPP);
     };
     let association = memory::number::<u32>(request, 8);
     let sequence = memory::number::<u32>(request, 12);
-    let Some(defconf) = remapped(jack.defconf, association, sequence) else {
+    let Some(()) = has_four_bits(association) else {
         return reply::answer(m, list, parts, pending, rules::BAD_MSG);
     };
+    let Some(()) = has_four_bits(sequence) else {
+        return reply::answer(m, list, parts, pending, rules::BAD_MSG);
+    };
+    let defconf = jack.defconf / 256 * 256 + association * 16 + sequence;
     reply::answer(
         m,
         list,
@@ -95,24 +98,24 @@ impl Query {
     }
 
     // Items that are asked for have a size.
-    fn is_spaced(self) -> bool
-        ensures { result ≡ spaced self.count self.size }
+    fn is_spaced(self) -> Check
+        ensures { result ≡ checked (spaced self.count self.size) }
     {
-        self.count == 0 || self.size != 0
+        (self.count == 0 || self.size != 0).then_some(())
     }
 
     // The items asked for are among `total`.
-    fn is_listed(self, total: usize) -> bool
-        ensures { result ≡ leb (self.start + self.count) total }
+    fn is_listed(self, total: usize) -> Check
+        ensures { result ≡ checked (leb (self.start + self.count) total) }
     {
-        self.start as usize + self.count as usize <= total
+        (self.start as usize + self.count as usize <= total).then_some(())
     }
 
     // Behind the status they fit `room` bytes.
-    fn is_roomy(self, room: u32) -> bool
-        ensures { result ≡ roomy self.count self.size room }
+    fn is_roomy(self, room: u32) -> Check
+        ensures { result ≡ checked (roomy self.count self.size room) }
     {
-        room >= 4 && self.count as u64 * self.size as u64 <= room as u64 - 4
+        (room >= 4 && self.count as u64 * self.size as u64 <= room as u64 - 4).then_some(())
     }
 }
 
@@ -167,13 +170,13 @@ pub fn inform(
         result m.old m.new }
 {
     let query = Query::of(request);
-    let true = query.is_spaced() else {
+    let Some(()) = query.is_spaced() else {
         return reply::complete(m, list, pending, rules::BAD_MSG);
     };
-    let true = query.is_listed(information::total(live, parts, l)) else {
+    let Some(()) = query.is_listed(information::total(live, parts, l)) else {
         return reply::complete(m, list, pending, rules::BAD_MSG);
     };
-    let true = query.is_roomy(room) else {
+    let Some(()) = query.is_roomy(room) else {
         return reply::complete(m, list, pending, rules::BAD_MSG);
     };
     list_items(m, list, live, parts, pending, l, query)

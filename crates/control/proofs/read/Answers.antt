@@ -2,9 +2,8 @@
 use mathlib.Core.Path.{◌≡◌, ◌∙◌, refl, sym, ap}
 use mathlib.Core.Bool.{true, false}
 use mathlib.Core.List.{List}
-use Prim.Native.Nat.{ℕ, ◌+◌, ◌≤◌, ◌<◌}
+use Prim.Native.Nat.{ℕ, ◌+◌, ◌≤◌}
 use native.Mathlib.Omega.{arith}
-use borrow.Author.Tests.{le-leb, lt-leb}
 use lib.Dec.{leb}
 use lib.ListN.{length, take}
 use lib.Seq.{sets}
@@ -12,6 +11,7 @@ use Rattle.memory.specs.Bytes.{le}
 use Rattle.ranges.specs.Ranges.{ranges_of, places, bytes_at}
 use Rattle.line_calls.specs.Calls.{served}
 use Rattle.rules.specs.Control.{decoded_of, layout_of, word}
+use Rattle.requests.proofs.Laws.{check-passed, check-failed}
 use Rattle.control.proofs.Laws.{words-agree, answers_agree, length-request, reads_as}
 use Rattle.control.proofs.read.Goals.{After-decode}
 use Rattle.control.proofs.read.Goals as goal
@@ -37,15 +37,14 @@ returns-in_default c n p room =
     rw (decoded (goal.at.returns-in_default c).After-decode ∙ c.in_default.is)
     (record { bytes = _; same = refl; completes = c.complete.ensures })
 
-pub returns-in_default-2 : goal.returns-in_default-2
+pub returns-in_default-is_laid_out : goal.returns-in_default-is_laid_out
 unfolding served
-returns-in_default-2 c n p room =
-    let at = (goal.at.returns-in_default-2 c).After-decode in
-    let less : c.args.request.bytes < c.layout.result = omega arith in
+returns-in_default-is_laid_out c n p room =
+    let at = (goal.at.returns-in_default-is_laid_out c).After-decode in
     let short : leb (layout_of c.in-Some.asked) (length (whole at)) ≡ false =
-    rw (length-request c.args.m.now _ c.args.request c.requires.0, ← c.layout.ensures) (lt-leb _ _ less) in
+    rw (length-request c.args.m.now _ c.args.request c.requires.0) (check-failed _ c.in_default-is_laid_out.ensures) in
     rw (decoded at ∙ c.in-Some.is, short)
-    (record { bytes = _; same = refl; completes = c.complete-in_default-2.ensures })
+    (record { bytes = _; same = refl; completes = c.complete-in_default-is_laid_out.ensures })
 
 pub returns : goal.returns
 unfolding served
@@ -54,7 +53,7 @@ returns c =
     let a = c.args in
     let asked = c.in-Some.asked in
     let long : leb (layout_of asked) (length (whole at)) ≡ true =
-    rw (length-request c.args.m.now _ c.args.request c.requires.0, ← c.layout.ensures) (le-leb _ _ c.in-true.is) in
+    rw (length-request c.args.m.now _ c.args.request c.requires.0) (check-passed _ c.in-Some-is_laid_out.ensures) in
     rw c.from.ensures
     (reads_as a.list.now a.pending (whole at) c.gather.new.dst a.m.now asked
     (λ n p room. rw (decoded at ∙ c.in-Some.is, long, answers_agree p _ (whole at) (agree at) n asked room)))

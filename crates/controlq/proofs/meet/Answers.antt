@@ -3,7 +3,7 @@ use Rattle.std.proofs.Common.{◌≡◌, ℕ, List, [], sym, refl, ap, ◌∙◌
 use Rattle.card.specs.declared.Parts.{Parts}
 use Rattle.std.specs.Prelude.{Ok}
 use Rattle.chain.specs.declared.Chain.{Chain}
-use Rattle.chain.specs.Walk.{Outcome, whole, faulted, walk_of, outcome_of}
+use Rattle.chain.specs.Walk.{Outcome, faulted, walk_of, outcome_of}
 use Rattle.live.specs.Live.{parts_now, card_in}
 use Rattle.meaning.specs.Card.{rest_of}
 use Rattle.ranges.specs.Ranges.{no_ranges, ranges_in, ranges_of, places, bytes_at}
@@ -14,6 +14,7 @@ use Rattle.rules.specs.Control.{status}
 use Rattle.rules.specs.Parts.{parts_of}
 use Rattle.device.specs.Device.{page_of}
 use Rattle.device.specs.Numbers.{control_queue, s_bad_msg}
+use Rattle.requests.proofs.Laws.{check-passed, check-failed}
 use Rattle.controlq.specs.Control.{served_on, ordered_on, served_chain, walked_at}
 use Rattle.controlq.proofs.Laws.{page-in, indirect-in, mute, counted-ends, chain-mute, chain-bad, chain-acted}
 use Rattle.controlq.proofs.meet.Goals.{After-walk}
@@ -56,7 +57,7 @@ returns-in_default-judge c p pw cw f =
     rw (
       chain-at (goal.at.returns-in_default-judge c).After-walk g c.in-Ok.is p pw cw,
       chain-mute (card_in a.live p pw cw) a.head (ranges_of ws g.request) (ranges_of ws g.reply) a.m.now
-          (sym c.in_default-judge.ensures),
+          (check-failed _ c.in_default-judge.ensures),
     )
     (counted-ends a.live p pw cw f a.head ws g.reply [] a.m.now _ c.complete_mute-in_default-judge.result
     (c.complete_mute-in_default-judge.ensures ∙ mute a.live a.head ws g.reply a.m.now))
@@ -69,8 +70,8 @@ returns-in_default-judge-2 c p pw cw f =
     rw (
       chain-at (goal.at.returns-in_default-judge-2 c).After-walk g c.in-Ok.is p pw cw,
       chain-bad (card_in a.live p pw cw) a.head (ranges_of ws g.request) (ranges_of ws g.reply) a.m.now
-          (sym c.in-true.ensures)
-          (sym c.in_default-judge-2.ensures),
+          (check-passed _ c.in-Some.ensures)
+          (check-failed _ c.in_default-judge-2.ensures),
     )
     (counted-ends a.live p pw cw f a.head ws g.reply (status s_bad_msg) a.m.now _ c.complete.result
     (rw c.pending_in-pending.ensures at c.complete.ensures))
@@ -87,6 +88,6 @@ returns c =
           ap (λ (o : Order). ordered_on (card_in a.live p pw cw) o a.m.now)
           (chain-at (goal.at.returns c).After-walk g c.in-Ok.is p pw cw
           ∙ chain-acted (card_in a.live p pw cw) a.head (ranges_of ws g.request) (ranges_of ws g.reply) a.m.now
-          (sym c.in-true.ensures) (sym c.in-true-judge.ensures) _
+          (check-passed _ c.in-Some.ensures) (check-passed _ c.in-Some-judge.ensures) _
           (ap (served_on (card_in a.live p pw cw) (parts_of (parts_now a.live p)) request) c.in-Ok.ensures.sound.reply)),
     )

@@ -3,5 +3,5 @@ use native.Mathlib.Omega.{arith}
 use Rattle.requests.proofs.Laws.{product-fits}
 use Rattle.requests.proofs.Query.is_roomy.Goals as goal
 
-pub overflow_mul-result : goal.overflow_mul-result
-overflow_mul-result c = omega (arith, product-fits c.args.self.count c.args.self.size (omega arith) (omega arith))
+pub overflow_mul-self : goal.overflow_mul-self
+overflow_mul-self c = omega (arith, product-fits c.args.self.count c.args.self.size (omega arith) (omega arith))
