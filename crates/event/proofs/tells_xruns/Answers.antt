@@ -12,7 +12,8 @@ use Rattle.rules.specs.Calls.{is_running}
 use Rattle.device.specs.Device.{stream_at}
 use Rattle.event.specs.Event.{rest_in}
 use Rattle.event.proofs.Cards.{streams-there, stream-in}
-use Rattle.event.proofs.tells_xruns.Goals.{Else-live-stream, Joined-states-at-eq-RUNNING, then-states-at-eq-RUNNING, else-states-at-eq-RUNNING}
+use Rattle.event.proofs.tells_xruns.Goals.{Else-live-stream, Joined-states-at-eq-RUNNING}
+use Rattle.event.proofs.tells_xruns.Goals.{then-states-at-eq-RUNNING, else-states-at-eq-RUNNING}
 use Rattle.event.proofs.tells_xruns.Goals as goal
 
 -- a stream has no parameters after a reset
