@@ -21,6 +21,9 @@ pub const PLAY_WORDS: usize = 1340;
 
 pub const CAPTURE_WORDS: usize = 286;
 
+// What a call tells for a queue where it names none.
+pub const NO_QUEUE: u8 = registers::NO_QUEUE;
+
 // The states of a stream.
 pub const FRESH: u8 = 0;
 

@@ -43,9 +43,9 @@ fn tells_xruns(live: Live, parts: Parts, stream: u32) -> bool
         return false;
     }
     let at = stream as usize;
-    live.states[at] == card::RUNNING
-        && !live.fresh
-        && parts.streams[at].params.features / 16 % 2 == 1
+    let states = live.states;
+    let streams = parts.streams;
+    states[at] == card::RUNNING && !live.fresh && streams[at].params.features / 16 % 2 == 1
 }
 
 // Whether the event may be sent.

@@ -70,7 +70,8 @@ pub fn backlog(live: Live, id: u32) -> u32
     if live.config.streams <= id {
         return 0;
     }
-    live.backlogs[i]
+    let backlogs = live.backlogs;
+    backlogs[i]
 }
 
 // The queue of a direction as the guest laid it out, in a call whose statuses carry this latency.

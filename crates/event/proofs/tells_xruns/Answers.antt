@@ -12,7 +12,8 @@ use Rattle.rules.specs.Calls.{is_running}
 use Rattle.device.specs.Device.{stream_at}
 use Rattle.event.specs.Event.{rest_in}
 use Rattle.event.proofs.Cards.{streams-there, stream-in}
-use Rattle.event.proofs.tells_xruns.Goals.{Else-live-stream, Joined-live-at-eq-RUNNING, then-live-at-eq-RUNNING, else-live-at-eq-RUNNING}
+use Rattle.event.proofs.tells_xruns.Goals.{Else-live-stream, Joined-states-at-eq-RUNNING}
+use Rattle.event.proofs.tells_xruns.Goals.{then-states-at-eq-RUNNING, else-states-at-eq-RUNNING}
 use Rattle.event.proofs.tells_xruns.Goals as goal
 
 -- a stream has no parameters after a reset
@@ -35,12 +36,12 @@ told c =
     (kept (eqb (get_or a.live.states a.stream 0) 3) a.live.fresh (get_or a.parts.streams a.stream no_stream).params)
 
 -- both tests of the small state
-tested : (c : Joined-live-at-eq-RUNNING) → let a = c.args in
-    c.if-live-at-eq-RUNNING.value ≡ (eqb (get_or a.live.states a.stream 0) 3 && not a.live.fresh)
-tested c = elim c.if-live-at-eq-RUNNING.branch [
-  | then-live-at-eq-RUNNING w ↦ rw (eq-eqb _ _ w.if-live-at-eq-RUNNING.true) w.value-is
-  | else-live-at-eq-RUNNING w ↦
-      rw (ne_eqb _ _ w.if-live-at-eq-RUNNING.false) (w.value-is ∙ ne_eqb _ _ w.if-live-at-eq-RUNNING.false)
+tested : (c : Joined-states-at-eq-RUNNING) → let a = c.args in
+    c.if-states-at-eq-RUNNING.value ≡ (eqb (get_or a.live.states a.stream 0) 3 && not a.live.fresh)
+tested c = elim c.if-states-at-eq-RUNNING.branch [
+  | then-states-at-eq-RUNNING w ↦ rw (eq-eqb _ _ w.if-states-at-eq-RUNNING.true) w.value-is
+  | else-states-at-eq-RUNNING w ↦
+      rw (ne_eqb _ _ w.if-states-at-eq-RUNNING.false) (w.value-is ∙ ne_eqb _ _ w.if-states-at-eq-RUNNING.false)
 ]
 
 pub returns-then-live-stream : goal.returns-then-live-stream
@@ -49,11 +50,11 @@ returns-then-live-stream c = rw (streams-there c.args.live c.args.parts c.requir
 pub returns-then-not-live : goal.returns-then-not-live
 returns-then-not-live c =
     let at = goal.at.returns-then-not-live c in
-    let t = sym (tested at.Joined-live-at-eq-RUNNING) ∙ c.if-not-live.true in
+    let t = sym (tested at.Joined-states-at-eq-RUNNING) ∙ c.if-not-live.true in
     rw t at (told at.Else-live-stream)
 
 pub returns-else-not-live : goal.returns-else-not-live
 returns-else-not-live c =
     let at = goal.at.returns-else-not-live c in
-    let t = sym (tested at.Joined-live-at-eq-RUNNING) ∙ c.if-not-live.false in
+    let t = sym (tested at.Joined-states-at-eq-RUNNING) ∙ c.if-not-live.false in
     c.if-not-live.false ∙ rw t at (told at.Else-live-stream)
