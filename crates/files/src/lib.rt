@@ -6,6 +6,7 @@ ghost use Rattle.std.specs.Prelude.{◌≡◌, ℕ, ◌^◌, ◌<◌, ◌≤◌,
 ghost use Rattle.std.specs.Io.KnownBytes.{Consumes, IsAtEnd};
 ghost use Rattle.io.specs.Counts.{IsPrefixLen};
 ghost use Rattle.files.specs.declared.Refusal.TheVariants.{Unusable};
+ghost use Rattle.files.specs.Blocks.{HandedOn};
 ghost use Rattle.files.specs.Refusals.{output_of};
 
 use std::env::FillError;
@@ -98,6 +99,7 @@ pub fn pass<R: Read, F: FnMut(&[u8]) -> Result<()>>(
     ensures bytes { IfOk result (λ n. (read : List ℕ) × Consumes (R.remaining file.old) (R.remaining file.new) read
         × (n ≡ length read)) }
     ensures end { OnOk result (IsAtEnd (R.remaining file.new)) }
+    ensures handed { IfOk result (λ n. (last : F) × HandedOn F.FnMut take last (R.remaining file.old) (R.remaining file.new) n) }
 {
     let mut bytes: u64 = 0;
     for _ in 0..u64::MAX {
