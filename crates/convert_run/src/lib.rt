@@ -1,7 +1,7 @@
 // The program `convert FORMAT FROM TO`: the samples of a file, as S16, into another file, a block at a time.
 #![tactic(auto)]
 
-ghost use Rattle.std.specs.Prelude.{◌≡◌, ◌<◌, length, OnOk};
+ghost use Rattle.std.specs.Prelude.{◌≡◌, ◌<◌, length, OnOk, IfOk};
 ghost use Rattle.std.specs.Io.KnownBytes.{Appends};
 ghost use Rattle.samples.specs.Formats.{coding};
 ghost use Rattle.convert_run.specs.Blocks.{MadeBy};
@@ -52,7 +52,8 @@ fn write_samples(
 #[tactic(auto, unfolding(crate::specs::Reports::length_answer))]
 fn judge_length(length: std::io::Result<u64>, bytes: u64) -> Answer
     requires { 0 < bytes }
-    ensures { (report_of result).answer ≡ length_answer length bytes }
+    ensures answer { (report_of result).answer ≡ length_answer length bytes }
+    ensures judged { IfOk result (λ n. length ≡ Ok n) }
 {
     let length = length?;
     if length % bytes != 0 {

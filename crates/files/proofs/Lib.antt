@@ -1,2 +1,3 @@
--- Laws of refusals.
+-- Laws of blocks and of refusals.
+pub mod Blocks
 pub mod Refusals

@@ -2,10 +2,11 @@
 // whole, the arguments, and why nothing was done.
 #![tactic(auto)]
 
-ghost use Rattle.std.specs.Prelude.{◌≡◌, ℕ, ◌^◌, ◌<◌, ◌≤◌, List, [], length, OnOk, IfOk};
+ghost use Rattle.std.specs.Prelude.{◌≡◌, ℕ, ◌^◌, ◌<◌, ◌≤◌, List, [], length, take, OnOk, IfOk};
 ghost use Rattle.std.specs.Io.KnownBytes.{Consumes, IsAtEnd};
 ghost use Rattle.io.specs.Counts.{IsPrefixLen};
 ghost use Rattle.files.specs.declared.Refusal.TheVariants.{Unusable};
+ghost use Rattle.files.specs.Blocks.{HandedOn};
 ghost use Rattle.files.specs.Refusals.{output_of};
 
 use std::env::FillError;
@@ -47,6 +48,13 @@ impl<E: fmt::Display> fmt::Display for Refusal<E> {
     }
 }
 
+// Bytes at the start of a buffer, and whether all went well.
+#[derive(Clone, Copy)]
+pub struct Block {
+    pub count: usize,
+    pub sound: Result<()>,
+}
+
 // The file that is written: TO itself where it is a device or a pipe, else one beside it, by its name.
 #[derive(Drop)]
 struct Sink<'a> {
@@ -66,6 +74,21 @@ fn at_end<R: Read>(file: &mut R) -> Result<()>
     }
 }
 
+// The next block of a file. A short one is the last, unless reading failed.
+pub fn read_block<R: Read>(file: &mut R, block: &mut [u8]) -> Block
+    ensures count_in_bounds { result.count ≤ length block.new }
+    ensures bytes { OnOk result.sound (Consumes (R.remaining file.old) (R.remaining file.new) (take result.count block.new)) }
+    ensures last { OnOk result.sound (result.count < length block.new → IsAtEnd (R.remaining file.new)) }
+{
+    let count = streams::read_full(file, block);
+    let sound = if count < block.len() {
+        at_end(file)
+    } else {
+        Ok(())
+    };
+    Block { count, sound }
+}
+
 // Reads a file to its end and hands it to `take`, block by block, the last one too; answers how many bytes it had.
 pub fn pass<R: Read, F: FnMut(&[u8]) -> Result<()>>(
     file: &mut R,
@@ -76,16 +99,17 @@ pub fn pass<R: Read, F: FnMut(&[u8]) -> Result<()>>(
     ensures bytes { IfOk result (λ n. (read : List ℕ) × Consumes (R.remaining file.old) (R.remaining file.new) read
         × (n ≡ length read)) }
     ensures end { OnOk result (IsAtEnd (R.remaining file.new)) }
+    ensures handed { IfOk result (λ n. (last : F) × HandedOn F.FnMut take last (R.remaining file.old) (R.remaining file.new) n) }
 {
     let mut bytes: u64 = 0;
     for _ in 0..u64::MAX {
-        let count = streams::read_full(file, block);
-        take(&block[..count])?;
+        let read = read_block(file, block);
+        take(&block[..read.count])?;
+        read.sound?;
         bytes = bytes
-            .checked_add(count as u64)
+            .checked_add(read.count as u64)
             .ok_or(ErrorKind::FileTooLarge)?;
-        if count < block.len() {
-            at_end(file)?;
+        if read.count < block.len() {
             return Ok(bytes);
         }
     }

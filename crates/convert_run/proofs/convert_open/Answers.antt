@@ -7,4 +7,4 @@ use Rattle.convert_run.proofs.convert_open.Goals as goal
 pub returns-in_err-length : goal.returns-in_err-length
 returns-in_err-length c = λ h.
     let p = err_from_is_err_and c.from_residual.result c.from_residual.ensures.1 in
-    length-answers _ _ (sym c.in_err-length.ensures ∙ rw (p.1, p.2) at h)
+    length-answers _ _ (sym c.in_err-length.ensures.answer ∙ rw (p.1, p.2) at h)
