@@ -82,11 +82,11 @@ fn read_input<R: Read>(from: &mut R) -> Input
     last.input
 }
 
-// A text, written out.
-pub fn print<W: Write>(to: &mut W, text: Report) -> Result<()>
-    ensures { OnOk result (Appends (W.contents to.old) (W.contents to.new) text) }
+// A text of any length, written out.
+pub fn print<W: Write>(to: &mut W, text: &[u8]) -> Result<()>
+    ensures { OnOk result (Appends (W.contents to.old) (W.contents to.new) text.now) }
 {
-    to.write_all(text.as_slice())
+    to.write_all(text)
 }
 
 // The report of what is read.

@@ -8,7 +8,6 @@ mod input;
 
 pub use input::{print, run};
 use latency_tally::{Input, Tally};
-use text::Text;
 
 // The bytes of a mask, and of an input of 1,000,000 records.
 const MASK: u64 = 8;
@@ -22,8 +21,11 @@ const TOO_MANY: u64 = 51;
 
 const CUT: u64 = 52;
 
+// The text that a report is put together in.
+pub type Text = text::Text<256>;
+
 // No report is longer than 231 bytes.
-pub type Report = Text<256>;
+pub type Report = Text;
 
 // Three numbers, a space behind each.
 #[tactic(auto, unfolding(crate::specs::Report::three_text))]
@@ -89,7 +91,8 @@ fn push_latencies(text: &mut Report, tally: Tally)
 #[tactic(auto, unfolding(crate::specs::Report::mask_text))]
 fn push_mask(text: &mut Report, mask: u64)
     requires { length text.old + 42 ≤ 256 }
-    ensures { text.new ≡ text.old ++ mask_text mask }
+    ensures value { text.new ≡ text.old ++ mask_text mask }
+    ensures longer { length text.new ≤ length text.old + 42 }
 {
     if mask == 0 {
         text.push_bytes(b"- 0\n");
@@ -102,7 +105,8 @@ fn push_mask(text: &mut Report, mask: u64)
 // Both lines.
 #[tactic(auto, unfolding(crate::specs::Report::lines_text))]
 fn lines(records: u64, tally: Tally, mask: u64) -> Report
-    ensures { result ≡ lines_text records tally mask }
+    ensures value { result ≡ lines_text records tally mask }
+    ensures most { length result ≤ 231 }
 {
     let mut text = Report::new();
     push_counts(&mut text, records, tally);
@@ -114,7 +118,8 @@ fn lines(records: u64, tally: Tally, mask: u64) -> Report
 // One line with the number.
 #[tactic(auto, unfolding(crate::specs::Report::refusal_text))]
 fn refusal(number: u64) -> Report
-    ensures { result ≡ refusal_text number }
+    ensures value { result ≡ refusal_text number }
+    ensures most { length result ≤ 231 }
 {
     let mut text = Report::new();
     text.push_number(number, b'\n');
@@ -124,7 +129,8 @@ fn refusal(number: u64) -> Report
 // The report of an input.
 #[tactic(auto, unfolding(crate::specs::Report::input_text, crate::specs::Report::judged))]
 pub fn report(input: Input) -> Report
-    ensures { result ≡ input_text input }
+    ensures value { result ≡ input_text input }
+    ensures most { length result ≤ 231 }
 {
     let bytes = input.bytes;
     if bytes < MASK {

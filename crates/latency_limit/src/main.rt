@@ -41,7 +41,7 @@ fn with_blocks(mut input: Input, block: &[u8]) -> Input {
 }
 
 fn show<W: Write>(to: &mut W, input: Input) {
-    let _printed = latency::print(to, latency::report(input));
+    let _printed = latency::print(to, latency::report(input).as_slice());
 }
 
 fn main(rt: HostRuntime) {

@@ -17,7 +17,7 @@ use replay_line::Call;
 use replay_text::LineText;
 
 // What a call prints, and the card after it.
-#[derive(Drop)]
+#[derive(Clone, Copy)]
 pub struct Shown {
     pub text: LineText,
     pub card: Card,

@@ -7,10 +7,11 @@ ghost use Rattle.replay_text.specs.Text.{answer_bytes, start_bytes, queue_bytes,
 ghost use Rattle.replay_text.specs.Adler.{step, adler};
 ghost use Rattle.replay_text.specs.Hex.{glyph_of, behind_of, hex_bytes, hex_word};
 
-use text::Text;
+// The text that a line is put together in. The longest has seven numbers of at most 20 digits, and a byte behind each.
+pub type Text = text::Text<147>;
 
-// A line that is written. The longest has seven numbers of at most 20 digits, and a byte behind each.
-pub type LineText = Text<147>;
+// A line that is written.
+pub type LineText = Text;
 
 // The two sums of a checksum.
 #[derive(Clone, Copy)]

@@ -7,19 +7,29 @@ ghost use Rattle.text.specs.Text.{with_byte};
 
 use std::marker::Model;
 
-// The first `count` bytes.
-#[derive(Drop)]
+// The first `count` bytes; those behind them are 0.
+#[derive(Clone, Copy)]
 pub struct Text<const N: usize> {
     bytes: [u8; N],
     count: usize,
 }
 
 impl<const N: usize> Model for Text<N> {
+    ghost use Rattle.std.specs.Prelude.{List, ℕ, length, take};
+    ghost use Rattle.text.specs.Text.{IsPadded, padded, padded-length, padded-taken};
+
     ghost Value = { List ℕ };
 
     ghost view = { λ t. take t.count t.bytes };
 
-    ghost invariant = { λ t. t.count ≤ N };
+    ghost invariant = { λ t. IsPadded N t.bytes t.count };
+
+    ghost inverse = { λ s. record { bytes = padded N s; count = length s } };
+
+    ghost inverse_ok = { λ t h i. record {
+      bytes = padded-taken N t.bytes t.count h i;
+      count = padded-length N t.bytes t.count h i;
+    } };
 }
 
 impl<const N: usize> Text<N> {
