@@ -106,7 +106,8 @@ pub fn all_inside(len: usize, list: &[u64], r: Ranges) -> bool
     true
 }
 
-// `n` bytes of `src` at `from`, copied to `dst` at `at`.
+// `n` bytes of `src` at `from`, copied to `dst` at `at`. Place by place: `copy_from_slice` would ask a monitor in C for memmove, and takes
+// longer where that is slow.
 pub fn copy(dst: &mut [u8], at: usize, src: &[u8], from: usize, n: usize)
     requires { (at + n ≤ length dst.old) × (from + n ≤ length src.now) }
     ensures { dst.new ≡ sets dst.old at (bytes_at src.now (up_from from n)) }
