@@ -54,7 +54,8 @@ fn answer(line: u64, answer: u8, out: &mut [u8]) -> usize
     requires { 131096 ≤ length out.old }
     ensures { Put (answer_bytes line answer) out.old 0 out.new result × (result ≤ 147) }
 {
-    replay_text::lay(replay_text::answer_text(line, answer), out)
+    let text = replay_text::answer_text(line, answer);
+    replay_text::lay(text.as_slice(), out)
 }
 
 impl State {
@@ -101,7 +102,7 @@ impl State {
         let lent = replay_memory::within(self.len, ram);
         let shown = replay_call::call(self.card, self.line, call, s, &mut ram[..lent]);
         self.card = shown.card;
-        replay_text::lay(shown.text, out)
+        replay_text::lay(shown.text.as_slice(), out)
     }
 
     // One line of the script, whose text goes to the start of `out`. The place behind it.

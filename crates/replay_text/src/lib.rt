@@ -99,12 +99,12 @@ pub fn register_text(line: u64, answer: u8, value: u32, rung: u8, irq: u8) -> Li
     text
 }
 
-// A text's bytes, written to the start of `out`. The place behind them.
-pub fn lay(text: LineText, out: &mut [u8]) -> usize
-    requires { 147 ≤ length out.old }
-    ensures { Put text out.old 0 out.new result × (result ≤ 147) }
+// The bytes of a text of any length, written to the start of `out`. The place behind them.
+pub fn lay(text: &[u8], out: &mut [u8]) -> usize
+    requires { length text.now ≤ length out.old }
+    ensures { Put text.now out.old 0 out.new result }
 {
-    decimal::put_bytes(out, 0, text.as_slice())
+    decimal::put_bytes(out, 0, text)
 }
 
 // The sums with one byte more.

@@ -24,7 +24,7 @@ returns c =
     record {
       world = made-world a.self.now a.call a.s.now a.ram.now _ some length _ _ q.leaves;
       text =
-          put_as (q.text ∙ made-text a.self.now a.call a.s.now a.ram.now _ some length) c.lay.ensures.0;
-      room = omega (arith, c.lay.ensures.1, c.lay.auto.out, c.requires.1);
+          put_as (c.as_slice.ensures.value ∙ q.text ∙ made-text a.self.now a.call a.s.now a.ram.now _ some length) c.lay.ensures;
+      room = omega (arith, c.lay.ensures.behind, c.as_slice.ensures.most, c.lay.auto.out, c.requires.1);
       fit = q.fit;
     }
