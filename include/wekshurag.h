@@ -16,7 +16,7 @@
  *     Nobody else, no other thread and no device, writes it during the call.
  *   - The card is one that wekshurag_power_up made, left by the calls since, or a copy of one. Calls on one card do not run at the
  *     same time.
- *   - 64 KiB of stack. Measured: wekshurag_control takes 16,896 bytes, power_up 4,200, event 1,672, play and capture 1,600, write 186,
+ *   - 64 KiB of stack. Measured: wekshurag_control takes 16,768 bytes, power_up 4,328, event 1,712, play and capture 1,536, write 186,
  *     the others under 100 (c/stack_test.c). Nothing recurses; but this is measured, not proved.
  * Nothing else is asked: every number and every byte is safe.
  */
